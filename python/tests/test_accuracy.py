@@ -112,7 +112,7 @@ def test_points_in_one_cell_count_and_points_elsewhere_do_not() -> None:
 def test_points_that_are_no_random_sample_have_a_warning() -> None:
     land = rcell.Raster(masked([[1] * 9 + [2]]), METRES, crs="EPSG:4326")
     common, rare = (1005, 4995, 1), (1005 + 9 * METRES[0], 4995, 2)
-    told = 'the map\'s classes have different shares .* drawn class by class, give areas="map"'
+    told = 'shares of the map\'s classes differ .* drawn class by class, use areas="map"'
     with pytest.warns(UserWarning, match=told):
         rcell.accuracy(land, points([common] * 80 + [rare] * 80))
     with warnings.catch_warnings():
@@ -123,9 +123,9 @@ def test_points_that_are_no_random_sample_have_a_warning() -> None:
 
 
 def test_a_class_with_an_area_needs_a_cell_and_the_reverse() -> None:
-    with pytest.raises(rcell.Refused, match="class 3 of the map, which has an area"):
+    with pytest.raises(rcell.Refused, match="must have sample cells; got none for 3"):
         rcell.accuracy(None, table_of([[5, 0], [1, 4]]), {1: 10, 2: 10, 3: 1})
-    with pytest.raises(rcell.BadArgument, match="got none for 2"):
+    with pytest.raises(rcell.BadArgument, match="got no area for 2"):
         rcell.accuracy(None, table_of([[5, 0], [1, 4]]), {1: 10})
     with pytest.raises(rcell.BadArgument, match="got -1 for 1"):
         rcell.accuracy(None, table_of([[5]]), {1: -1})
@@ -141,7 +141,7 @@ def test_one_class_has_no_kappa() -> None:
 @pytest.mark.parametrize(
     ("row", "told"),
     [
-        ((1, 1.5, 2), "row 1: 1.5 is not a class"),
+        ((1, 1.5, 2), "row 1: 1.5 is not a valid class"),
         ((1, 1, -2), "row 1: the number of cells must not be negative; got -2"),
     ],
 )

@@ -65,7 +65,7 @@ def test_units_of_area() -> None:
         (10 * 1200 / 3937) ** 2
     )
     for crs in ("EPSG:4326", rasterio.CRS.from_epsg(4326), rasterio.CRS.from_epsg(4326).to_wkt()):
-        with pytest.raises(rcell.BadArgument, match="in degrees the area of a cell differs"):
+        with pytest.raises(rcell.BadArgument, match="area requires a map in metres or feet"):
             rcell.table("r.stats -c input=lc", lc=rcell.Raster(LAND, crs=crs), area="ha")
 
 

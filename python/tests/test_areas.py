@@ -98,7 +98,7 @@ def test_an_area_that_is_asked_for_needs_a_reference_system(unit: str) -> None:
     ]
     for call in calls:
         with pytest.raises(
-            rcell.BadArgument, match=rf'area "{unit}" needs .* crs="EPSG:'
+            rcell.BadArgument, match=rf'area "{unit}" requires .* crs="EPSG:'
         ) as caught:
             call()
         assert isinstance(caught.value, ValueError)
@@ -132,7 +132,7 @@ def test_systems_without_a_unit_of_the_plane_have_no_areas(wkt: str) -> None:
 def test_lengths_in_degrees_are_not_a_number_with_one_warning() -> None:
     land = rcell.Raster(LAND, DEGREES, crs="EPSG:4326")
     for call, column in ((rcell.patches, "perimeter_m"), (rcell.adjacency, "border_m")):
-        with pytest.warns(UserWarning, match="lengths are not computed in degrees") as caught:
+        with pytest.warns(UserWarning, match="lengths are not computed for maps in degrees") as caught:
             found = call(land)
         assert len(caught) == 1
         assert caught[0].filename == __file__
@@ -152,7 +152,7 @@ def test_an_undeclared_nodata_value_is_named_once(raster: Write, dtype: str, val
     told = [str(warning.message) for warning in caught]
     assert len(told) == 1
     assert told[0].startswith(
-        f"map: 18 of the 20 cells along its border are {value}, and no nodata value is declared"
+        f"map: 18 of the 20 cells along its border are {value}, which is not declared as nodata"
     )
     assert f"-a_nodata {value}" in told[0]
     with warnings.catch_warnings():

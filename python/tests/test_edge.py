@@ -433,7 +433,7 @@ def test_a_reference_system_that_is_not_understood_is_refused(
     assert rcell.composition(compound, area="km2")["area_km2"][0] == pytest.approx(
         8056.245, abs=0.001
     )
-    with pytest.raises(rcell.BadArgument, match="in degrees the area of a cell differs"):
+    with pytest.raises(rcell.BadArgument, match="area requires a map in metres or feet"):
         rcell.table(SCRIPT, m=compound, area="ha")
     modules: dict[str, Any] = sys.modules
     for name in ("pyproj", "osr"):
@@ -493,7 +493,7 @@ def test_cells_centred_on_the_poles_have_the_area_of_the_ellipsoid() -> None:
     area = rcell.composition(globe, area="km2")["area_km2"][0]
     assert area == pytest.approx(510_065_621.724, rel=1e-11)
     beyond = rcell.Raster(ones, (0.25, 0, -180.125, 0, -0.25, 90.25), "EPSG:4326")
-    with pytest.raises(rcell.Refused, match="rows beyond the pole: north is 90.25"):
+    with pytest.raises(rcell.Refused, match="the map extends beyond the pole: north is 90.25"):
         rcell.composition(beyond)
 
 

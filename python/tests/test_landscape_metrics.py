@@ -96,7 +96,7 @@ def test_lengths_are_missing_in_degrees_with_one_warning() -> None:
     land = placed(MAPS["no null"], (0.01, 0, 10, 0, -0.01, 60), "EPSG:4326")
     with pytest.warns(UserWarning) as told:
         found = rcell.metrics(land)
-    assert [str(it.message) for it in told] == ["lengths are not computed in degrees"]
+    assert [str(it.message) for it in told] == ["lengths are not computed for maps in degrees"]
     areas = rcell.composition(land)
     assert found["area_ha"].tolist() == pytest.approx(areas["area_ha"].tolist())
     lengths = ["edge_m", "edge_density_m_ha", "mean_shape_index", "interspersion_index"]

@@ -362,7 +362,7 @@ def test_answers_in_degrees_weigh_their_rows() -> None:
         rcell.composition(a, area="km2")["area_km2"].tolist()
     )
     assert changed.matrix.to_numpy().sum() == pytest.approx(area.sum())
-    with pytest.warns(UserWarning, match="lengths are not computed in degrees"):
+    with pytest.warns(UserWarning, match="lengths are not computed for maps in degrees"):
         found = rcell.patches(a, area="km2")
     numbers = rcell.grid("r.clump input=a output=k", "k", a=a).array.filled(0)
     assert found["perimeter_m"].isna().all()
@@ -377,7 +377,7 @@ def test_rows_beyond_a_pole() -> None:
     assert rcell.composition(half, area="m2")["area_m2"][0] == pytest.approx(
         surface(6378137.0, 1 / 298.257223563), rel=1e-12
     )
-    with pytest.raises(rcell.Refused, match="rows beyond the pole: north is 120"):
+    with pytest.raises(rcell.Refused, match="the map extends beyond the pole: north is 120"):
         rcell.composition(
             rcell.Raster(np.ones((19, 36), int), (10, 0, -180, 0, -10, 120), "EPSG:4326")
         )

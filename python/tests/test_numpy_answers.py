@@ -446,7 +446,7 @@ class Refusals(unittest.TestCase):
         degrees = [
             (
                 ("r.stats -c input=lc", {"area": "ha"}),
-                "area needs a map in metres or feet: in degrees",
+                "area requires a map in metres or feet, but",
             )
         ] * has("rasterio")
         for words, told in (

@@ -192,7 +192,7 @@ def test_a_record_of_another_call_fails_with_a_line(folder: pathlib.Path) -> Non
         [differs] = rcell.verify(path)
         assert differs.startswith("the call fails: ")
     beside.write_text(json.dumps({**told, "call": {**told["call"], "name": "frame_of"}}))
-    with pytest.raises(rcell.Refused, match="there is no call frame_of"):
+    with pytest.raises(rcell.Refused, match="frame_of is not a call that returns a table"):
         rcell.verify(path)
 
 

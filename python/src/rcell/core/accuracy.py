@@ -1,5 +1,5 @@
 # SPDX-License-Identifier: Apache-2.0 OR GPL-2.0-or-later
-"""Estimate a map's accuracy, and correct its class areas, using a reference sample."""
+"""Estimate a map's accuracy and correct its class areas with a reference sample."""
 
 from __future__ import annotations
 
@@ -41,16 +41,16 @@ class Accuracy(NamedTuple):
     Parameters
     ----------
     matrix : pandas.DataFrame
-        The number of sample cells, with a row for each class of the map and a column for each class
-        of the reference.
+        The confusion matrix: the number of sample cells, with a row for each map class and a column
+        for each reference class.
     classes : pandas.DataFrame
         Each class's accuracies and area, with standard errors.
     overall, overall_se : float
-        The share of the area that is mapped correctly, and the standard error of this share.
+        The share of the area that is mapped correctly, and its standard error.
     kappa : float
         Cohen's kappa, computed from the estimated shares, or NaN if there is only one class.
     quantity, allocation : float
-        Quantity disagreement and allocation disagreement. The sum of both and `overall` is 1.
+        Quantity disagreement and allocation disagreement. Together with `overall`, they sum to 1.
     cells : int
         The number of cells in the sample.
 
@@ -83,29 +83,28 @@ def accuracy(
     labels: Any = None,
     crs: Any = None,
 ) -> Accuracy:
-    """Compare a map with a reference, and estimate each class's accuracy and area.
+    """Compare a map with a reference sample and estimate each class's accuracy and area.
 
     Parameters
     ----------
     map : path, array, or any map that `run` accepts, or None
-        The map to assess. It may be None if the reference is a table.
+        The map to assess. May be None if the reference is a table.
     reference : map, points or table
         The reference sample: a map, whose null cells are ignored; points, given as a path, a
         GeoDataFrame or GeoJSON; or a table, given as a CSV file or a DataFrame with the columns
         `map`, `reference` and optionally `cells`.
     areas : "map", dict, Series, DataFrame or path, optional
-        The areas of the map's classes, required if the sample was drawn class by class. "map"
-        computes the areas from the map. Otherwise, provide each class's area in a dict, a Series,
-        or a CSV file or DataFrame with the columns `value` and `area`. Without areas, the sample is
-        treated as a simple random sample, and a warning is issued if the points do not look like a
-        random sample.
+        The areas of the map's classes, required if the sample was drawn class by class. Use "map"
+        to compute the areas from the map, or list them by class in a dict, a Series, or a CSV file
+        or DataFrame with the columns `value` and `area`. Without areas, the sample is treated as a
+        simple random sample, and a warning is issued if points do not look like a random sample.
     area : {"ha", "km2", "m2"} or None
         The unit of areas, as in `composition`. The default is hectares if `areas` lists areas by
         class.
     field : str, optional
         The field that contains each point's class. By default, `class` or `reference`.
     layer : str, optional
-        The layer to read, if the file of points has several layers.
+        The layer to read if the point file has several layers.
     labels : path, dict, Series or DataFrame, optional
         A legend, as in `composition`.
     crs : any, optional
@@ -125,10 +124,10 @@ def accuracy(
     Raises
     ------
     Refused
-        The sample is empty, a class with an area has no sample cells, or the class of a point is
-        not a whole number.
+        The sample is empty, a class with an area has no sample cells, or a point's class is not a
+        whole number.
     BadArgument
-        `areas` does not contain the area of a class in the sample.
+        `areas` does not include the area of a class in the sample.
 
     Examples
     --------
@@ -142,7 +141,7 @@ def accuracy(
     """
     pairs, maps = _pairs_of(map, reference, field, layer, crs, areas is None)
     if not pairs[:, 2].sum():
-        problem = "the sample is empty: no cell has a class in the map and in the reference"
+        problem = "the sample is empty: no cell has a class in both the map and the reference"
         raise Refused(problem, "reference")
     sizes, unit = _sizes_of(areas, area, maps, crs)
     with_area = [code for code, size in (sizes or {}).items() if size > 0]
@@ -166,7 +165,7 @@ def accuracy(
 
 
 def summary_of(result: Accuracy) -> Table:
-    """Return overall accuracy, kappa, both disagreements and the sample size as a one-row table."""
+    """Return the overall measures and the number of sample cells as a one-row table."""
     names = result._fields[2:]
     parts = ((name, np.array([value])) for name, value in zip(names, result[2:]))
     return Table(
@@ -184,8 +183,8 @@ class _Estimate:
     """Estimated area shares by map class (rows) and reference class (columns).
 
     The sample is stratified by the map's classes. Equations are numbered as in Olofsson et al.
-    2014, Remote Sensing of Environment 148. The variance is NaN for a stratum with one cell, and is
-    not needed for a stratum without area.
+    2014, Remote Sensing of Environment 148. The variance of a stratum is NaN if the stratum has one
+    cell, and is ignored if the stratum has no area.
 
     Parameters
     ----------
@@ -225,14 +224,14 @@ class _Estimate:
         ]
 
     def summary(self) -> tuple[float, float, float, float, float]:
-        """Return overall accuracy and its standard error, kappa, and both disagreements."""
+        """Return the overall accuracy, its standard error, kappa, and the two disagreements."""
         overall = float(np.trace(self._joint))  # equation 1
         overall_se = math.sqrt(np.trace(self._squares))  # equation 5
         marginal = self._joint.sum(axis=1)
         chance = float(marginal @ self.shares)
         kappa = (overall - chance) / (1 - chance) if len(marginal) > 1 and chance < 1 else math.nan
-        # Pontius and Millones 2011, International Journal of Remote Sensing 32. Sums of the
-        # disagreements, which are exactly 0 for a perfect map.
+        # Pontius and Millones 2011, International Journal of Remote Sensing 32. Only wrong cells
+        # are summed, so that both results are exactly 0 for a perfect map.
         wrong = self._joint * (1 - np.eye(len(marginal)))
         too_much, missed = wrong.sum(axis=1), wrong.sum(axis=0)
         quantity = float(np.abs(too_much - missed).sum() / 2)
@@ -250,13 +249,13 @@ def _check_strata(classes: Integers, mapped: Floats, rows: Integers) -> None:
     lacking = classes[(mapped > 0) & (rows == 0)].tolist()
     if lacking:
         problem = (
-            f"no cell of the sample is in the class {first_of(lacking)} of the map, which has an "
-            "area"
+            "each map class with an area must have sample cells; got none for "
+            f"{first_of(lacking)}"
         )
         raise Refused(f"{problem}: add cells, or merge the class with another one", "reference")
     extra = classes[(mapped == 0) & (rows > 0)].tolist()
     if extra:
-        problem = f"must have an area for each class of the sample; got none for {first_of(extra)}"
+        problem = f"must include each class in the sample; got no area for {first_of(extra)}"
         raise BadArgument("areas", problem)
 
 
@@ -285,7 +284,7 @@ def _pairs_of(
         if pairs is not None:
             return pairs, None if map is None else Maps({"map": source_of("map", map)}, crs)
     if map is None:
-        raise BadArgument("map", "must be given, unless reference is a table; got None")
+        raise BadArgument("map", "must be a map unless reference is a table; got None")
     source = source_of("map", map)
     if points is None:
         maps = Maps({"map": source, "reference": reference}, crs)
@@ -302,7 +301,7 @@ def _pairs_of(
 def _warn_of_strata(pairs: Integers, counts: Integers) -> None:
     """Warn if a chi-squared test finds a sample's class shares implausible for a random sample.
 
-    The rarest classes are pooled. The limit uses the Wilson-Hilferty approximation.
+    The rarest classes are pooled. The critical value uses the Wilson-Hilferty approximation.
     """
     drawn = np.zeros(len(counts))
     np.add.at(drawn, np.searchsorted(counts[:, 0], pairs[:, 0]), pairs[:, 2])
@@ -319,15 +318,15 @@ def _warn_of_strata(pairs: Integers, counts: Integers) -> None:
     spread = 2 / (9 * freedom)
     limit = freedom * (1 - spread + _DEVIATE * math.sqrt(spread)) ** 3
     if ((drawn - expected) ** 2 / expected).sum() > limit:
-        problem = "the map's classes have different shares in the sample and in the map"
-        remedy = f"if it was drawn class by class, give {option('areas', 'map')}"
+        problem = "the shares of the map's classes differ between the sample and the map"
+        remedy = f"if the sample was drawn class by class, use {option('areas', 'map')}"
         warn(f"reference: {problem}: {remedy}")
 
 
 def _pairs_of_table(reference: Any) -> Optional[Integers]:
     """Return the counts of class pairs in a CSV file or a DataFrame, or None for other references.
 
-    Rows without a map class or a reference class are left out.
+    Rows that lack the map class or the reference class are left out.
     """
     is_path = isinstance(reference, (str, os.PathLike))
     is_file = is_path and os.path.splitext(os.fspath(reference))[1].lower() in _TABLES
@@ -342,7 +341,7 @@ def _pairs_of_table(reference: Any) -> Optional[Integers]:
         for field in (mapped, actual, row.get("cells", 1)):
             number = whole_number(field)
             if number is None or abs(number) > MAX_CATEGORY:
-                problem = f"{field!r} is not a class or a number of cells"
+                problem = f"{field!r} is not a valid class or number of cells"
                 raise Refused(f"{place}: {problem}", "reference")
             numbers.append(number)
         if numbers[2] < 0:
@@ -359,12 +358,12 @@ def _pairs_of_table(reference: Any) -> Optional[Integers]:
 def _sizes_of(
     areas: Any, area: Any, maps: Optional[Maps], crs: Any
 ) -> tuple[Optional[dict[int, float]], Optional[str]]:
-    """Return the area of each map class, or None, and the unit of areas in the result."""
+    """Return each map class's area, or None without areas, and the result's unit of areas."""
     if areas is None:
         return None, None
     if isinstance(areas, str) and areas == "map":
         if maps is None:
-            raise BadArgument("areas", 'must be areas by class if there is no map; got "map"')
+            raise BadArgument("areas", 'must list areas by class if no map is given; got "map"')
         measure = maps.measure(area)
         counts = maps.counts([["map"]], measure)[0]
         known = zip(counts.classes[:, 0].tolist(), counts.areas(measure).tolist())
@@ -383,7 +382,7 @@ def _sizes_given(areas: Any) -> Any:
     elif hasattr(areas, "items"):
         listed = [("", code, number) for code, number in areas.items()]
     else:
-        rule = f'must be {option("areas", "map")}, or areas by class; got {areas!r}'
+        rule = f'must be "map" or areas by class, for example {{1: 18000}}; got {areas!r}'
         raise BadArgument("areas", rule)
     for place, code, size in listed:
         value = whole_number(code)
@@ -392,6 +391,6 @@ def _sizes_given(areas: Any) -> Any:
         except (TypeError, ValueError):
             number = math.nan
         if value is None or not 0 <= number < math.inf:
-            rule = f"must be numbers from 0 by class; got {place}{size!r} for {code!r}"
+            rule = f"must be non-negative areas by class; got {place}{size!r} for {code!r}"
             raise BadArgument("areas", rule)
         yield value, number

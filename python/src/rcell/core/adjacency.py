@@ -1,5 +1,5 @@
 # SPDX-License-Identifier: Apache-2.0 OR GPL-2.0-or-later
-"""Count the cell sides that classes share, and measure the borders between the classes."""
+"""Count the cell sides that classes share and measure the borders between classes."""
 
 from __future__ import annotations
 
@@ -14,7 +14,7 @@ from .sources import MapLike
 
 __all__ = ["adjacency", "sides_of"]
 
-# The first table counts pairs of cells next to each other in a row, the second in a column.
+# The first table counts pairs of adjacent cells in rows, the second in columns.
 _SCRIPT = """r.mapcalc right = map[0,1]
 r.mapcalc below = map[1,0]
 r.stats -c -n input=map,right
@@ -37,14 +37,14 @@ def adjacency(map: MapLike, *, labels: Any = None, crs: Any = None) -> Table:
     pandas.DataFrame
         The columns are `class`, `label`, `neighbour`, `neighbour_label`, `sides` and `border_m`.
         Each pair of classes is listed once, with the smaller class first. A class is also paired
-        with itself, which counts the sides between the class's own cells. Sides next to null cells
-        and along the map's edge are left out. `border_m` is NaN if the map has no reference system
-        or, with a warning, if the map is in degrees.
+        with itself, to count the sides between its own cells. Sides next to null cells and along
+        the map's edge are not counted. `border_m` is NaN if the map has no reference system or,
+        with a warning, if the map is in degrees.
 
     Raises
     ------
     Refused
-        A legend is invalid. See `run` for other reasons.
+        The legend is invalid. See `run` for other reasons.
 
     Examples
     --------
@@ -70,9 +70,10 @@ def adjacency(map: MapLike, *, labels: Any = None, crs: Any = None) -> Table:
 def sides_of(
     right: NDArray[np.int64], below: NDArray[np.int64]
 ) -> tuple[NDArray[np.int64], NDArray[np.int64], NDArray[np.int64]]:
-    """Return each pair of classes once, and the numbers of cell sides that the pair shares.
+    """Return each pair of classes once, with the numbers of cell sides that the pair shares.
 
-    The two arrays of numbers count the sides from west to east, and the sides from north to south.
+    The first array of numbers counts the sides between cells of a row, and the second array counts
+    the sides between cells of a column.
     """
     pairs = np.sort(np.concatenate([right[:, :2], below[:, :2]]), axis=1)
     kinds, pair_of = np.unique(pairs, axis=0, return_inverse=True)

@@ -1,5 +1,5 @@
 # SPDX-License-Identifier: Apache-2.0 OR GPL-2.0-or-later
-"""Aggregate blocks of cells to coarser maps of the most frequent class and the class shares."""
+"""Aggregate blocks of cells to coarser maps of the most frequent class and of class shares."""
 
 from __future__ import annotations
 
@@ -65,8 +65,8 @@ class BlockShares:
     classes : list of int
         The classes in ascending order.
     entries : array of int64
-        A row for each class in each block: the block, the index of the class, and the number of
-        cells.
+        A row for each class in each block: the block, the index of the class in `classes`, and the
+        number of cells.
     cells : array of int64
         The number of non-null cells in each block.
     """
@@ -105,8 +105,8 @@ def aggregate(map: MapLike, factor: int, min_percent: float = 0, *, crs: Any = N
         The number of rows and columns in a block. Blocks at the southern and eastern edges may
         extend beyond the map.
     min_percent : float
-        The minimum percentage of a block's cells that must be inside the map and not null.
-        Otherwise, the block is null. A block with only null cells is always null.
+        The minimum percentage of a block's cells that must be inside the map and not null. Blocks
+        with a lower percentage are null. A block with only null cells is always null.
     crs : any, optional
         The coordinate reference system to assume for a map that does not have one.
 
@@ -137,13 +137,13 @@ def aggregate(map: MapLike, factor: int, min_percent: float = 0, *, crs: Any = N
     whole_number_of("factor", factor, 1, MAX_CATEGORY)
     is_number = isinstance(min_percent, numbers.Real) and not isinstance(min_percent, bool)
     if not is_number or not 0 <= min_percent <= 100:
-        raise BadArgument("min_percent", f"must be from 0 to 100; got {min_percent!r}")
+        raise BadArgument("min_percent", f"must be a number from 0 to 100; got {min_percent!r}")
     maps = Maps({"map": map}, crs)
     source = maps.first
     rows, cols = (-(-size // factor) for size in source.region.shape)
     if rows * cols > MAX_CATEGORY:
-        rule = f"must leave at most {MAX_CATEGORY} blocks; got {factor}, which leaves {rows * cols}"
-        raise BadArgument("factor", rule)
+        rule = f"must produce at most {MAX_CATEGORY} blocks"
+        raise BadArgument("factor", f"{rule}; got {factor}, which produces {rows * cols}")
     script = f"r.mapcalc block = (row() - 1) / {factor} * {cols} + (col() - 1) / {factor}"
     entries = maps.tables(f"{script}\nr.stats -c -n input=block,map")[0]
     classes, indices = np.unique(entries[:, 1], return_inverse=True)
@@ -172,10 +172,10 @@ def aggregate(map: MapLike, factor: int, min_percent: float = 0, *, crs: Any = N
 
 
 def _counted(entries: Integers, classes: Integers, blocks: int) -> tuple[Integers, Integers]:
-    """Return the most frequent class and the number of cells of each block.
+    """Return each block's most frequent class and number of cells.
 
-    The class is null for a block without cells. The entries contain indices of classes and must be
-    sorted by block.
+    The class is null for a block without cells. The entries, as in `BlockShares`, must be sorted by
+    block.
     """
     block, index, count = entries.T
     first = places_of(block)

@@ -1,5 +1,5 @@
 # SPDX-License-Identifier: Apache-2.0 OR GPL-2.0-or-later
-"""Align maps with another map's grid on request, and count the cells used and lost."""
+"""Align a map with another map's grid and count the cells used, repeated and lost."""
 
 from __future__ import annotations
 
@@ -65,24 +65,24 @@ class Aligned(NamedTuple):
 def align(
     map: MapLike, to: MapLike, resample: Optional[str] = None, *, crs: Any = None
 ) -> tuple[ArrayMap, Aligned]:
-    """Align a map with another map's grid, by shifting whole cells or using the nearest cells.
+    """Align a map with another map's grid, by whole-cell shifts or nearest-neighbour resampling.
 
     Parameters
     ----------
     map, to : path, array, or any map that `run` accepts
-        The map to align, and the map whose grid is used.
+        The map to align, and the map with the new grid.
     resample : {"nearest"}, optional
         "nearest" gives each new cell the value of the old cell that contains the new cell's centre.
-        A centre on a border belongs to the southern or eastern cell. By default, only whole rows
-        and columns are removed, or added as null cells.
+        A centre on a border belongs to the southern or eastern cell. By default, whole rows and
+        columns are cropped or, with null cells, added.
     crs : any, optional
         The coordinate reference system to assume for maps that do not have one.
 
     Returns
     -------
     Raster
-        The map on the new grid. Its attribute `aligned` contains an `Aligned` object, which counts
-        the cells that were used, repeated and lost.
+        The map on the new grid. Its attribute `aligned` is an `Aligned` tuple, which contains the
+        shift and the numbers of cells used, repeated and lost.
 
     Raises
     ------
@@ -91,6 +91,8 @@ def align(
         not given.
     OtherCrs
         The reference systems differ, and `resample` is not given.
+    BadMap
+        No cell of the map is in the extent of `to`.
 
     Examples
     --------
@@ -136,7 +138,7 @@ def align(
 
 
 class _Target:
-    """The map on the new grid, in which all cells are null at first.
+    """The map on the new grid. At first, all cells are null.
 
     The cells are kept in a file if they do not fit in memory.
 
@@ -157,7 +159,7 @@ class _Target:
             self.null[...] = True
 
     def put(self, part: Any, cells: Cells, null: Mask, where: Any = True) -> None:
-        """Write cells to a part of the grid, or only to the cells that a mask selects."""
+        """Write cells to a part of the grid, optionally only where a mask is true."""
         if self.null is not None:
             _copy(self.null[part], null, where)
         elif null.any():
@@ -166,7 +168,7 @@ class _Target:
 
 
 def _copy(target: NDArray[Any], values: NDArray[Any], where: Any) -> None:
-    """Write values to an array, or only where a mask is true."""
+    """Write values to an array, optionally only where a mask is true."""
     if where is True:
         target[...] = values
     else:
@@ -203,7 +205,7 @@ class _Axis(NamedTuple):
         return cls(taken, first, often)
 
     def part(self, begin: int, end: int) -> tuple[slice, Any]:
-        """Return the grid rows that use map rows in a range, and the map row that each uses."""
+        """Return the grid rows that use a range of map rows, and the indices used in the range."""
         low, high = (int(place) for place in np.searchsorted(self.taken, (begin, end)))
         return slice(self.first + low, self.first + high), _run(self.taken[low:high] - begin)
 
@@ -211,11 +213,11 @@ class _Axis(NamedTuple):
 def _shifted(source: Source, like: Source, target: _Target, resample: Optional[str]) -> Aligned:
     """Copy a map to another map's grid with the same reference system.
 
-    The grid is shifted by whole rows and columns, unless the nearest cells are requested.
+    The shift must be by whole rows and columns, unless the nearest cells are requested.
     """
     shift = Shift.between(source.transform, like.transform, like.region.shape)
     if resample is None and not shift.is_whole:
-        cure = f"{option('resample', 'nearest')} takes the nearest cell"
+        cure = f"use {option('resample', 'nearest')} to get the nearest cells"
         raise OtherRegion(source.name, f"{shift.misfit(like.name)}: {cure}")
     rows, cols = map(_Axis.of, shift.centres(), source.region.shape)
     right, across = cols.part(0, source.region.cols)
@@ -296,7 +298,7 @@ class _Window(NamedTuple):
 
 
 def _held(source: Source) -> ArrayMap:
-    """Read a map into memory if it cannot be read in windows, for example a text grid."""
+    """Read a map that cannot be read in windows, such as a text grid, into memory."""
     blocks = list(source.blocks())
     cells = np.concatenate([block.cells for block in blocks])
     nulls = [block.null for block in blocks if block.null is not None]

@@ -1,5 +1,5 @@
 # SPDX-License-Identifier: Apache-2.0 OR GPL-2.0-or-later
-"""Compute cell areas: one for a projected map, or one for each row of a map in degrees."""
+"""Compute cell areas: one area for a projected map, or one per row for a map in degrees."""
 
 from __future__ import annotations
 
@@ -49,7 +49,8 @@ def row_areas(
     # Cells may be centred on a pole. Their half beyond the pole has no area.
     if rows and max(edges[0], -edges[-1]) > math.pi / 2 + height * _MOST_BEYOND:
         side, edge = ("north", edges[0]) if edges[0] > math.pi / 2 else ("south", edges[-1])
-        raise Refused(f"rows beyond the pole: {side} is {math.degrees(edge):.10g}", "map")
+        problem = f"the map extends beyond the pole: {side} is {math.degrees(edge):.10g}"
+        raise Refused(problem, "map")
     upper, lower = np.minimum(edges[:-1], math.pi / 2), np.maximum(edges[1:], -math.pi / 2)
     # The difference of the sines, from a product: a subtraction would lose digits for thin rows.
     step = np.where((upper < edges[:-1]) | (lower > edges[1:]), upper - lower, height)
@@ -101,12 +102,12 @@ class Measure:
         if self.metres is None:
             return math.nan
         if math.isnan(self.metres):
-            warn("lengths are not computed in degrees")
+            warn("lengths are not computed for maps in degrees")
         return self.metres
 
     @property
     def column(self) -> str:
-        """The suffix for the names of size columns: the unit of areas, or `cells` without areas."""
+        """The suffix of size column names: the unit of areas, or `cells` without areas."""
         return self.unit or "cells"
 
     def area(self, weights: NDArray[Any]) -> NDArray[np.float64]:
@@ -131,9 +132,9 @@ def measure_of(area: Any, source: Source, crs: Any) -> Measure:
     Raises
     ------
     BadArgument
-        The unit is unknown, or the map has no reference system.
+        The unit is unknown, or a unit is given but the map has no reference system.
     Refused
-        The reference system's unit of length or angle is unknown.
+        The reference system is neither geographic nor projected, so cells have no area.
     """
     unit = unit_of(area, crs)
     metres = _metres(crs, unit is not None)
@@ -157,10 +158,9 @@ def flat_measure(area: str, transform: Transform, crs: Any) -> Measure:
     metres = _metres(crs, True)
     assert unit is not None and metres is not None
     if math.isnan(metres):
-        rule = (
-            "needs a map in metres or feet: in degrees the area of a cell differs from row to row"
-        )
-        raise BadArgument("area", f"{rule}; composition and cross weight the rows")
+        rule = "requires a map in metres or feet, but this map is in degrees"
+        advice = "use composition or cross, which compute the cell area of each row"
+        raise BadArgument("area", f"{rule}: {advice}")
     return Measure(unit, UNITS_OF_AREA[unit], _cell(transform, metres), None, metres)
 
 
@@ -194,7 +194,7 @@ def unit_of(area: Any, crs: Any) -> str | None:
     if not isinstance(area, str) or area not in UNITS_OF_AREA:
         raise BadArgument("area", f"must be ha, km2, m2 or None; got {area!r}")
     if crs is None:
-        problem = "needs a coordinate reference system, but the maps have none"
+        problem = "requires a coordinate reference system, but the maps have none"
         example = option("crs", "EPSG:25832")
         raise BadArgument("area", f'"{area}" {problem}: state it, for example {example}')
     return area
@@ -211,7 +211,7 @@ def _metres(crs: Any, is_needed: bool) -> float | None:
 
 
 def _understood(crs: Any) -> Crs | None:
-    """Return an optional reference system, or None if no library can read it."""
+    """Return a reference system, or None if no library that can read it is installed."""
     try:
         return known(crs)
     except MissingLibrary:

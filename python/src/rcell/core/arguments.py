@@ -128,7 +128,7 @@ def check_arguments(call: Callable[..., Any], named: Iterable[str]) -> None:
 def check_script(script: Any) -> None:
     """Raise BadArgument unless the script is a string."""
     if not isinstance(script, str):
-        raise BadArgument("script", f"must be a text; got {script!r}")
+        raise BadArgument("script", f"must be a string; got {script!r}")
 
 
 def check_named_maps(maps: Any, named: Mapping[str, Any], words: Iterable[str]) -> None:
@@ -147,7 +147,7 @@ def check_named_maps(maps: Any, named: Mapping[str, Any], words: Iterable[str]) 
     for name, value in named.items():
         close = difflib.get_close_matches(name, known, 1, 0.75)
         if close and not _may_be_map(value):
-            problem = f"is taken for a map, and {value!r} is not one: did you mean {close[0]}=?"
+            problem = f"is not an argument, and {value!r} is not a map: did you mean {close[0]}=?"
             raise BadArgument(name, problem)
     is_mapping = isinstance(maps, Mapping) or hasattr(maps, "data_vars")
     if is_mapping and len(maps) or (maps is None and named):
@@ -162,7 +162,7 @@ def check_named_maps(maps: Any, named: Mapping[str, Any], words: Iterable[str]) 
 def _may_be_map(value: Any) -> bool:
     """Return whether a value may be a map.
 
-    A path, a string with a dot, and any value that is not a plain value may be a map.
+    Strings may be maps if they look like paths. None, booleans and numbers are not maps.
     """
     if isinstance(value, str):
         return "." in value or os.sep in value or os.path.exists(value)

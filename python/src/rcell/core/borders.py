@@ -1,5 +1,5 @@
 # SPDX-License-Identifier: Apache-2.0 OR GPL-2.0-or-later
-"""Warn if a usual nodata value fills most of a map's border but is not declared."""
+"""Warn if a common nodata value fills most of a map's border but is not declared."""
 
 from __future__ import annotations
 
@@ -20,7 +20,7 @@ _USUAL = (255, -9999, -32768)
 
 
 class Watch:
-    """A counter of usual nodata values along the border of a map.
+    """A counter of common nodata values along the border of a map.
 
     Blocks or windows may be added in any order.
 
@@ -44,7 +44,7 @@ class Watch:
         self._lock = threading.Lock()
 
     def add(self, block: Block, row: int, col: int) -> None:
-        """Count the usual nodata values in a block that begins at the given row and column."""
+        """Count the common nodata values in a block that begins at the given row and column."""
         if self._values:
             cells, null = _border(block, row, col, self._shape)
             counts = [
@@ -58,21 +58,21 @@ class Watch:
             self.counts += counts
 
     def finish(self) -> None:
-        """Warn if a usual nodata value fills more than half of the border."""
+        """Warn if a common nodata value fills more than half of the border."""
         rows, cols = self._shape
         border = rows * cols - max(rows - 2, 0) * max(cols - 2, 0)
         for value, count in zip(self._values, self.counts.tolist()):
             if 2 * count > border:
                 warn(
                     f"{self._name}: {count:,} of the {border:,} cells along its border are "
-                    f"{value}, and no nodata value is declared: "
+                    f"{value}, which is not declared as nodata: "
                     f"if {value} means nodata, declare it, for example with gdal_edit.py "
                     f"-a_nodata {value}"
                 )
 
 
 def watched(name: str, source: Source) -> Iterator[Block]:
-    """Yield a map's blocks, then warn if a usual nodata value fills over half of its border."""
+    """Yield a map's blocks, then warn if a common nodata value fills over half of the border."""
     watch, row = Watch(name, source, source.region.shape), 0
     for block in source.blocks():
         watch.add(block, row, 0)

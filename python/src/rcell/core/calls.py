@@ -1,5 +1,5 @@
 # SPDX-License-Identifier: Apache-2.0 OR GPL-2.0-or-later
-"""Look up the calls that return tables, using the names in records."""
+"""Look up calls that return tables by the names that records contain."""
 
 from __future__ import annotations
 
@@ -37,5 +37,5 @@ def call_named(name: str) -> Callable[..., Any]:
         There is no call with this name.
     """
     if name not in CALLS:
-        raise Refused(f"there is no call {name}", "record")
+        raise Refused(f"{name} is not a call that returns a table", "record")
     return CALLS[name]
