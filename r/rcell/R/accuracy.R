@@ -15,7 +15,7 @@ rcell_accuracy <- function(x, reference, areas = NULL, area, field = NULL, layer
   check_text(layer, "layer")
   sample <- sample_of(x, reference, field, layer, crs, is.null(areas))
   if (!sum(sample$cells)) {
-    text <- "the sample is empty: no cell has a class in the map and in the reference"
+    text <- "the sample is empty: no cell has a class in both the map and the reference"
     refuse(text, "reference")
   }
   strata <- strata_of(areas, choice, sample$sources)
@@ -109,14 +109,14 @@ check_strata <- function(classes, mapped, rows) {
   lacking <- classes[mapped > 0 & rows == 0]
   if (length(lacking)) {
     text <- paste(
-      "no cell of the sample is in the class %s of the map, which has an area: add cells,",
+      "each map class with an area must have sample cells; got none for %s: add cells,",
       "or merge the class with another one"
     )
     refuse(sprintf(text, shortened(lacking)), "reference")
   }
   extra <- classes[mapped == 0 & rows > 0]
   if (length(extra)) {
-    text <- "areas= must have an area for each class of the sample; got none for %s"
+    text <- "areas= must include each class in the sample; got no area for %s"
     refuse(sprintf(text, shortened(extra)), status = 2L)
   }
 }
@@ -136,7 +136,7 @@ sample_of <- function(x, reference, field, layer, crs, is_random) {
     sources <- if (!is.null(x)) sources_of(list(map = x), crs)
     return(c(sample_of_table(reference), list(sources = sources)))
   }
-  if (is.null(x)) refuse("x= must be given, unless reference= is a table; got NULL", status = 2L)
+  if (is.null(x)) refuse("x= must be a map unless reference= is a table; got NULL", status = 2L)
   if (!is.null(points)) return(sample_of_points(x, points, crs, is_random))
   sources <- sources_of(list(map = x, reference = reference), crs)
   frame <- run_own("r.stats -cn input=map,reference", sources)[[1]]
@@ -158,7 +158,7 @@ sample_of_table <- function(reference) {
   if (length(bad)) {
     column <- Find(function(name) !is_whole[[name]][[bad[[1]]]], names(numbers))
     met <- quoted_if_empty(texts[[column]][[bad[[1]]]])
-    text <- "%s%s is not a class or a number of cells"
+    text <- "%s%s is not a valid class or number of cells"
     refuse(sprintf(text, places[[bad[[1]]]], met), "reference")
   }
   below <- which(numbers$cells < 0)
@@ -228,8 +228,8 @@ warn_of_strata <- function(map, counts) {
   limit <- freedom * (1 - spread + DEVIATE * sqrt(spread))^3
   if (sum((sums[[1]] - sums[[2]])^2 / sums[[2]]) <= limit) return(invisible())
   text <- paste(
-    "reference: the map's classes have different shares in the sample and in the map:",
-    "if it was drawn class by class, give areas = \"map\""
+    "reference: the shares of the map's classes differ between the sample and the map:",
+    "if the sample was drawn class by class, use areas = \"map\""
   )
   warning(text, call. = FALSE)
 }
@@ -272,7 +272,7 @@ strata_of <- function(areas, choice, sources) {
   if (is.null(areas)) return(NULL)
   if (identical(areas, "map")) {
     if (is.null(sources)) {
-      refuse("areas= must be areas by class if there is no map; got \"map\"", status = 2L)
+      refuse("areas= must list areas by class if no map is given; got \"map\"", status = 2L)
     }
     unit <- unit_of(choice, sources$map)
     table <- count_cells(sources, list("map"), unit)[[1]]
@@ -286,7 +286,7 @@ strata_of <- function(areas, choice, sources) {
     places <- rep("", length(areas))
     given <- list(value = names(areas), area = as.character(areas), places = places)
   } else {
-    rule <- "areas= must be \"map\", or areas by class, for example c(\"1\" = 18000)"
+    rule <- "areas= must be \"map\" or areas by class, for example c(\"1\" = 18000)"
     check_argument(FALSE, areas, rule)
   }
   value <- whole_numbers(trimmed(given$value))
@@ -294,7 +294,7 @@ strata_of <- function(areas, choice, sources) {
   bad <- which(is.na(value) | !is.finite(size) | size < 0)
   if (length(bad)) {
     place <- bad[[1]]
-    text <- "areas= must be numbers from 0 by class; got %s%s for %s"
+    text <- "areas= must be non-negative areas by class; got %s%s for %s"
     met <- c(given$places[[place]], given$area[[place]], given$value[[place]])
     refuse(do.call(sprintf, as.list(c(text, met))), status = 2L)
   }

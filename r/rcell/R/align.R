@@ -5,7 +5,7 @@
 # belongs to the southern or eastern cell.
 SHIFT_TOLERANCE <- 1e-3
 BORDER_TOLERANCE <- 1e-6
-TRY_NEAREST <- "resample=\"nearest\" takes the nearest cell"
+TRY_NEAREST <- "use resample=\"nearest\" to get the nearest cells"
 
 rcell_align <- function(x, to, resample = NULL, filename = "", overwrite = FALSE, crs = NULL) {
   if (!is.null(resample) && !identical(resample, "nearest")) {

@@ -23,8 +23,8 @@ rcell_table <- function(.script, ..., area = NULL, percent = FALSE, wide = FALSE
   if (!length(outputs)) no_table(request$outputs)
   if (!is.null(area) && is_in_degrees(sources[[1]])) {
     refuse(paste(
-      "area= needs a map in metres or feet: in degrees the area of a cell differs from row to row;",
-      "rcell_composition, rcell_cross, rcell_change and rcell_patches weigh each row"
+      "area= requires a map in metres or feet, but this map is in degrees:",
+      "use rcell_composition or rcell_cross, which compute the cell area of each row"
     ))
   }
   answer <- answer_of(request, sources, outputs)

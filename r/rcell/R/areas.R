@@ -23,7 +23,7 @@ unit_of <- function(choice, source, argument = "area=") {
   if (kind == "none") {
     if (!choice$is_asked_for) return(NULL)
     text <- paste(
-      "%s needs a coordinate reference system, but %s has none:",
+      "%s requires a coordinate reference system, but %s has none:",
       "state it, for example crs = \"EPSG:25832\"%s"
     )
     refuse(sprintf(text, argument, source$name, instead), status = 2L)
@@ -71,7 +71,8 @@ cell_sizes <- function(source) {
     is_north <- edges[[1]] > -edges[[length(edges)]]
     edge <- if (is_north) ymax(template) else ymin(template)
     side <- if (is_north) "north" else "south"
-    refuse(sprintf("rows beyond the pole: %s is %.15g", side, edge), source$name, status = 2L)
+    text <- "the map extends beyond the pole: %s is %.15g"
+    refuse(sprintf(text, side, edge), source$name, status = 2L)
   }
   parallels <- pmax(-pi / 2, pmin(pi / 2, edges))
   zones <- zone_areas(parallels[-length(parallels)], parallels[-1], shape$eccentricity)

@@ -43,7 +43,7 @@ is_selected <- function(patches, classes, min_cells) {
   (is.null(classes) | patches$class %in% classes) & patches$cells >= max(min_cells, 0)
 }
 
-warn_of_lengths <- function() warning("lengths are not computed in degrees", call. = FALSE)
+warn_of_lengths <- function() warning("lengths are not computed for maps in degrees", call. = FALSE)
 
 # Return the measures of patches that the program counts in a single run.
 counted_patches <- function(sources, connectivity, core_depth, area, has_zones) {

@@ -78,7 +78,7 @@ expect_equal(rcell_patches(degrees, area = NULL)$cells, suppressWarnings(rcell_p
 expect_equal(sum(suppressWarnings(rcell_patches(degrees))$area_ha), sum(rcell_composition(degrees)$area_ha))
 expect_equal(rcell_change(degrees, degrees)$summary$persistence_ha, rcell_composition(degrees)$area_ha)
 beyond <- rast(nrows = 2, ncols = 2, xmin = 0, xmax = 2, ymin = 89.5, ymax = 91.5, crs = "EPSG:4326", vals = 1)
-expect_true(grepl("rows beyond the pole: north is 91.5", refusal(rcell_composition(beyond))$text))
+expect_true(grepl("the map extends beyond the pole: north is 91.5", refusal(rcell_composition(beyond))$text))
 
 # Polygons as zones: cell centres decide. Whole numbers in a field are zone numbers; other values become names.
 room <- tempfile("zones")
@@ -128,7 +128,7 @@ expect_equal(rows(aligned), rows(extend(crop(moved, land), land)))
 expect_identical(attr(aligned, "aligned")[1:2], data.frame(shift_rows = -3, shift_columns = -2))
 expect_identical(attr(aligned, "aligned")$cells_lost, sum(!is.na(rows(land))) - sum(!is.na(rows(aligned))))
 refused <- refusal(rcell_align(shift(land, 15, 0), to = land))
-expect_identical(refused$text, "shifted by 0 rows and -0.5 columns, not by whole cells: resample=\"nearest\" takes the nearest cell")
+expect_identical(refused$text, "shifted by 0 rows and -0.5 columns, not by whole cells: use resample=\"nearest\" to get the nearest cells")
 expect_inherits(refused, "rcell_other_region")
 fine <- disagg(land, 3)
 expect_equal(rows(rcell_align(fine, to = land, resample = "nearest")), rows(land))

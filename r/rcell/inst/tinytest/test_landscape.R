@@ -128,7 +128,7 @@ expect_identical(names(pairs), c("class", "label", "neighbour", "neighbour_label
 expect_identical(pairs$label, c("wood", "water", "town", "field", "heath", NA)[pairs$class])
 expect_identical(levels(rcell_majority(labelled))[[1]][[2]], levels(labelled)[[1]][[2]])
 degrees <- rast(nrows = 2, ncols = 2, vals = c(1, 1, 2, 2))
-expect_warning(found <- rcell_patches(degrees), "lengths are not computed in degrees")
+expect_warning(found <- rcell_patches(degrees), "lengths are not computed for maps in degrees")
 expect_identical(found$perimeter_m, c(NA_real_, NA_real_))
 expect_equal(sum(found$area_ha) * 1e4, surface(6378137, 298.257223563), tolerance = 1e-12)
 expect_equal(rcell_patches(maps$noise, area = "m2")$area_m2, rcell_patches(maps$noise)$area_ha * 1e4)

@@ -48,7 +48,7 @@ expect_identical(fault(map), "one of min_cells= and min_ha= must be given; got n
 expect_identical(fault(map, 3, 4), "one of min_cells= and min_ha= must be given; got both")
 expect_identical(fault(map, 0), "min_cells= must be a whole number, at least 1; got 0")
 expect_identical(fault(map, min_ha = "a"), "min_ha= must be a number above 0; got \"a\"")
-expect_true(startsWith(fault(matrix(1:4, 2), min_ha = 1), "min_ha= needs a coordinate reference system"))
+expect_true(startsWith(fault(matrix(1:4, 2), min_ha = 1), "min_ha= requires a coordinate reference system"))
 degrees <- rast(matrix(1:4, 2), extent = ext(0, 2, 0, 2), crs = "EPSG:4326")
 expect_true(startsWith(fault(degrees, min_ha = 1), "min_ha= requires a map in metres or feet"))
 
@@ -75,7 +75,7 @@ expect_identical(fault(far, 7, 2560), "distances= must be at most 255 cells; got
 expect_identical(fault(far, 7, c(50, 20)), "distances= must be ascending numbers above 0, for example c(100, 500); got 50, 20")
 expect_identical(fault(far, NULL, 20), "classes= must be whole numbers; got none")
 expect_identical(fault(degrees, 1, 20), "distances= requires a map in metres or feet, but this map is in degrees")
-expect_true(startsWith(fault(matrix(1:4, 2), 1, 20), "distances= needs a coordinate reference system"))
+expect_true(startsWith(fault(matrix(1:4, 2), 1, 20), "distances= requires a coordinate reference system"))
 
 # Blocks contain the most frequent class, the number of cells with data, and the shares of classes.
 map <- made_map(11, 14, 3, seed = 6)

@@ -105,7 +105,7 @@ for (level in c("class", "landscape")) {
 
 # In degrees, only metrics that need a length are missing, with one warning. Without data there are no rows.
 degrees <- rast(as_rows(maps$patchy), extent = ext(10, 10.25, 50, 50.2), crs = "EPSG:4326")
-expect_warning(found <- rcell_metrics(degrees, "landscape"), "lengths are not computed in degrees")
+expect_warning(found <- rcell_metrics(degrees, "landscape"), "lengths are not computed for maps in degrees")
 expect_true(is.na(found$edge_m) && is.na(found$mean_shape_index) && !is.na(found$contagion) && !is.na(found$aggregation_index))
 expect_equal(found$area_ha, sum(rcell_composition(degrees)$area_ha))
 empty <- setValues(maps$noise, NA)

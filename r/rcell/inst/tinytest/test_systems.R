@@ -8,7 +8,7 @@ plain <- matrix(c(1, 1, 2, 2), 2)
 expect_identical(names(rcell_composition(plain)), c("class", "cells", "percent"))
 expect_identical(names(rcell_composition(plain, crs = "EPSG:25832")), c("class", "cells", "area_ha", "percent"))
 expect_identical(refusal(rcell_composition(plain, area = "ha"))$text,
-  "area= needs a coordinate reference system, but map has none: state it, for example crs = \"EPSG:25832\", or use area = NULL")
+  "area= requires a coordinate reference system, but map has none: state it, for example crs = \"EPSG:25832\", or use area = NULL")
 expect_identical(refusal(rcell_table("r.stats -c input=x", x = plain, area = "ha"))$status, 2L)
 expect_identical(names(rcell_patches(plain))[4:5], c("perimeter_m", "core_cells"))
 expect_identical(rcell_patches(plain)$perimeter_m, c(NA_real_, NA_real_))
@@ -32,7 +32,7 @@ expect_identical(rcell_composition(north, area = NULL)$percent, c(50, 50))
 globe <- rast(nrows = 181, ncols = 4, xmin = -180, xmax = 180, ymin = -90.5, ymax = 90.5, crs = "EPSG:4326", vals = 1)
 expect_equal(rcell_composition(globe, area = "m2")$area_m2, surface(6378137, 298.257223563), tolerance = 1e-12)
 beyond <- rast(nrows = 2, ncols = 2, xmin = 0, xmax = 2, ymin = 88.9, ymax = 90.9, crs = "EPSG:4326", vals = 1)
-expect_identical(refusal(rcell_composition(beyond))$text, "rows beyond the pole: north is 90.9")
+expect_identical(refusal(rcell_composition(beyond))$text, "the map extends beyond the pole: north is 90.9")
 
 # Different spellings of a system are equal; different systems are not.
 own <- asNamespace("rcell")
