@@ -187,7 +187,7 @@ class RefusalsTest(InSession):
         )
         degrees = made.write(self.path("degrees.tif"), COVER, transform=made.DEGREES, epsg=4326)
         self.refused(
-            "AREA needs a map in metres or feet",
+            "AREA requires a map in metres or feet",
             "script",
             INPUT=[degrees],
             NAMES="lc",
