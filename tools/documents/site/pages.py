@@ -185,14 +185,15 @@ def landing(root):
     """Return the first page: what rcell is, with numbers from the README and the cases, and one
     call in four languages."""
     readme = (root / "README.md").read_text(encoding="utf-8")
-    lines = re.search(r"for a table of r\.stats (\d+) lines", readme)[1]
+    lines = re.search(r"for a table of r\.stats, (\d+) lines", readme)[1]
     row = re.search(r"^\| table .*\|$", readme, re.MULTILINE)[0].split("|")
     cases = (path.read_text(encoding="utf-8") for path in (root / "fronts/cases").glob("*.case"))
     numbers = {
         "LINES": lines,
         "REJECTED": str(sum("\nrefused:" in case for case in cases)),
-        "RCELL": row[5].strip(),
-        "GRASS": row[6].strip(),
+        "RCELL": row[2].strip(),
+        "TERRA": row[4].strip(),
+        "GRASS": row[5].strip(),
     }
     text = (HERE / "landing.txt").read_text(encoding="utf-8")
     for key, value in numbers.items():
