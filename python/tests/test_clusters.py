@@ -205,8 +205,8 @@ def test_what_a_cluster_does_is_said() -> None:
 
     told = (
         (KilledWorker("tile"), rcell.RcellError, "workers of the cluster died one after another"),
-        (ModuleNotFoundError("no rcell"), rcell.MissingProgram, "cannot run the package rcell"),
-        (CancelledError(), rcell.RcellError, "has cancelled the work"),
+        (ModuleNotFoundError("no rcell"), rcell.MissingProgram, "cannot import the package rcell"),
+        (CancelledError(), rcell.RcellError, "the cluster cancelled the work"),
         (rcell.BadMap("a", "b"), rcell.BadMap, "a: b"),
     )
     for error, kind, words in told:
@@ -214,5 +214,5 @@ def test_what_a_cluster_does_is_said() -> None:
         future.set_exception(error)
         with pytest.raises(kind, match=words):
             clusters.result_of(future)
-    with pytest.raises(rcell.WrongProgram, match="rcell .* is installed, and rcell 0.1 where"):
+    with pytest.raises(rcell.WrongProgram, match="rcell .* is installed, but the calling machine has rcell 0.1"):
         clusters.run_on_worker(None, {}, "0.1")  # type: ignore[arg-type]

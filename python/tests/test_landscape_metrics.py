@@ -144,5 +144,5 @@ def test_a_legend_without_a_class_is_said_once() -> None:
     land = masked([[1, 2, 2]])
     with pytest.warns(UserWarning) as told:
         rcell.dominant(placed(land), placed(masked([[1, 1, 1]])), labels={5: "moor"})
-    assert [str(it.message) for it in told] == ["labels: no label for 1, 2 of map"]
+    assert [str(it.message) for it in told] == ["labels: no label for 1, 2 in map"]
     assert len(rcell.dominant(placed(MAPS["null"]), placed(MAPS["null"]))) == 0

@@ -642,7 +642,7 @@ def test_legends_of_all_kinds(tmp_path: pathlib.Path, raster: Write) -> None:
         dict(enumerate(named)),
     ):
         assert rcell.composition(LAND, labels=legend)["label"].tolist() == named
-    with pytest.warns(UserWarning, match="labels: no label for 0, 3 of map"):
+    with pytest.warns(UserWarning, match="labels: no label for 0, 3 in map"):
         found = rcell.composition(LAND, labels={1: "a", 2: "b"})["label"]
     assert found.tolist() == [pandas.NA, "a", "b", pandas.NA]
     style = (

@@ -114,7 +114,7 @@ def test_labels_in_memory() -> None:
 
 
 def test_one_warning_of_a_change_names_a_map() -> None:
-    with pytest.warns(UserWarning, match="no label for 2 of before and after") as caught:
+    with pytest.warns(UserWarning, match="no label for 2 in before and after") as caught:
         rcell.change(MAP, MAP, labels={1: "wood"})
     assert len(caught) == 1
     assert caught[0].filename == __file__

@@ -82,7 +82,7 @@ def test_composition(raster: Write, capfdbinary: Any, tmp_path: pathlib.Path) ->
         )
         == 0
     )
-    assert said(capfdbinary) == ("", "rcell-gis: warning: labels: no label for 2 of map\n")
+    assert said(capfdbinary) == ("", "rcell-gis: warning: labels: no label for 2 in map\n")
     assert (tmp_path / "t.csv").read_text().splitlines()[1:3] == [
         "1,wood,5,0.3125,45.45454545454545",
         "2,,4,0.25,36.36363636363637",

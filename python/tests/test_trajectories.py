@@ -136,7 +136,7 @@ def test_maps_without_a_cell_have_no_rows() -> None:
         (2, None, "years must ascend, one for each map; got none"),
         (2, [2010, 2000], "years must ascend, one for each map; got 2010, 2000"),
         (2, [2000, 2000], "years must differ; got 2000 twice"),
-        (3, [2000, 2010], "years must have one year for each map; got 2 for 3 maps"),
+        (3, [2000, 2010], "years must list one year for each map; got 2 for 3 maps"),
         (300, range(300), "maps must be at most 240 with 4 classes; got 300"),
     ],
 )

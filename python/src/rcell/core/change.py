@@ -35,12 +35,12 @@ class Change(NamedTuple):
         `cells`, `area_ha` and `percent`: the change's percentage of the area that is null in
         neither year.
     matrix : pandas.DataFrame
-        The areas, or the numbers of cells if areas are not computed, with a row for each class
-        before and a column for each class after. If several classes have the same label, their
+        The areas, or the numbers of cells if areas are not computed, with a row for each earlier
+        class and a column for each later class. If several classes have the same label, their
         numbers are appended, for example `wood (31)`.
     summary : pandas.DataFrame
         A row for each class, with the area before, the area after, gain, loss, net change, swap and
-        persistence. Swap is twice the smaller of gain and loss, because a class lost this area in
+        persistence. Swap is twice the smaller of gain and loss, because the class lost this area in
         one place and gained it in another.
 
     Examples
@@ -73,11 +73,10 @@ def change(
     Parameters
     ----------
     before, after : path, array, or any map that `run` accepts
-        The maps of the two years. Alternatively, `before` is a list of maps in the order of their
-        years, or a DataArray with the dimension `time`. Each map is then compared with the next
-        map.
+        The maps of the two years. Alternatively, `before` is a list of maps in chronological order,
+        or a DataArray with the dimension `time`. Each map is then compared with the next one.
     years : iterable of int, optional
-        The year of each map. It is required for a list of more than two maps.
+        The year of each map. Required for a list of more than two maps.
     area : {"ha", "km2", "m2"} or None
         The unit of areas, as in `composition`.
     labels : path, dict, Series or DataFrame, optional
@@ -89,14 +88,14 @@ def change(
     Returns
     -------
     Change
-        A named tuple of the DataFrames `table`, `matrix` and `summary`.
+        A named tuple with the DataFrames `table`, `matrix` and `summary`.
 
     Raises
     ------
     Refused
         See `run`.
     BadArgument
-        The number of years differs from the number of maps.
+        Only one map is given, or the number of years differs from the number of maps.
 
     Examples
     --------
@@ -121,19 +120,19 @@ def change(
 
 
 def _maps_of(before: Any, after: Any, years: Any) -> tuple[dict[str, Any], Any]:
-    """Return the maps of a call by name, and their years."""
+    """Return a call's maps by name, and the years of the maps."""
     if after is not None:
         return {"before": before, "after": after}, years
     maps, years = maps_in_time(before, years)
     if len(maps) < 2:
-        raise BadArgument("after", "must be a map, unless before is a list of maps; got None")
+        raise BadArgument("after", "must be a map unless before is a list of maps; got None")
     if len(maps) == 2:
         return dict(zip(("before", "after"), maps)), years
     return {f"map_{number}": map for number, map in enumerate(maps, 1)}, years
 
 
 def maps_in_time(maps: Any, years: Any) -> tuple[list[Any], Any]:
-    """Return the maps in a list or in a DataArray with the dimension `time`, and their years."""
+    """Return the maps in a list or in a DataArray with the dimension `time`, and the years."""
     if "time" in getattr(maps, "dims", ()):
         from ..readers.xarray import series_of
 
@@ -156,7 +155,7 @@ def checked_years(years: Any, maps: int) -> Optional[list[int]]:
         if listed.count(year) > 1:
             raise BadArgument("years", f"must differ; got {year} twice")
     if len(listed) != maps:
-        rule = f"must have one year for each map; got {len(listed) or 'none'} for {maps} maps"
+        rule = f"must list one year for each map; got {len(listed) or 'none'} for {maps} maps"
         raise BadArgument("years", rule)
     return [int(year) for year in listed]
 
@@ -195,7 +194,7 @@ class _Changes:
         return Table(columns + together.columns(self.measure, percent))
 
     def matrix(self) -> Matrix:
-        """Return a matrix with a row for each class before and a column for each class after."""
+        """Return a matrix with a row for each earlier class and a column for each later class."""
         after = np.unique(np.concatenate([pair.classes[:, 1] for pair in self.pairs]))
         is_sized = self.measure.unit is not None
         parts = [
@@ -236,7 +235,7 @@ class _Changes:
         return Table(columns)
 
     def _years_of(self, rows: list[int]) -> list[Column]:
-        """Return the two columns that contain the years before and after each change.
+        """Return the columns with the years before and after each change, if years are given.
 
         `rows` contains the number of rows for each pair of years.
         """
@@ -265,9 +264,9 @@ class _Changes:
 def _matrix_of(
     pair: Counts, measured: NDArray[Any], after: NDArray[np.int64]
 ) -> tuple[NDArray[np.int64], NDArray[Any]]:
-    """Return the classes before a change, and the values by class before and class after.
+    """Return the earlier classes, and a matrix of the values by earlier and later class.
 
-    The values are a matrix with a row for each class before and a column for each class after.
+    The matrix has a row for each earlier class and a column for each class in `after`.
     """
     before, down = np.unique(pair.classes[:, 0], return_inverse=True)
     values = np.zeros((before.size, after.size), measured.dtype)
@@ -276,7 +275,7 @@ def _matrix_of(
 
 
 def _summary_of(pair: Counts, measured: NDArray[Any]) -> tuple[NDArray[np.int64], NDArray[Any]]:
-    """Return the classes of either of two years, and seven measures of change for each class."""
+    """Return the classes that occur in either year, and seven measures of change for each class."""
     classes, indices = np.unique(pair.classes, return_inverse=True)
     before, after = indices.reshape(-1, 2).T
     persists = before == after

@@ -40,7 +40,7 @@ def client_of(workers: Any) -> Any:
     if not (hasattr(workers, "scheduler_info") and hasattr(workers, "get_executor")):
         return None
     if getattr(workers, "asynchronous", False):
-        raise BadArgument("workers", f"must be a Client that is not asynchronous; got {workers!r}")
+        raise BadArgument("workers", f"must be a synchronous Client; got {workers!r}")
     return workers
 
 
@@ -118,7 +118,7 @@ class Cluster:
     def warn_if_empty(self) -> None:
         """Warn if the cluster does not have any workers yet."""
         if not self._workers:
-            warn(f"the cluster of {self._client.scheduler.address} has no workers: waiting for one")
+            warn(f"the cluster at {self._client.scheduler.address} has no workers: waiting for one")
 
     def cancel(self) -> None:
         """Cancel the tiles that no worker has begun."""
@@ -126,20 +126,22 @@ class Cluster:
 
 
 def result_of(future: Future[Made]) -> Made:
-    """Return a tile's result, or convert the cluster's error to an error of this package."""
+    """Return a tile's result, or raise the cluster's error as an error of this package."""
     try:
         return future.result()
     except CancelledError:
-        problem = "the cluster has cancelled the work: its client was closed, or it was restarted"
+        problem = (
+            "the cluster cancelled the work: its client was closed, or the cluster was restarted"
+        )
         raise RcellError(problem) from None
     except ModuleNotFoundError as error:
-        problem = f"a worker of the cluster cannot run the package rcell: {error}"
-        raise MissingProgram(f"{problem}; install the package there") from None
+        problem = f"a worker of the cluster cannot import the package rcell: {error}"
+        raise MissingProgram(f"{problem}: install the package on every worker") from None
     except Exception as error:
         if type(error).__name__ != "KilledWorker":
             raise
-        problem = "workers of the cluster died one after another while they counted one tile"
-        raise RcellError(f"{problem}, which often means too little memory: {error}") from None
+        problem = "workers of the cluster died one after another while processing the same tile"
+        raise RcellError(f"{problem}, probably because memory ran out: {error}") from None
 
 
 def sent_parts(work: TileWork) -> tuple[TileWork, dict[str, State], str, dict[str, Any]]:
@@ -167,15 +169,15 @@ def run_on_worker(
     version: str,
     cells: Optional[Mapping[str, Any]] = None,
 ) -> TileDone:
-    """Process a tile in a worker process, and return the tile's results.
+    """Process a tile in a worker process and return the tile's results.
 
     Parameters
     ----------
     work : TileWork
     states : mapping of str to states
-        The files to read, and the state of each file on the machine of the call.
+        The files to read, and the state of each file on the calling machine.
     version : str
-        The version of this package on the machine of the call.
+        The version of this package on the calling machine.
     cells : mapping of str to array
         The computed cells of each map that is a Dask array.
 
@@ -184,12 +186,11 @@ def run_on_worker(
     WrongProgram
         The worker has a different version of this package.
     ReadFailed
-        A file on the worker's machine differs from the file on the machine of the call.
+        A file on the worker's machine differs from the file on the calling machine.
     """
     if version != _version():
-        problem = (
-            f"rcell {_version()} is installed{_where()}, and rcell {version} where the call is"
-        )
+        own = f"rcell {_version()} is installed{_where()}"
+        problem = f"{own}, but the calling machine has rcell {version}"
         raise WrongProgram(f"{problem}: install the same version")
     maps = dict(work.maps)
     for name, computed in (cells or {}).items():
@@ -215,7 +216,7 @@ def _version() -> str:
 
 
 def _where() -> str:
-    """Return this worker's address for messages, or an empty string outside a worker."""
+    """Return the words that name this worker in messages, or an empty string outside a worker."""
     if not _is_in_task():
         return ""
     return f" on the worker {sys.modules['distributed'].get_worker().address}"

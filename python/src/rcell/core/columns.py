@@ -25,8 +25,8 @@ class Column:
     ----------
     name : str
     kind : {"class", "label", "count", "measure"}
-        A class is an integer, with -2147483648 for null. A label is a string, or None if the label
-        is missing. A count is an integer. A measure is a float, or NaN if the measure is missing.
+        A class is an integer, with -2147483648 for null. A label is a string, or None if missing. A
+        count is an integer. A measure is a float, or NaN if missing.
     values : array, or list of str or None
     """
 
@@ -49,7 +49,7 @@ class Column:
 class Table:
     """A table of columns that have the same length and unique names.
 
-    If a name is repeated, the first number that makes the name unique is appended.
+    If a name is repeated, a number is appended to make it unique.
 
     Parameters
     ----------
@@ -83,16 +83,16 @@ class Table:
 
 
 class Matrix(Table):
-    """A table that has a column for each class of a map, after the columns that identify a row.
+    """A table with a column for each class of a map, after the columns that identify each row.
 
     Parameters
     ----------
     keys : list of Column
-        The columns that identify a row.
+        The columns that identify each row.
     across : str
         The name of the variable whose classes are the other columns.
     titles : list of str
-    values : array, a row for each row of the keys, a column for each title
+    values : array, rows x titles
     is_numbered : bool
         Whether the titles are class numbers.
     """
@@ -152,7 +152,7 @@ def _codes(classes: NDArray[np.int64]) -> tuple[NDArray[np.int64], NDArray[np.in
 def distinct_names(
     axes: Sequence[tuple[NDArray[np.int64], Mapping[int, str]]], taken: Sequence[str] = ()
 ) -> list[list[str]]:
-    """Return a unique name for each class on each axis: its label, or its number without a label.
+    """Return a unique name for each class on each axis: the label or, without one, the number.
 
     If two classes have the same label, their numbers are appended.
 
@@ -161,7 +161,7 @@ def distinct_names(
     axes : sequence of (array, mapping)
         The classes on each axis, and the labels of the classes.
     taken : sequence of str
-        The names that other columns already have.
+        Names that other columns already use.
 
     Examples
     --------

@@ -29,7 +29,7 @@ def composition(
     include_null: bool = False,
     crs: Any = None,
 ) -> Table:
-    """Count each class's cells, with areas and percentages, for the full map or by zone.
+    """Count the cells of each class, with areas and percentages, in the full map or by zone.
 
     Parameters
     ----------
@@ -45,16 +45,16 @@ def composition(
         A legend that replaces the map's or the zones' labels: a CSV or TSV file with the columns
         `value` and `label`, a QGIS style (`.qml`), or a dict or Series of labels by value.
     zone_field : str, optional
-        The polygon field that contains the ids or names of the zones. By default, a zone is
-        identified by the id of its feature, which is the index of a GeoDataFrame.
+        The polygon field that contains the ids or names of the zones. By default, zones are
+        identified by feature id, which is the index for a GeoDataFrame.
     layer : str, optional
-        The layer to read, if the polygon file has several layers.
+        The layer to read if the polygon file has several layers.
     each : bool
         Whether to process overlapping polygons separately, so that each polygon counts all of its
         cells. By default, cells in several polygons belong to the last polygon, and a warning is
         issued.
     include_null : bool
-        Whether null cells are also counted.
+        Whether to also count null cells.
     crs : any, optional
         The coordinate reference system to assume for maps that do not have one.
 
@@ -63,7 +63,7 @@ def composition(
     pandas.DataFrame
         The columns are `zone` and `zone_label` (if there are zones), `class`, `label` (if there are
         labels), `cells`, `area_ha` and `percent`. `percent` is the class's percentage of the zone's
-        area that is not null or, without areas, of the zone's non-null cells.
+        non-null area or, without areas, of the zone's non-null cells.
 
     Raises
     ------
@@ -103,7 +103,7 @@ def cross(
     crs: Any = None,
     **named: MapLike,
 ) -> Table:
-    """Count each combination of classes in several maps, with areas and percentages.
+    """Count the cells of each combination of classes in several maps, with areas and percentages.
 
     Parameters
     ----------
@@ -112,20 +112,20 @@ def cross(
     area : {"ha", "km2", "m2"} or None
         The unit of areas, as in `composition`.
     labels : mapping, optional
-        A legend, as in `composition`, for each map name.
+        Legends by map name, each as in `composition`.
     include_null : bool
-        Whether combinations that contain null are also counted.
+        Whether to also count combinations that contain null.
     crs : any, optional
         The coordinate reference system to assume for maps that do not have one.
     **named
-        At most 16 maps by name, or 15 if the maps are in degrees.
+        At most 16 maps by name, or 15 if areas are computed for maps in degrees.
 
     Returns
     -------
     pandas.DataFrame
         For each map, a column `NAME` and, if the map has labels, a column `NAME_label`, followed by
-        `cells`, `area_ha` and `percent`. `percent` is the row's percentage of the area (without
-        areas, of the cells) that is not null in any map.
+        `cells`, `area_ha` and `percent`. `percent` is the row's percentage of the area (or, without
+        areas, of the cells) in which no map is null.
 
     Raises
     ------
@@ -151,10 +151,8 @@ def cross(
             if isinstance(legends, Mapping)
             else labels
         )
-        rule = (
-            f"must be by the names of the maps; got {wrong!r}: write {{{next(iter(sources))!r}: "
-            f'"legend.csv"}}'
-        )
+        example = f'{{{next(iter(sources))!r}: "legend.csv"}}'
+        rule = f"must contain legends by map name, for example {example}; got {wrong!r}"
         raise BadArgument("labels", rule)
     crossed = Maps(sources, crs)
     measure = crossed.measure(area)

@@ -24,7 +24,8 @@ _STATUS = 2
 def converted(path: str, to_esri: bool) -> Optional[Iterator[bytes]]:
     """Convert a text grid to the ESRI ASCII or rcell format.
 
-    Returns the pieces of the text, or None if the file is not a text grid.
+    Returns the text in pieces, or None if the file is not a text grid, or is an ESRI ASCII grid and
+    `to_esri` is true.
     """
     try:
         with open(path, "rb") as file:
@@ -68,14 +69,16 @@ def like(raster: Any, path: str) -> Any:
     other = source_of("like", path)
     mine, its = raster.region, other.region
     if mine.shape != its.shape:
-        sizes = f"{its.rows} rows and {its.cols} columns; the map has {mine.rows} and {mine.cols}"
+        sizes = (
+            f"{its.rows} rows and {its.cols} columns, but the map has {mine.rows} and {mine.cols}"
+        )
         raise Refused(f"{path} has {sizes}", "like", status=1)
     height = (its.north - its.south) / its.rows
     width = (its.east - its.west) / its.cols
     for name, size in (("north", height), ("south", height), ("east", width), ("west", width)):
         edge, other_edge = getattr(mine, name), getattr(its, name)
         if abs(edge - other_edge) * 2 > size:
-            difference = f"{name} is {other_edge}, and {edge} in the map"
+            difference = f"{name} is {other_edge}, but {edge} in the map"
             raise Refused(f"{path}: {difference}: more than half a cell apart", "like", status=1)
     crs = raster.crs if other.crs is None else other.crs
     legend = {"labels": raster.labels, "colors": raster.colors}

@@ -1,5 +1,5 @@
 # SPDX-License-Identifier: Apache-2.0 OR GPL-2.0-or-later
-"""Read the maps of a call, and count the combinations of the maps' classes."""
+"""Read the maps of a call and count the combinations of their classes."""
 
 from __future__ import annotations
 
@@ -25,7 +25,7 @@ from .zones import Zones, zones_of
 
 __all__ = ["Counts", "Maps", "coded", "legend_for", "places_of"]
 
-# The largest number of maps in one r.stats; in degrees, one of them holds row numbers.
+# The largest number of maps in one r.stats; in degrees, one of the maps contains row numbers.
 MOST_MAPS = 16
 
 Integers = NDArray[np.int64]
@@ -41,8 +41,8 @@ class Counts:
         The combinations in ascending order. Null is -2147483648 and is sorted last.
     cells : array of int64
     area : array of float64 or None
-        The areas in the unit of the call, if the maps are in degrees. None for other maps, because
-        their areas follow from the numbers of cells.
+        The areas in the requested unit if the maps are in degrees. None for other maps, whose areas
+        follow from the numbers of cells.
     """
 
     classes: Integers
@@ -65,7 +65,7 @@ class Counts:
         return Counts(self.classes[first], np.add.reduceat(self.cells, first), area)
 
     def weights(self) -> NDArray[Any]:
-        """Return the weights for percentages: areas in degrees, exact cell counts otherwise."""
+        """Return the weights for percentages: areas for maps in degrees, otherwise cell counts."""
         return self.cells if self.area is None else self.area
 
     def areas(self, measure: Measure) -> NDArray[np.float64]:
@@ -94,7 +94,7 @@ class Counts:
     def columns(
         self, measure: Measure, percent: Optional[NDArray[np.float64]] = None
     ) -> list[Column]:
-        """Return the columns of cells, areas and percentages for a table."""
+        """Return a table's columns of cells and, if requested, of areas and percentages."""
         columns = [Column("cells", "count", self.cells)]
         if measure.unit is not None:
             columns.append(Column(f"area_{measure.unit}", "measure", self.areas(measure)))
@@ -171,9 +171,9 @@ class Maps:
         return runs[0][:once] + merged
 
     def ask(self, question: Question, clump: str, fold: PatchFold) -> bool:
-        """Pass the patches of a map to a fold, as `runs.ask` does, and return True.
+        """Pass the patches of a map to a fold with `runs.ask`, and return whether they were passed.
 
-        Returns False without a result if overlapping polygons are processed separately.
+        No patches are passed if overlapping polygons are processed separately.
         """
         if self._zones is not None and len(self._zones.maps) > 1:
             return False
@@ -188,7 +188,7 @@ class Maps:
         lines = ["r.mapcalc row = row()"] if rows else []
         for names in tables:
             if len(names) + len(rows) > MOST_MAPS:
-                most = f"{MOST_MAPS - len(rows)}{' in degrees' if rows else ''}"
+                most = f"{MOST_MAPS - len(rows)} maps{' in degrees' if rows else ''}"
                 raise BadArgument("maps", f"must be at most {most}; got {len(names)}")
             lines.append(f"r.stats {flags} input={','.join([*rows, *names])}")
         return [counts_of(values, measure) for values in self.tables("\n".join(lines))]
@@ -209,7 +209,8 @@ class Maps:
 def counts_of(values: Integers, measure: Measure) -> Counts:
     """Return the counts of the combinations in a table.
 
-    In degrees, the table's first column is the row of the map, and counts are summed over all rows.
+    If the maps are in degrees, the table's first column contains map rows, over which the counts
+    are summed.
     """
     if measure.by_row is None:
         return Counts(values[:, :-1], values[:, -1].copy(), None)
@@ -246,7 +247,7 @@ def legend_for(
     classes : sequence of (str, array)
         The name and the classes of each map.
     argument : str
-        The name of the argument for the legend.
+        The name of the legend's argument, for warnings.
     """
     if legend is None:
         return own
@@ -258,7 +259,7 @@ def legend_for(
     if lacking:
         codes = sorted(lacking)
         names = dict.fromkeys(name for code in codes for name in lacking[code])
-        warn(f"{argument}: no label for {first_of(codes)} of {' and '.join(names)}")
+        warn(f"{argument}: no label for {first_of(codes)} in {' and '.join(names)}")
     return labels
 
 

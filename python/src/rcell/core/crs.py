@@ -1,5 +1,5 @@
 # SPDX-License-Identifier: Apache-2.0 OR GPL-2.0-or-later
-"""Compare coordinate reference systems, and find the units of maps."""
+"""Compare coordinate reference systems and look up their units."""
 
 from __future__ import annotations
 
@@ -61,12 +61,12 @@ class Crs:
     @property
     def name(self) -> str:
         """The code and the title of the system, for messages."""
-        title = self.title or "a system without a name"
+        title = self.title or "an unnamed system"
         return f"{self.codes[0]} ({title})" if self.codes else title
 
     @property
     def code(self) -> str:
-        """The first code of the system, for commands and options."""
+        """The first code of the system, for commands and options, or `WKT` without a code."""
         return self.codes[0] if self.codes else "WKT"
 
     def same(self, other: Crs) -> bool:
@@ -86,13 +86,13 @@ class Crs:
     ) -> tuple[NDArray[Any], NDArray[Any]]:
         """Transform points to another system.
 
-        Points outside the other system become infinite or NaN.
+        Points outside the other system's domain become infinite or NaN.
         """
         raise NotImplementedError
 
 
 def eastward(projjson: str) -> str:
-    """Return a system's PROJJSON with the axes in the order x, y, and without a code.
+    """Return a system's PROJJSON with the axes in the order x, y and without a code.
 
     Examples
     --------
@@ -114,7 +114,7 @@ def known(crs: Any) -> Crs | None:
     Raises
     ------
     ValueError
-        The string is not understood.
+        The reference system is not understood.
     MissingLibrary
         Neither pyproj nor GDAL's Python package is installed.
     """
@@ -132,7 +132,7 @@ def _known(text: str) -> Crs:
 
 
 def _text_of(crs: Any) -> str:
-    """Return a library's reference system as a string, or an empty string for None."""
+    """Return a reference system as a string, or an empty string for None."""
     if crs is None:
         return ""
     for method in ("to_wkt", "ExportToWkt"):
@@ -199,14 +199,16 @@ def common_crs(
     warp : str
         The name of the GDAL program that reprojects the maps, for messages.
     titles : mapping of str to str, optional
-        The names of the maps in messages, if these names differ from the names in `maps`.
+        The names of the maps in messages, if they differ from the names in `maps`.
 
     Raises
     ------
     OtherCrs
-        Two reference systems differ, or some maps have none and `stated` is not given.
-    Refused
-        The stated reference system cannot be understood.
+        Two reference systems differ, or only some maps have one and `stated` is not given.
+    BadMap
+        The reference system of a map is not understood.
+    BadArgument
+        The stated reference system is not understood.
 
     Examples
     --------
@@ -254,7 +256,7 @@ def are_same_crs(crs: Any, other: Any) -> bool:
 
 
 def is_geographic(crs: Any) -> bool:
-    """Return whether a reference system is in degrees, which is False for None.
+    """Return whether a reference system is in degrees (False for None).
 
     Examples
     --------
