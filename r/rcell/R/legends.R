@@ -81,6 +81,6 @@ quoted_if_empty <- function(text) if (is.na(text) || !nzchar(text)) "\"\"" else 
 check_legend <- function(labels, codes, map, name = "labels") {
   without <- if (isTRUE(labels$is_legend)) setdiff(sort(unique(codes)), labels$codes)
   if (length(without)) {
-    warning(sprintf("%s: no label for %s of %s", name, shortened(without), map), call. = FALSE)
+    warning(sprintf("%s: no label for %s in %s", name, shortened(without), map), call. = FALSE)
   }
 }

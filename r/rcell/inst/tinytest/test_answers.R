@@ -105,7 +105,7 @@ expect_inherits(refusal(rcell_composition(land, zones = project(shapes, "EPSG:43
 legend <- function(...) { path <- file.path(room, "legend.csv"); writeLines(c(...), path, useBytes = TRUE); path }
 wanted <- c("wood, wet", "Wiese \u00fc", NA, "say \"x\"")
 csv <- legend("value,label,colour", "1,\"wood, wet\",#00ff00", "2,Wiese \u00fc,", "4,\"say \"\"x\"\"\",#0000ff")
-expect_warning(found <- rcell_composition(land, labels = csv), "labels: no label for 3 of map")
+expect_warning(found <- rcell_composition(land, labels = csv), "labels: no label for 3 in map")
 expect_identical(found$label, wanted)
 style <- file.path(room, "style.qml")
 writeLines(c("<qgis><paletteEntry value=\"1\" color=\"#00ff00\" label=\"wood, wet\"/>", "<paletteEntry alpha='255' value='2' label='Wiese \u00fc'/>",
