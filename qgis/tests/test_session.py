@@ -619,7 +619,7 @@ class MapsTest(InSession):
             )["OUTPUT"]
         )[1]
         self.assertEqual([row[:2] for row in rows], [[7, "North"], [8, None]])
-        self.assertIn("warning: labels: no label for 8 of zones", self.log.told)
+        self.assertIn("warning: labels: no label for 8 in zones", self.log.told)
 
     def test_records_are_verified_and_reported(self) -> None:
         path, words = self.path("t.csv"), {"INPUT": self.cover, "RECORD": True}
