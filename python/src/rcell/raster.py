@@ -169,7 +169,7 @@ class Raster:
 
     @property
     def res(self) -> tuple[float, float]:
-        """The width and the height of a cell, in the units of the map.
+        """The width and the height of a cell, in map units.
 
         Examples
         --------

@@ -1,5 +1,5 @@
 # SPDX-License-Identifier: Apache-2.0 OR GPL-2.0-or-later
-"""Import the optional libraries that only some calls need."""
+"""Import optional libraries, which only some calls need."""
 
 from __future__ import annotations
 
@@ -13,7 +13,7 @@ __all__ = ["has", "need"]
 
 
 def has(library: str) -> bool:
-    """Return whether a library can be imported.
+    """Return whether a library is installed.
 
     Examples
     --------
@@ -24,7 +24,7 @@ def has(library: str) -> bool:
 
 
 def need(library: str, extra: str, purpose: str) -> Any:
-    """Import a module by its full name, or raise MissingLibrary if the import fails.
+    """Import and return a module, or raise MissingLibrary if it cannot be imported.
 
     Examples
     --------

@@ -1,9 +1,9 @@
 # SPDX-License-Identifier: Apache-2.0 OR GPL-2.0-or-later
-"""Read the text output of the programs.
+"""Parse the text output of the programs.
 
-This module needs numpy. rcell-pipe reads and writes binary data. Only two kinds of output are text:
-users' text grids, which rcell prints in a normal form, and the tables and numberings of rcell-join,
-whose formats are described in docs/rcell-join.md.
+This module requires numpy. rcell-pipe writes binary data, so only two kinds of output are text: the
+text grids that rcell prints, and the tables and numberings of rcell-join, whose formats are
+described in docs/rcell-join.md.
 """
 
 from __future__ import annotations
@@ -24,8 +24,8 @@ if TYPE_CHECKING:
 
 __all__ = ["PrintedGrid", "numbers_of", "printed_grid"]
 
-# The bytes allowed in lines of numbers. The lower half of a code is the kind's bit. The upper half
-# contains the bits of the kinds that must not follow it.
+# The code of each kind of byte that lines of numbers may contain. The low four bits identify the
+# kind, and the high four bits identify the kinds that must not follow it.
 _KINDS = {b"0123456789": 0x61, b"-": 0xE2, b"*": 0x74, b" \n": 0x88}
 _CODE_OF = {byte: code for kind, code in _KINDS.items() for byte in kind}
 _CODES = bytes(_CODE_OF.get(byte, 0xFF) for byte in range(256))
@@ -36,9 +36,9 @@ _HEADER_BYTES = 1 << 8
 
 
 def numbers_of(text: bytes, width: int) -> NDArray[np.int64]:
-    """Convert lines of `width` whole numbers each to an array, in which null is `NULL`.
+    """Convert lines of `width` whole numbers to an array with one row per line and `NULL` for null.
 
-    Numbers of 2^63 or more wrap around, because 2^64 is subtracted.
+    Numbers of 2^63 or more wrap around to negative numbers.
 
     Raises
     ------
@@ -55,16 +55,16 @@ def numbers_of(text: bytes, width: int) -> NDArray[np.int64]:
     separators = text.translate(None, b"0123456789-*")
     line = b" " * (width - 1) + b"\n"
     if separators != line * text.count(b"\n") or (may_not_follow & codes[1:]).any():
-        raise NoAnswer(f"not lines of {width} numbers: {text[:60]!r}")
+        raise NoAnswer(f"the program did not print lines of {width} numbers: {text[:60]!r}")
     words = text.replace(b"*", b"%d" % NULL)
     numbers = np.fromstring(words, np.ulonglong, sep=" ")
     return numbers.view(np.int64).reshape(-1, width)
 
 
 class PrintedGrid(NamedTuple):
-    """A grid that rcell printed, with its edges, size and rows.
+    """A text grid that rcell printed: its edges, its size, and an iterator over its cells.
 
-    The rows are in blocks, in which null is `NULL`.
+    The iterator yields blocks of rows, in which null is `NULL`.
     """
 
     edges: tuple[str, ...]
@@ -80,7 +80,7 @@ def printed_grid(
     seconds: Optional[float] = None,
     watch: Optional[Callable[[], None]] = None,
 ) -> Iterator[PrintedGrid]:
-    """Print a text grid with rcell and read the output.
+    """Print a text grid with rcell, and yield the printed grid.
 
     The parameters and errors are the same as for `printing.printed`.
     """
@@ -90,22 +90,22 @@ def printed_grid(
             text += piece
             header = _HEADER.match(text)
         if not header:
-            raise NoAnswer(f"no grid: {text[:60]!r}")
+            raise NoAnswer(f"the program did not print a grid: {text[:60]!r}")
         *edges, rows, cols = map(bytes.decode, header.groups())
         rest = chain([text[header.end() :]], pieces)
         yield PrintedGrid(tuple(edges), int(rows), int(cols), _blocks(rest, int(rows), int(cols)))
 
 
 def _blocks(pieces: Iterator[bytes], rows: int, cols: int) -> Iterator[NDArray[np.int32]]:
-    """Yield blocks of rows, or raise NoAnswer if the number of rows is not `rows`."""
+    """Yield blocks of rows, and raise NoAnswer unless there are exactly `rows` rows."""
     rest = b""
     for piece in pieces:
         lines, end, rest = (rest + piece).rpartition(b"\n")
         block = numbers_of(lines + end, cols).astype(np.int32)
         rows -= len(block)
         if rows < 0:
-            raise NoAnswer(f"too many rows: {piece[:60]!r}")
+            raise NoAnswer(f"the program printed too many rows: {piece[:60]!r}")
         if end:
             yield block
     if rows or rest:
-        raise NoAnswer(f"too few rows: {rest[:60]!r}")
+        raise NoAnswer(f"the program printed too few rows: {rest[:60]!r}")

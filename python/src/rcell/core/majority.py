@@ -1,5 +1,5 @@
 # SPDX-License-Identifier: Apache-2.0 OR GPL-2.0-or-later
-"""Filter maps with a majority filter, which assigns the most frequent nearby class to a cell."""
+"""Apply a majority filter, which assigns each cell the most frequent class around it."""
 
 from __future__ import annotations
 
@@ -21,7 +21,7 @@ _TOKENS_OF_NAME = 2
 
 
 def majority(map: MapLike, size: int = 3, fill: bool = False, *, crs: Any = None) -> ArrayMap:
-    """Assign to each cell the most frequent class in the square around the cell.
+    """Assign each cell the most frequent class in the square around it.
 
     In a tie, the smallest class is used.
 

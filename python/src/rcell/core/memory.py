@@ -1,5 +1,5 @@
 # SPDX-License-Identifier: Apache-2.0 OR GPL-2.0-or-later
-"""Find out how much memory and how many processors this process may use."""
+"""Determine the memory and the number of processors available to this process."""
 
 from __future__ import annotations
 
@@ -9,7 +9,7 @@ import os
 __all__ = ["free_memory", "processors"]
 
 _GROUP = "/sys/fs/cgroup"
-# The assumed free memory if the system does not report it.
+# The free memory to assume if the system does not report it.
 _UNKNOWN = 4 << 30
 
 
@@ -21,7 +21,7 @@ def processors() -> int:
 
 
 def free_memory() -> int:
-    """Return the free memory in bytes that the machine and the control group allow."""
+    """Return the available memory in bytes, as limited by the machine and the control group."""
     limits = [_UNKNOWN]
     with contextlib.suppress(OSError, ValueError, KeyError, IndexError):
         with open("/proc/meminfo", encoding="ascii") as file:

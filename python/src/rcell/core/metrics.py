@@ -1,8 +1,8 @@
 # SPDX-License-Identifier: Apache-2.0 OR GPL-2.0-or-later
-"""Compute landscape metrics for patches, classes and landscapes, for the full map or by zone.
+"""Compute landscape metrics of patches, classes and landscapes, for the full map or by zone.
 
-Definitions follow FRAGSTATS 4 (McGarigal, Cushman and Ene 2012), without background. Edges are
-borders between two classes.
+The definitions follow FRAGSTATS 4 (McGarigal, Cushman and Ene 2012), without a background class.
+Edges are borders between two classes.
 """
 
 from __future__ import annotations
@@ -46,15 +46,15 @@ def metrics(
     each: bool = False,
     crs: Any = None,
 ) -> Table:
-    """Compute landscape metrics for each class, for each patch, or for the landscape.
+    """Compute landscape metrics of each class, each patch or each landscape.
 
     Parameters
     ----------
     map : path, array, or any map that `run` accepts
     level : {"class", "landscape", "patch"}
+        What each row of the table describes.
     connectivity : {4, 8}
-        The cells that belong to the same patch: 4 connects cells that share an edge, and 8 also
-        connects cells that share a corner.
+        4 connects cells that share an edge, and 8 also connects cells that share a corner.
     area : {"ha", "km2", "m2"} or None
         The unit of areas, as in `composition`. Without areas, sizes are in cells.
     zones : map, or path of polygons, GeoDataFrame or GeoSeries, optional
@@ -72,17 +72,18 @@ def metrics(
     Returns
     -------
     pandas.DataFrame
-        The first columns are `zone`, `zone_label`, `class` and `label`. For classes, the other
-        columns are `cells`, `area_ha`, `percent`, `patches`, `patches_km2`,
+        If there are zones, the first columns are `zone` and `zone_label`. For classes, the columns
+        are `class`, `label`, `cells`, `area_ha`, `percent`, `patches`, `patches_km2`,
         `largest_patch_percent`, `mean_patch_ha`, `area_weighted_mean_patch_ha`,
         `effective_mesh_ha`, `edge_m`, `edge_density_m_ha`, `mean_shape_index`, `aggregation_index`,
-        `cohesion` and `interspersion_index`. For landscapes, the columns `classes`, `contagion`,
-        `shannon_diversity`, `shannon_evenness` and `simpson_diversity` are added. For patches, the
-        columns are `patch`, `class`, `label`, `cells`, `area_ha`, `perimeter_m`, `shape_index` and
-        `fractal_dimension`. A landscape consists of all non-null cells of the map or zone.
-        Percentages and densities refer to the landscape, and edges are cell sides between two
-        classes of the landscape. Undefined measures are NaN. Measures that need a length are NaN if
-        the map has no reference system or, with a warning, if the map is in degrees.
+        `cohesion` and `interspersion_index`. For landscapes, `classes`, `contagion`,
+        `shannon_diversity`, `shannon_evenness` and `simpson_diversity` replace `class`, `label` and
+        `percent`. For patches, the columns are `patch`, `class`, `label`, `cells`, `area_ha`,
+        `perimeter_m`, `shape_index` and `fractal_dimension`. A landscape consists of all non-null
+        cells of the map or zone. Percentages and densities refer to the landscape, and edges are
+        cell sides between two classes of the landscape. Undefined measures are NaN. Measures that
+        depend on a length are NaN if the map has no reference system or, with a warning, if the map
+        is in degrees.
 
     Raises
     ------
@@ -205,7 +206,7 @@ def _of_sizes(
     edges: Floats,
     measure: Measure,
 ) -> list[Column]:
-    """Return the columns of measures that classes and landscapes have in common.
+    """Return the columns that classes and landscapes have in common.
 
     `groups` contains the index of each patch's class or landscape.
     """

@@ -1,5 +1,5 @@
 # SPDX-License-Identifier: Apache-2.0 OR GPL-2.0-or-later
-"""Read several files as one map, given a list of files or a pattern of file names."""
+"""Read several files, given as a list or as a file name pattern, as one map."""
 
 from __future__ import annotations
 
@@ -26,19 +26,19 @@ _WILD = "*?["
 
 
 class Part(NamedTuple):
-    """A file in a mosaic, and the rectangle that the file covers in the map."""
+    """A file in a mosaic, and the rectangle of the map that the file covers."""
 
     source: Any
     place: Rectangle
 
 
 def is_pattern(path: str) -> bool:
-    """Return whether a path is a pattern of file names and not an existing file."""
+    """Return whether a path is a file name pattern rather than an existing file."""
     return any(letter in path for letter in _WILD) and not os.path.exists(path)
 
 
 def open_pattern(name: str, pattern: str) -> Source:
-    """Open the files that match a pattern as one map, in the order of the file names."""
+    """Open the files that match a pattern as one map, in alphabetical order."""
     paths = sorted(glob.glob(pattern, recursive=True))
     if not paths:
         raise ReadFailed(name, f"cannot open: {pattern}: no file matches it")
@@ -60,8 +60,8 @@ def open_files(name: str, paths: Sequence[Any]) -> Source:
     Raises
     ------
     OtherCrs, OtherRegion, BadMap
-        Two files differ in reference system, cell size, alignment, type or nodata value. The
-        message names both files and the difference.
+        Two files differ in reference system, cell size, alignment, data type or nodata value. The
+        message names both files and describes the difference.
     ReadFailed
         A file cannot be opened.
     """
@@ -101,7 +101,7 @@ def open_files(name: str, paths: Sequence[Any]) -> Source:
 
 
 def _shift_of(name: str, first: Any, source: Any) -> tuple[int, int]:
-    """Return the row and column of the first file at which another file begins.
+    """Return the row and column of the first file's grid at which another file begins.
 
     Raises OtherRegion or BadMap if the two files cannot be combined.
     """
@@ -123,7 +123,7 @@ def _shift_of(name: str, first: Any, source: Any) -> tuple[int, int]:
 
 
 def _is_full(parts: Sequence[Part], cells: int) -> bool:
-    """Return whether files cover all cells of a map of the given size without overlaps."""
+    """Return whether files cover all `cells` cells of a map without overlaps."""
     corners = np.array([place for _, place in parts])
     is_apart = all(len(_near(corners, place)) == 1 for _, place in parts)
     return is_apart and sum(place.cells for _, place in parts) == cells
@@ -178,7 +178,7 @@ class MosaicMap:
 
     @cached_property
     def overlaps(self) -> Sequence[tuple[int, int]]:
-        """The pairs of overlapping files as indices, with the later file first."""
+        """The pairs of overlapping files, as indices with the later file first."""
         pairs = []
         for index, (_, place) in enumerate(self.parts):
             for other in _near(self._places, place).tolist():
@@ -187,9 +187,9 @@ class MosaicMap:
         return pairs
 
     def sent(self, outer: Rectangle) -> Optional[MosaicMap]:
-        """Return a map that contains only the files in a window, and at least one file.
+        """Return a map of only the files in a window, or of the first file if there are none.
 
-        Returns None if a file cannot be opened by another process.
+        Returns None if another process cannot open one of these files.
         """
         parts = []
         for index in _near(self._places, outer).tolist() or [0]:
@@ -231,19 +231,19 @@ class MosaicMap:
 
     @property
     def block_shape(self) -> tuple[int, int]:
-        """The numbers of rows and columns in a block of the first file."""
+        """The number of rows and columns in each block of the first file."""
         shape: tuple[int, int] = self.parts[0].source.block_shape
         return shape
 
     def blocks(self) -> Iterator[Block]:
-        """Yield blocks of full rows from north to south."""
+        """Yield the rows from north to south."""
         rows, cols = self.region.shape
         step = max(1, BLOCK_CELLS // cols)
         for row in range(0, rows, step):
             yield self.window(row, 0, min(step, rows - row), cols)
 
     def window(self, row: int, col: int, rows: int, cols: int) -> Block:
-        """Return the cells in a window, whose row and column are counted from the north-west."""
+        """Return a window of cells, with rows and columns counted from the north-west corner."""
         place, nodata = Rectangle(row, col, rows, cols), self.nodata
         cells = np.full((rows, cols), 0 if nodata is None else nodata, self.dtype)
         null = np.ones((rows, cols), np.bool_) if self.is_masked else None

@@ -1,5 +1,5 @@
 # SPDX-License-Identifier: Apache-2.0 OR GPL-2.0-or-later
-"""Choose colours for classes that do not have a colour."""
+"""Choose colours for classes that have none."""
 
 from __future__ import annotations
 
@@ -11,7 +11,7 @@ _GOLDEN = 0.618033988749895
 
 
 def colour_at(place: int) -> tuple[int, int, int]:
-    """Return the fixed colour for a position in a legend, distinct from neighbouring colours.
+    """Return the RGB colour for a position in a legend, distinct from the colours next to it.
 
     Examples
     --------

@@ -1,5 +1,5 @@
 # SPDX-License-Identifier: Apache-2.0 OR GPL-2.0-or-later
-"""Measure the patches of a map, either in the program or from the tables of a script."""
+"""Measure the patches of a map, either with the program or from the tables of a script."""
 
 from __future__ import annotations
 
@@ -34,7 +34,7 @@ class PatchMeasures:
         The patch numbers from r.clump, in ascending order.
     classes, cells, core : array of int64
         The class, the number of cells, and the number of core cells. A cell is in the core if all
-        cells that can be reached within the core depth, across edges, are in the same patch.
+        cells within the core depth, counted in steps across edges, are in the same patch.
     ends, flanks : array of int64
         The numbers of cell sides on the patch's border: northern and southern sides (ends), and
         western and eastern sides (flanks).
@@ -92,7 +92,7 @@ def patch_measures(
 
 
 def _of_sum(found: PatchSum, measure: Measure) -> PatchMeasures:
-    """Convert the program's counts of patches to measures of patches."""
+    """Convert the program's patch counts to patch measures."""
     counts, has_area = dict(found.counts), measure.unit is not None
     zones = counts.pop("zones", None)
     return PatchMeasures(
@@ -106,7 +106,7 @@ def _of_sum(found: PatchSum, measure: Measure) -> PatchMeasures:
 
 
 def _zones(numbers: Integers, table: Integers) -> Integers:
-    """Return the zone that contains most cells of each patch, or null if no cell is in a zone.
+    """Return the zone that contains most of each patch's cells, or null if no cell is in a zone.
 
     In a tie, the smallest zone is returned.
 
@@ -126,9 +126,9 @@ def _zones(numbers: Integers, table: Integers) -> Integers:
 
 
 def _places(numbers: Integers, of: Integers) -> tuple[NDArray[np.intp], NDArray[np.bool_]]:
-    """Look up values in an ascending array of numbers.
+    """Look up values in an ascending array.
 
-    Returns the index of each value that is found, and a mask of the values that are found.
+    Returns the indices of the values that are found, and a mask of these values.
     """
     at = np.minimum(np.searchsorted(numbers, of), max(numbers.size - 1, 0))
     kept = numbers[at] == of if numbers.size else np.zeros(of.size, np.bool_)
@@ -136,7 +136,7 @@ def _places(numbers: Integers, of: Integers) -> tuple[NDArray[np.intp], NDArray[
 
 
 def clump_line(connectivity: int, name: str = "map") -> str:
-    """Return the script line that numbers the patches of a map."""
+    """Return the script line that numbers a map's patches."""
     return f"r.clump {'-d ' if connectivity == 8 else ''}input={name} output=patch"
 
 
@@ -265,7 +265,7 @@ class _Tables:
     ) -> tuple[Optional[Floats], Optional[Floats]]:
         """Return the areas of the patches and of their cores, or None if no areas are wanted.
 
-        In degrees, areas are summed over rows.
+        If the map is in degrees, areas are summed row by row.
         """
         if measure.by_row is None:
             has_area = measure.unit is not None

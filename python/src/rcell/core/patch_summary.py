@@ -28,7 +28,7 @@ def class_summary(
     fewest: int,
     labels: Any = None,
 ) -> Table:
-    """Return the columns of a table with each class's number of patches and patch sizes.
+    """Return a table with the number of patches and the patch sizes of each class.
 
     Parameters
     ----------
@@ -52,7 +52,7 @@ def class_summary(
 
 
 class Numbers(NamedTuple):
-    """The totals of a class's patches: patches, cells, area and largest patch."""
+    """The totals of a class: patches, cells, area, and the size of the largest patch."""
 
     patches: int = 0
     cells: int = 0
@@ -72,10 +72,11 @@ class Numbers(NamedTuple):
 
 
 class _Summary:
-    """The totals of each class's patches, which are added up tile by tile.
+    """Adds up the patches of each class, tile by tile.
 
-    Patches that may continue in other tiles wait until the tiles are joined. Tiles may be added in
-    any order. Areas are summed in the order of the tiles, so that rounding is reproducible.
+    Patches that may continue in other tiles are set aside until the tiles are joined. Tiles may be
+    added in any order. Areas are summed in the order of the tiles, so that rounding is
+    reproducible.
     """
 
     def __init__(self, measure: Measure, classes: Optional[list[int]], fewest: int) -> None:
@@ -84,10 +85,10 @@ class _Summary:
         self._complete: dict[int, dict[int, Numbers]] = {}
 
     def add(self, tile: int, table: Integers, waiting: Integers) -> None:
-        """Add a tile's table, and keep the patches that may continue in other tiles waiting.
+        """Add a tile's table, and set aside the patches that may continue in other tiles.
 
         The table's columns are class, patch, row (only in degrees) and cells. `waiting` lists the
-        numbers of the patches that may continue.
+        numbers of these patches.
         """
         if self._listed is not None:
             table = table[np.isin(table[:, 0], self._listed)]
@@ -97,7 +98,7 @@ class _Summary:
         self._complete[tile] = self._counted(patches[~is_open], area[~is_open])
 
     def join(self, numbers_of: Callable[[int, Integers], Integers]) -> None:
-        """Count the waiting patches.
+        """Count the patches that were set aside.
 
         `numbers_of` returns the numbers of a tile's patches in the full map.
         """
@@ -112,17 +113,14 @@ class _Summary:
         self._complete[tiles[-1] + 1] = self._counted(*joined)
 
     def _patches_of(self, table: Integers) -> tuple[Integers, Floats]:
-        """Return the patches of a table, and their areas.
-
-        The columns of the patches are class, number and cells.
-        """
+        """Return the patches in a table as rows of class, number and cells, and their areas."""
         if self._measure.by_row is None:
             return table, self._measure.area(table[:, -1])
         area = table[:, -1] * self._measure.by_row[table[:, 2] - 1] / self._measure.divisor
         return _added(table[:, [0, 1, 3]], area)
 
     def _counted(self, patches: Integers, area: Floats) -> dict[int, Numbers]:
-        """Return the totals by class, counting only patches with enough cells."""
+        """Return the totals by class, counting only patches that are large enough."""
         is_large = patches[:, 2] >= self._fewest
         patches, area = patches[is_large], area[is_large]
         first = places_of(patches[:, 0])

@@ -43,7 +43,7 @@ def patches(
     summary: str | None = None,
     crs: Any = None,
 ) -> Table:
-    """List a map's patches, which are connected cells of one class, numbered as in r.clump.
+    """List a map's patches: groups of connected cells of one class, numbered as in r.clump.
 
     Parameters
     ----------
@@ -51,14 +51,14 @@ def patches(
     connectivity : {4, 8}
         4 connects cells that share an edge, and 8 also connects cells that share a corner.
     area : {"ha", "km2", "m2"} or None
-        The unit of areas, as in `composition`. Without areas, the table has a column `core_cells`.
+        The unit of areas, as in `composition`. Without areas, `core_cells` replaces `core_ha`.
     zones : map, or path of polygons, GeoDataFrame or GeoSeries, optional
-        The zones, as in `composition`. A patch is assigned to the zone that contains most of the
-        patch's cells. In a tie, the smallest zone is used.
+        The zones, as in `composition`. A patch is assigned to the zone that contains most of its
+        cells. In a tie, the smallest zone is used.
     classes : int or iterable of int, optional
-        List only patches of these classes. The numbers of the patches do not change.
+        List only patches of these classes. Patch numbers do not change.
     min_cells : int, optional
-        List only patches with at least this many cells. The numbers of the patches do not change.
+        List only patches with at least this many cells. Patch numbers do not change.
     core_depth : int
         The depth of the core in steps across edges. A cell is in the core of a patch if all cells
         within this many steps are in the patch.
@@ -131,7 +131,7 @@ def patches(
 
 
 def _areas(found: PatchMeasures, measure: Measure) -> list[Column]:
-    """Return columns of patch areas and core areas or, without areas, of core cells."""
+    """Return the columns of patch and core areas or, without areas, the column of core cells."""
     if found.area is None or found.core_area is None:
         return [Column("core_cells", "count", found.core)]
     return [
@@ -149,7 +149,7 @@ def _perimeter(found: PatchMeasures, transform: Transform, unit: float) -> NDArr
 
 
 def _extents(found: PatchMeasures, transform: Transform) -> list[Column]:
-    """Return columns with the bounding box of each patch."""
+    """Return the columns with the bounding box of each patch."""
     width, _, west, _, height, north = transform
     edges = {
         "west": west + width * found.left,
@@ -176,10 +176,10 @@ def clump(
     connectivity : {4, 8}
         4 connects cells that share an edge, and 8 also connects cells that share a corner.
     classes : int or iterable of int, optional
-        Keep only patches of these classes. All other cells become null. The numbers of the patches
-        do not change.
+        Keep only patches of these classes. All other cells become null. Patch numbers do not
+        change.
     min_cells : int, optional
-        Keep only patches with at least this many cells. The numbers of the patches do not change.
+        Keep only patches with at least this many cells. Patch numbers do not change.
     crs : any, optional
         The coordinate reference system to assume for a map that does not have one.
 

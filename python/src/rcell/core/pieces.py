@@ -1,5 +1,5 @@
 # SPDX-License-Identifier: Apache-2.0 OR GPL-2.0-or-later
-"""Send parts of maps to other processes as paths of files, as Dask chunks, or as cells."""
+"""Send parts of maps to other processes, as file paths, Dask chunks or cells."""
 
 from __future__ import annotations
 
@@ -103,8 +103,8 @@ def is_file(source: Any) -> bool:
 def sendable(source: Any, outer: Rectangle) -> Any:
     """Return a map that can be sent to another process and contains at least a window's cells.
 
-    Maps from Dask, and maps from files that can be opened by path, have a method `sent`. All other
-    maps are sent as cells.
+    Dask maps, and maps whose files can be opened by path, have a method `sent`. All other maps are
+    sent as cells.
     """
     inner = source.source if isinstance(source, Scaled) else source
     sent = inner.sent(outer) if hasattr(inner, "sent") else None
@@ -114,13 +114,13 @@ def sendable(source: Any, outer: Rectangle) -> Any:
 
 
 def chunks_of(source: Any) -> Any:
-    """Return the Dask array that contains a map's cells, or None if the map is not from Dask."""
+    """Return the Dask array that contains a map's cells, or None if the map is not in Dask."""
     inner = source.source if isinstance(source, Scaled) else source
     return inner.cells if isinstance(inner, Chunks) else None
 
 
 def filled(source: Any, cells: Any) -> Any:
-    """Return a Dask map whose cells are replaced with computed cells or with None."""
+    """Replace the cells of a Dask map with computed cells, or with None."""
     if isinstance(source, Scaled):
         return Scaled(filled(source.source, cells), source.scale)
     return replace(source, cells=cells)
@@ -130,12 +130,12 @@ def filled(source: Any, cells: Any) -> Any:
 
 
 def shared_path(path: str) -> str:
-    """Return a file's absolute path, or any other name that GDAL accepts unchanged."""
+    """Return an existing file's absolute path, or any other name for GDAL unchanged."""
     return os.path.abspath(path) if os.path.exists(path) else path
 
 
 def states_of(paths: Iterable[str]) -> dict[str, State]:
-    """Return the state of each file by path, leaving out paths that do not exist here."""
+    """Return the states of the files that exist on this machine, by path."""
     states = {}
     for path in map(shared_path, paths):
         if os.path.exists(path):
@@ -163,5 +163,5 @@ def _state_text(state: State) -> str:
 
 
 def _time(nanoseconds: int) -> str:
-    """Return a time, given in nanoseconds, as a string."""
+    """Format a time given in nanoseconds since 1970."""
     return str(np.datetime64(nanoseconds, "ns"))

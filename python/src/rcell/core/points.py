@@ -1,5 +1,5 @@
 # SPDX-License-Identifier: Apache-2.0 OR GPL-2.0-or-later
-"""Find the map cells that contain the points of a layer, and read the class of each point."""
+"""Find the map cells that contain a layer's points, and read the class of each point."""
 
 from __future__ import annotations
 
@@ -30,7 +30,7 @@ Integers = NDArray[np.int64]
 
 @dataclass(frozen=True)
 class Points:
-    """Points that are assigned to the cells of a map.
+    """Points assigned to the cells of a map.
 
     Attributes
     ----------
@@ -40,8 +40,9 @@ class Points:
     cells, classes : array of int64
         The cell number and the class of each point.
     left_out : list of str
-        The reasons why points are not in a cell, each with its number of points.
+        The reasons why points are left out, each with the number of points.
     total : int
+        The number of features in the layer.
     """
 
     map: ArrayMap
@@ -51,7 +52,7 @@ class Points:
     total: int
 
     def pairs(self, table: Integers) -> Integers:
-        """Count the pairs of map class and point class, and warn about points that are left out.
+        """Count the pairs of map class and point class, and warn about omitted points.
 
         Parameters
         ----------

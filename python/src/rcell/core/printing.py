@@ -1,8 +1,8 @@
 # SPDX-License-Identifier: Apache-2.0 OR GPL-2.0-or-later
-"""Read users' text grids, which rcell prints in a normal form.
+"""Read users' text grids by printing them with rcell, in a uniform format.
 
-This is the only module that starts `rcell`. All other modules use rcell-pipe, whose requests
-contain binary maps. This module can be removed once requests accept text grids.
+This is the only module that runs `rcell`. All other modules use rcell-pipe, whose requests contain
+binary maps. This module can be removed once requests accept text grids.
 """
 
 from __future__ import annotations
@@ -26,7 +26,7 @@ _MESSAGE = re.compile(r"rcell: [^:]*:(\d+): (.*)")
 
 
 def is_text_grid(start: bytes) -> bool:
-    """Return whether a file that begins with these bytes is an rcell grid.
+    """Return whether a file that begins with these bytes is a text grid of rcell.
 
     Examples
     --------
@@ -38,9 +38,9 @@ def is_text_grid(start: bytes) -> bool:
 
 @contextlib.contextmanager
 def spooled(pieces: Iterable[bytes]) -> Iterator[str]:
-    """Write a text to a temporary file, and yield the file's path until the block ends.
+    """Write text to a temporary file, and yield the file's path until the block ends.
 
-    The file is needed because programs open only paths.
+    The file is needed because the programs accept only paths.
 
     Examples
     --------
@@ -66,7 +66,7 @@ def printed(
     seconds: Optional[float] = None,
     watch: Optional[Callable[[], None]] = None,
 ) -> Iterator[Iterator[bytes]]:
-    """Print a grid with rcell, and yield an iterator over the pieces of the output.
+    """Print a text grid with rcell, and yield an iterator over the pieces of the output.
 
     The output is complete only if no error is raised.
 
@@ -75,7 +75,7 @@ def printed(
     program : str
         The path of `rcell`.
     path : str
-        The path of the grid.
+        The path of the text grid.
     seconds, watch
         As in `protocol.run`, which also lists the errors that are raised.
     """

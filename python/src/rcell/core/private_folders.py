@@ -19,7 +19,7 @@ _ENDING = re.compile("-[0-9a-f]{8}")
 
 
 class PrivateFolder:
-    """A hidden folder that is named after a file and that only this user can read.
+    """A hidden folder, named after a file, that only this user can access.
 
     A killed process cannot remove its folder. Each process therefore holds a lock in its folder,
     and creating a folder first removes all unlocked folders for the same file.
@@ -59,7 +59,7 @@ class PrivateFolder:
         self._lock: int | None = lock
 
     def rename(self, path: str) -> None:
-        """Move the folder to another path, where the folder is kept.
+        """Move the folder to its final path, where it remains.
 
         The path must not exist, or must be an empty folder.
         """
@@ -108,7 +108,7 @@ def _locked(path: str) -> int | None:
 
 
 def _remove_abandoned(folder: str, stem: str) -> None:
-    """Remove the folders for a file that killed processes of this user have left."""
+    """Remove the folders for a file that were left by this user's killed processes."""
     with contextlib.suppress(OSError):
         for name in os.listdir(folder):
             if name.startswith(stem) and _ENDING.fullmatch(name, len(stem)):
@@ -117,7 +117,7 @@ def _remove_abandoned(folder: str, stem: str) -> None:
 
 
 def _remove_unlocked(path: str) -> None:
-    """Remove a folder of this user, or raise OSError if a process holds the folder's lock."""
+    """Remove a folder if it belongs to this user, or raise OSError if a process holds its lock."""
     with contextlib.ExitStack() as opened:
         room = os.open(path, os.O_RDONLY | os.O_DIRECTORY | os.O_NOFOLLOW)
         opened.callback(os.close, room)
@@ -133,7 +133,7 @@ def _remove_unlocked(path: str) -> None:
 def _remove(path: str) -> None:
     """Remove a folder and its contents.
 
-    The lock is removed last, so that an interrupted removal is repeated later.
+    The lock is removed last, so that an interrupted removal can be repeated.
     """
     lock = os.path.basename(path)
     for entry in sorted(os.scandir(path), key=lambda entry: entry.name == lock):

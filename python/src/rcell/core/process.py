@@ -34,11 +34,11 @@ WATCH_SECONDS = 0.1
 LARGE_PAGES = {"GLIBC_TUNABLES": "glibc.malloc.hugetlb=1"}
 """Use pages of 2 MiB if the system supports them.
 
-Allocating pages of 4 KiB took an eighth of a table's time.
+With pages of 4 KiB, allocation took an eighth of the time of a table.
 """
 
 MESSAGE_LIMIT = 1 << 16
-"""The most that is kept of a program's standard error. rcell's programs print one line."""
+"""The most bytes to keep of a program's standard error. rcell's programs print one line."""
 
 _held: set[int] = set()
 _works = 0  # running blocks that must remove a file or stop a program before this process ends
@@ -46,7 +46,7 @@ _lock = threading.RLock()
 
 
 def _let_go() -> None:
-    """Close the pipes in a forked child, so that the child's copies do not block the parent."""
+    """Close the pipes in a forked child, because open copies would block the parent."""
     while _held:
         os.close(_held.pop())
     _lock.release()
@@ -75,7 +75,7 @@ def has_work() -> bool:
 
 
 def found_on_path(name: str) -> str | None:
-    """Return the first program with a given name on the path, skipping relative folders."""
+    """Return the path of the first program with a given name on PATH, skipping relative folders."""
     for folder in os.get_exec_path():
         path = os.path.join(folder, name)
         if os.path.isabs(folder) and os.path.isfile(path) and os.access(path, os.X_OK):
@@ -118,17 +118,16 @@ def close(descriptor: int) -> None:
 
 
 class Started:
-    """A running program.
-
-    An instance is a context manager, which stops the program on exit.
+    """A running program, and a context manager that stops the program on exit.
 
     Parameters
     ----------
     words : sequence of str
+        The program and its arguments.
     inherited : sequence of int
         The descriptors that the program inherits under the same numbers.
     seconds : float, optional
-        The time limit for the program.
+        The time limit for the program, in seconds.
     stdin : int
         The descriptor of the program's standard input.
     watch : callable, optional
@@ -137,8 +136,9 @@ class Started:
     Raises
     ------
     OSError
-        The program cannot be started. If the program exceeds its time limit, the error is a
-        TimeoutError.
+        The program cannot be started.
+    TimeoutError
+        The program exceeds its time limit.
     """
 
     def __init__(
@@ -211,9 +211,9 @@ class Started:
         return filled
 
     def _has_output(self) -> bool:
-        """Wait for standard output, and return False once both output streams have ended.
+        """Wait for standard output, and return False once both streams have ended.
 
-        Text on standard error is collected for the message.
+        Standard error is collected for the program's message.
         """
         while self._open_ends:
             wait = self._longest_wait()

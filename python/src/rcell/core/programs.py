@@ -26,7 +26,7 @@ __all__ = [
 ]
 
 PROBE_SECONDS = 60
-"""The time limit for a test run over three cells, generous for a busy machine."""
+"""The time limit, in seconds, for a test run over three cells; generous for busy machines."""
 
 Path = Union[str, "os.PathLike[str]"]
 
@@ -35,7 +35,7 @@ Path = Union[str, "os.PathLike[str]"]
 
 
 def candidates(name: str) -> Iterator[str]:
-    """Yield possible paths of a program: in Python's scripts, next to Python, and on the path."""
+    """Yield possible paths of a program: in Python's scripts, next to Python, and on PATH."""
     folders = [sysconfig.get_path("scripts")]
     if "posix_user" in sysconfig.get_scheme_names():
         folders.append(sysconfig.get_path("scripts", "posix_user"))
@@ -67,9 +67,9 @@ def find_beside(
 ) -> str:
     """Find a program, check that it works, and return its path.
 
-    The host may provide the path. Otherwise, the following places are searched in this order: the
-    argument, an environment variable, the folder of the program that RCELL names, the scripts of
-    this Python installation (to which the wheel installs programs), and the path.
+    The host may provide the path. Otherwise, these places are searched in order: the argument, an
+    environment variable, the folder of the program that RCELL names, the scripts of this Python
+    installation (where the wheel installs programs), and PATH.
 
     Raises
     ------
@@ -149,7 +149,7 @@ def _probe_pipe(path: str) -> None:
 
 @contextlib.contextmanager
 def program_errors(script: str, names: list[str], path: str) -> Iterator[None]:
-    """Convert the errors of rcell-pipe in this block to errors of this package."""
+    """Convert rcell-pipe's errors in this block to errors of this package."""
     try:
         yield
     except protocol.Rejected as end:

@@ -72,7 +72,7 @@ MOST_CELL_BYTES = 1 << 33
 
 
 def script_bytes(script: str) -> bytes:
-    """Return a script as bytes. Surrogates in the script escape bytes that are not UTF-8.
+    """Encode a script as UTF-8. Surrogates in the script escape bytes that are not UTF-8.
 
     Raises
     ------
@@ -112,11 +112,12 @@ class TableFrame:
     entries : int
         The number of combinations or of cells.
     counts : memoryview or None
-        An unsigned 64-bit number for each entry, or None without the flag `-c`.
+        The number of cells of each entry, as unsigned 64-bit integers, or None without the flag
+        `-c`.
     cells : memoryview
         The categories as 32-bit integers, entry by entry. Null is `NULL`.
     labels : list of bytes or None
-        The label of each cell, which is `no data` for null and empty for a category without a
+        The label of each value in `cells`: `no data` for null, and empty for a category without a
         label. None without the flag `-l`.
     """
 
@@ -161,7 +162,7 @@ class GridFrame:
 
     @property
     def null(self) -> int:
-        """The number that marks null in the cells."""
+        """The value that marks null in the cells."""
         return NULL_BYTE if self.type == "u8" else NULL
 
 
@@ -188,10 +189,7 @@ Frame = Union[TableFrame, GridFrame, PatchesFrame]
 
 
 class Call(NamedTuple):
-    """A call to `row()`, `col()`, `nrows()` or `ncols()`, and the call's position in the line.
-
-    The position is the range of bytes from `start` to `end`.
-    """
+    """A call to `row()`, `col()`, `nrows()` or `ncols()`, and its range of bytes in the line."""
 
     function: str
     start: int
@@ -348,7 +346,7 @@ class Killed(Exception):
 class NoAnswer(Exception):
     """Raised if the program is not this version's rcell-pipe.
 
-    The argument describes the output of the program.
+    The argument describes the program's output.
     """
 
 
@@ -357,9 +355,9 @@ class _NotUnderstood(Exception):
 
 
 class _Response:
-    """A reader of the program's responses.
+    """Reads the program's response.
 
-    The reader allocates memory only for data that has arrived, not for an announced length.
+    Memory is allocated only for data that has arrived, not for announced lengths.
     """
 
     def __init__(
@@ -533,8 +531,7 @@ def run(
 ) -> list[Frame]:
     """Run a script over maps, and return the frames of its outputs and questions.
 
-    The frames of the outputs are in the order of the script, and are followed by the frames of the
-    questions.
+    The outputs' frames come first, in the order of the script, followed by the questions' frames.
 
     Parameters
     ----------
@@ -543,9 +540,10 @@ def run(
     maps : sequence of Map
     script : bytes
     seconds : float, optional
-        The time limit for the run.
+        The time limit for the run, in seconds.
     watch : callable, optional
-        A function that is called at least ten times a second. An exception ends the run.
+        A function that is called at least ten times a second. If it raises an exception, the run
+        ends.
 
     Raises
     ------
@@ -578,7 +576,7 @@ def text(
     seconds: Optional[float] = None,
     watch: Optional[Callable[[], None]] = None,
 ) -> Iterator[bytes]:
-    """Run a script over maps, and yield the text that rcell would print, piece by piece.
+    """Run a script over maps, and yield piece by piece the text that rcell would print.
 
     The text is complete only if no error is raised. The parameters and errors are the same as for
     `run`.
@@ -608,7 +606,7 @@ _PROBE_CELLS = [struct.pack("<4i", 12, 2, NULL, NULL), struct.pack("<3i", 1, NUL
 
 
 def is_known(program: str, seconds: float) -> bool:
-    """Return whether a program is this version's rcell-pipe, using a test run over three cells.
+    """Return whether a program is this version's rcell-pipe, after a test run over three cells.
 
     Raises
     ------
@@ -675,7 +673,7 @@ def failure_of(status: int, message: bytes) -> Exception:
 def _check(
     response: Optional[tuple[list[_AnyFrame], Rejected]], status: int, message: bytes
 ) -> list[_AnyFrame]:
-    """Return the frames of a response, or raise the error that the program reported."""
+    """Return the frames of a response, or raise the error that the response reports."""
     if response is None or status != response[1].status:
         raise failure_of(status, message)
     if status:
@@ -745,7 +743,7 @@ def _response(
 ) -> Optional[tuple[list[_AnyFrame], Rejected]]:
     """Read all pieces and return the response, or None if the format is not understood.
 
-    Long cells are read with `fill`, if `fill` is given.
+    Long arrays of cells are read with `fill`, if it is given.
     """
     try:
         return _Response(pieces, fill).frames()

@@ -38,20 +38,20 @@ class Rule(NamedTuple):
 
 
 def reclass(map: MapLike, rules: Any, other: Optional[str] = None, *, crs: Any = None) -> ArrayMap:
-    """Replace each class with a new class, using a crosswalk.
+    """Replace the classes of a map with new classes, using a crosswalk.
 
     Parameters
     ----------
     map : path, array, or any map that `run` accepts
     rules : path, dict or DataFrame
         A CSV or DataFrame with the columns `value` (a class, or a range such as `31-39`), `new` (a
-        class; empty for null) and optionally `label`; or a dict of new classes by class or by
-        `(first, last)`.
+        class, or empty for null) and, optionally, `label`; or a dict that maps a class or a range
+        `(first, last)` to a new class.
     other : {"keep", "null"}, optional
-        Whether to keep classes that have no rule or set them to null. By default, the call raises
-        an error that lists these classes.
+        Whether to keep classes without a rule or set them to null. By default, the call raises an
+        error that lists these classes.
     crs : any, optional
-        The reference system to assume for a map that has none.
+        The coordinate reference system to assume for a map that does not have one.
 
     Returns
     -------
@@ -63,7 +63,7 @@ def reclass(map: MapLike, rules: Any, other: Optional[str] = None, *, crs: Any =
     Refused
         A class of the map has no rule.
     BadArgument
-        A class has two rules, or is not a whole number.
+        A class has two rules or is not a whole number, or an argument is invalid.
 
     Examples
     --------
@@ -96,7 +96,7 @@ def reclass(map: MapLike, rules: Any, other: Optional[str] = None, *, crs: Any =
 
 
 def _checked(rules: Iterable[Rule]) -> Sequence[Rule]:
-    """Return the rules sorted by class, or raise BadArgument if a class has two rules."""
+    """Sort rules by class, or raise BadArgument if there are no rules or a class has two."""
     listed = sorted(rules, key=lambda rule: (rule.low, rule.high))
     if not listed:
         raise BadArgument("rules", "must have at least one rule; got none")
@@ -146,7 +146,7 @@ def _rules_of(crosswalk: Any) -> Iterator[Rule]:
 
 
 def _rule(place: str, value: Any, new: Any, label: Any) -> Rule:
-    """Return the rule for a class, or for a range given as a pair or as a string such as `1-9`."""
+    """Return the rule for a class or for a range, given as a pair or as a string such as `1-9`."""
     low, high = value if isinstance(value, tuple) and len(value) == 2 else (value, value)
     match = _RANGE.fullmatch(value.strip()) if isinstance(value, str) else None
     if match:

@@ -45,7 +45,7 @@ __all__ = [
 ]
 
 FORM = 1
-# Arguments whose texts are never paths. Texts in other arguments are paths if the file exists.
+# Arguments whose strings are never paths. Other strings are paths if the file exists.
 _WORDS = ("area", "crs", "zone_field", "field", "layer", "level", "allocation", "other", "resample")
 # Endings of files whose bytes are recorded, because they are not read as cells.
 _TEXTS = (".csv", ".tsv", ".qml")
@@ -59,7 +59,7 @@ _ASKED = {
 
 
 class BandOf(NamedTuple):
-    """A band of a raster as an argument that can be recorded."""
+    """A band of a raster, as an argument that can be recorded."""
 
     path: str
     band: int
@@ -67,7 +67,7 @@ class BandOf(NamedTuple):
 
 @dataclasses.dataclass
 class RecordedCall:
-    """The result of a recorded call, with its table and its inputs.
+    """The result of a recorded call, with the table to write and a record of the inputs.
 
     Attributes
     ----------
@@ -76,7 +76,7 @@ class RecordedCall:
     call : dict
         The name of the call, its arguments, and the name of the table in its result.
     runs : list of dict
-        Each script that was run, with a SHA-256 checksum of the cells of each map, by map name.
+        The scripts that were run, each with a SHA-256 checksum of each map's cells, by map name.
     """
 
     outcome: Any
@@ -111,12 +111,12 @@ def make(
     named: Mapping[str, Any],
     part: Optional[str] = None,
 ) -> RecordedCall:
-    """Run a call and record the run for a table at `path`.
+    """Run a call, and record it for a table that will be written to `path`.
 
     Raises
     ------
     BadArgument
-        An argument cannot be recorded, the path is not a CSV, or the table is not in the result.
+        An argument cannot be recorded, the path is not a CSV, or the result lacks the table.
     """
     if not path.lower().endswith(".csv"):
         raise BadArgument("path", f"must end in .csv; got {path!r}")
@@ -135,7 +135,7 @@ def make(
 
 
 def csv_of(table: Table) -> bytes:
-    """Return a table in CSV format, as bytes."""
+    """Encode a table as CSV."""
     text = table_text("csv", table.columns, table.rows)
     return text.encode("utf-8", "surrogateescape")
 
@@ -166,7 +166,7 @@ def _recorded(
 
 
 def table_of(result: Any, part: Optional[str] = None) -> Table:
-    """Return the table `part` from the result of a call, or by default the first table."""
+    """Return the table `part` of a call's result, or by default the first table."""
     if isinstance(result, Accuracy) and part == "summary":
         return summary_of(result)
     tables = {"": result} if isinstance(result, Table) else {}
@@ -215,7 +215,7 @@ def _bytes_of(path: str) -> bytes:
 def is_of_r(record: Mapping[str, Any]) -> bool:
     """Return whether the R package wrote a record.
 
-    The R package's scripts contain different lines.
+    The R package runs scripts with different lines.
     """
     return "R" in record["versions"]
 
@@ -244,7 +244,7 @@ def _is_record(record: Any) -> bool:
 
 
 def differences(path: str, version: str) -> Iterator[str]:
-    """Run a recorded call again, and yield a line for each difference from the record."""
+    """Repeat a recorded call, and yield a line for each difference from the record."""
     record, folder = read_record(path), os.path.dirname(os.path.abspath(path))
     if is_of_r(record):
         text = (
@@ -285,7 +285,7 @@ def _other_runs(
 
 
 def _other_lines(recorded: bytes, returned: bytes) -> Iterator[str]:
-    """Yield a line that shows the first difference between two tables and counts the rest."""
+    """Yield a line that shows the first difference between two tables and counts the others."""
     lines, others = (text.decode("utf-8", "replace").split("\n") for text in (recorded, returned))
     pairs = enumerate(zip(lines, others), 1)
     different = [(number, *pair) for number, pair in pairs if pair[0] != pair[1]]
@@ -299,7 +299,7 @@ def _other_lines(recorded: bytes, returned: bytes) -> Iterator[str]:
 
 
 def _other_texts(arguments: Any, folder: str) -> Iterator[str]:
-    """Yield a line for each legend or other text file of a call that has changed."""
+    """Yield a line for each text file of a call, such as a legend, that has changed."""
     for file in files_in(arguments):
         path = os.path.join(folder, file["path"])
         if "sha256" in file and os.path.exists(path) and file_sum(path) != file["sha256"]:
@@ -307,7 +307,7 @@ def _other_texts(arguments: Any, folder: str) -> Iterator[str]:
 
 
 def files_in(argument: Any) -> Iterator[Mapping[str, Any]]:
-    """Yield each file that recorded arguments contain, in order."""
+    """Yield the files in recorded arguments, in order."""
     if isinstance(argument, dict) and "path" in argument:
         yield argument
     elif isinstance(argument, (dict, list)):

@@ -1,5 +1,5 @@
 # SPDX-License-Identifier: Apache-2.0 OR GPL-2.0-or-later
-"""Cut large maps into rectangles of cells."""
+"""Cut large maps into rectangles."""
 
 from __future__ import annotations
 

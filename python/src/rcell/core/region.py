@@ -1,5 +1,5 @@
 # SPDX-License-Identifier: Apache-2.0 OR GPL-2.0-or-later
-"""Define `Region`: a map's edges, in the program's precision, and its rows and columns."""
+"""Define `Region`, the edges and the size of a map, in the program's precision."""
 
 from __future__ import annotations
 
@@ -37,7 +37,7 @@ Units = tuple[int, int, int, int]
 EDGE_LIMIT = 10**10 * UNITS
 SIDE_LIMIT = 65_535
 CELL_LIMIT = 2_147_483_647
-# The tolerance, in cells, for two grids to be a whole number of cells apart.
+# The tolerance, in cells, within which two grids are a whole number of cells apart.
 NEARLY_WHOLE = 1e-3
 
 
@@ -112,8 +112,8 @@ class Region:
     Raises
     ------
     BadMap
-        An edge has more than ten digits before the decimal point, north is not above south or east
-        not above west after rounding, or there are no rows or columns.
+        An edge has more than ten digits before the decimal point; north does not exceed south, or
+        east does not exceed west, after rounding; or there are no rows or columns.
 
     Examples
     --------
@@ -194,7 +194,7 @@ class Region:
 
     @classmethod
     def of_cells(cls, rows: int, cols: int) -> Region:
-        """Return the region of an array that has no position: unit cells from the origin.
+        """Return the region of an array without a position, whose cells have size 1.
 
         Parameters
         ----------
@@ -233,7 +233,7 @@ class Region:
 
     @property
     def shape(self) -> tuple[int, int]:
-        """The rows and columns, like the shape of a numpy array.
+        """The number of rows and of columns, like the shape of a numpy array.
 
         Examples
         --------
@@ -245,7 +245,7 @@ class Region:
 
     @property
     def res(self) -> tuple[float, float]:
-        """The width and the height of a cell, in the units of the map.
+        """The width and the height of a cell, in map units.
 
         Examples
         --------
@@ -285,7 +285,7 @@ class Region:
 
     @property
     def edges(self) -> tuple[str, str, str, str]:
-        """The north, south, east and west edges, as strings that the program reads.
+        """The north, south, east and west edges, as strings in the program's format.
 
         Examples
         --------
@@ -297,7 +297,7 @@ class Region:
         return north, south, east, west
 
     def differences(self, other: Region) -> list[str]:
-        """Return a description of each edge and size in which another region differs.
+        """Describe each edge and size in which another region differs from this region.
 
         Parameters
         ----------
@@ -395,7 +395,7 @@ class Shift:
         return down, across
 
     def misfit(self, name: str) -> str:
-        """Return an explanation of why the cells of the grids do not coincide."""
+        """Explain why the cells of the two grids do not coincide."""
         if self.has_other_cells:
             mine, its = (f"{width:.10g} x {height:.10g}" for height, width in self.sizes)
             return f"cells of {mine}, but `{name}` has cells of {its}"

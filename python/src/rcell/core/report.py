@@ -1,5 +1,5 @@
 # SPDX-License-Identifier: Apache-2.0 OR GPL-2.0-or-later
-"""Write HTML reports with recorded tables, pictures of maps, and verify commands."""
+"""Write HTML reports with recorded tables, pictures of maps, and commands to verify the tables."""
 
 from __future__ import annotations
 
@@ -45,13 +45,14 @@ def report(
     out: str | os.PathLike[str],
     title: str = "Report",
 ) -> str:
-    """Write an HTML page that shows recorded tables, pictures of their maps, and verify commands.
+    """Write an HTML page with recorded tables, pictures of their maps, and commands to verify them.
+
+    The same records and maps always produce the same page, which loads nothing from other sites.
 
     Parameters
     ----------
     tables : sequence of path
-        CSVs that `record` has written. The page loads nothing from other sites, and the same
-        records and maps always result in the same page.
+        CSVs that `record` has written.
     out : path
         The path of the page, which must end in `.html`.
     title : str
@@ -108,7 +109,7 @@ def page_of(paths: Sequence[str], title: str) -> str:
 
 
 def _section_of(path: str) -> str:
-    """Return the HTML section about one recorded table."""
+    """Return the HTML section for a recorded table."""
     record, name = read_record(path), os.path.basename(path)
     if file_sum(path) != record["table"]["sha256"]:
         raise Refused("it has changed since it was written: record it again", path)
@@ -138,7 +139,7 @@ def _text(value: Any) -> str:
 
 
 def _table_of(path: str, name: str) -> Iterator[str]:
-    """Yield HTML lines with the first rows of a table and the number of further rows."""
+    """Yield HTML lines with the first rows of a table and the number of omitted rows."""
     with open(path, encoding="utf-8", errors="replace", newline="") as file:
         titles, *rows = csv.reader(file)
     columns = [_shown(column) for column in zip(*rows)] or [(False, [])] * len(titles)
@@ -156,7 +157,7 @@ def _table_of(path: str, name: str) -> Iterator[str]:
 
 
 def _shown(column: Sequence[str]) -> tuple[bool, list[str]]:
-    """Return whether a column is numeric, and its cells as strings to display.
+    """Return whether a column is numeric, and its values as strings to display.
 
     Decimals are rounded to about six digits.
     """
@@ -252,7 +253,7 @@ def _picture_of(record: Mapping[str, Any], folder: str) -> Iterator[str]:
 
 
 def _thinned(source: Source) -> tuple[NDArray[np.int64], int]:
-    """Return every nth row and column of a map, and n, so that the map fits into a picture."""
+    """Return every nth row and column of a map, and the smallest n for which they fit a picture."""
     step = -(-max(source.region.shape) // MOST_PIXELS)
     rows, first = [], 0
     for block in source.blocks():
@@ -264,10 +265,7 @@ def _thinned(source: Source) -> tuple[NDArray[np.int64], int]:
 
 
 def _png(cells: NDArray[np.int64], colours: Mapping[int, str]) -> bytes:
-    """Return a PNG picture of a map, in which null is transparent.
-
-    Small maps are enlarged.
-    """
+    """Encode a map as a PNG picture, in which null is transparent and small maps are enlarged."""
     classes = [NULL, *colours]
     shades = [(0, 0, 0, 0), *((*bytes.fromhex(colour[1:7]), 255) for colour in colours.values())]
     pixels = np.array(shades, np.uint8)[np.searchsorted(classes, cells)]

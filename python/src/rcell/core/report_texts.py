@@ -1,5 +1,5 @@
 # SPDX-License-Identifier: Apache-2.0 OR GPL-2.0-or-later
-"""Define the wording and the page layout of reports."""
+"""Define the wording and the layout of reports."""
 
 from __future__ import annotations
 

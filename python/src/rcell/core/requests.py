@@ -1,5 +1,5 @@
 # SPDX-License-Identifier: Apache-2.0 OR GPL-2.0-or-later
-"""Encode requests to rcell-pipe: maps, a script, and questions about maps."""
+"""Encode requests to rcell-pipe: maps, a script, and questions about patches."""
 
 from __future__ import annotations
 
@@ -47,10 +47,9 @@ class Map:
     rows, cols : int
     type : {"u8", "i8", "u16", "i16", "u32", "i32", "i64"}
     blocks : iterable of Block
-        All rows from north to south. Blocks are requested one after another, while the program
-        reads.
+        All rows from north to south. Blocks are requested one by one while the program reads.
     nodata : int, optional
-        The value of this type that marks null.
+        The value that marks null.
     is_masked : bool
         Whether each block has a mask.
     labels : mapping of int to str
@@ -129,7 +128,7 @@ def _interleaved(cells: memoryview, mask: memoryview, row_bytes: int, cols: int)
 
 
 class Margin(NamedTuple):
-    """The numbers of rows and columns that are needed on each side of a cell."""
+    """The number of rows or columns that are needed on each side of a cell."""
 
     up: int = 0
     down: int = 0
@@ -165,7 +164,7 @@ class Question(NamedTuple):
 
     @property
     def reach(self) -> Margin:
-        """The margin around a cell that decides whether the cell is in the core."""
+        """The margin around a cell that determines whether the cell is in the core."""
         return Margin(*[self.depth] * 4)
 
     def bytes(self) -> bytes:

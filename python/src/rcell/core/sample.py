@@ -54,27 +54,29 @@ def sample(
     map : path, array, or any map that `run` accepts
         A map whose classes are the strata.
     n : int, or dict of int by class
-        The number of cells in total, or of each class. A string such as `500` or `11:50,31:100` is
-        also accepted.
+        The number of cells to draw, in total or from each class. A string such as `500` or
+        `11:50,31:100` is also accepted.
     seed : int or str
+        A value that determines the draw.
     allocation : {"equal", "proportional"}
         How to divide a total among classes. The remainder goes to the first classes ("equal") or to
         the largest fractions ("proportional").
     labels : path, dict, Series or DataFrame, optional
         A legend, as in `composition`.
     crs : any, optional
-        The reference system to assume for a map that has none.
+        The coordinate reference system to assume for a map that does not have one.
 
     Returns
     -------
     pandas.DataFrame
-        Columns `point`, `class`, `label`, `row`, `col` (from 1 at the top left), and `x`, `y` of
-        the cell's centre. If a class has too few cells, all of them are drawn, with a warning.
+        The columns are `point`, `class`, `label`, `row` and `col` (counted from 1 at the top left),
+        and `x` and `y` (of the cell's centre). If a class has too few cells, all of them are drawn,
+        with a warning.
 
     Raises
     ------
     Refused
-        See `run`; also raised for invalid legends.
+        A legend is invalid. See `run` for other reasons.
     BadArgument
         An argument is out of range, or `n` contains a class that does not occur in the map.
 
@@ -123,7 +125,7 @@ def sample(
 
 
 def _columns(maps: Maps, picked: Sequence[tuple[int, int, int]]) -> Integers:
-    """Return the column number of each selected cell, listing the selected rows in blocks."""
+    """Return the column number of each selected cell, reading the selected rows in blocks."""
     rows = sorted({row for _, row, _ in picked})
     step = max(1, _MOST_LISTED // maps.first.region.cols)
     columns: dict[tuple[int, ...], Integers] = {}
@@ -140,8 +142,8 @@ def _columns(maps: Maps, picked: Sequence[tuple[int, int, int]]) -> Integers:
 def drawn(key: str, size: int, count: int) -> list[int]:
     """Draw distinct numbers from 0 to `size - 1` with Floyd's algorithm, and return them sorted.
 
-    Random numbers are the first 48 bits of the SHA-256 of `KEY:COUNTER`. The counter begins at 1
-    and grows by 1 with each hash. Numbers that would make some values more likely are rejected.
+    Random numbers are the first 48 bits of the SHA-256 hash of `KEY:COUNTER`. The counter starts
+    at 1 and increases by 1 with each hash. Numbers that would bias the draw are rejected.
 
     Examples
     --------

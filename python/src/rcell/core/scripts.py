@@ -1,5 +1,5 @@
 # SPDX-License-Identifier: Apache-2.0 OR GPL-2.0-or-later
-"""Define the calls that run scripts: `run`, `table` and `grid`."""
+"""Define `run`, `table` and `grid`, which run scripts."""
 
 from __future__ import annotations
 
@@ -34,13 +34,13 @@ class Stats:
     line : int
         The line of the script.
     maps : tuple of str
-        The maps, in the order of the columns.
+        The names of the maps, in the order of the columns.
     categories : array of int64, entries x maps
         The categories of each combination; -2147483648 is null.
     cells : array of int64, optional
-        The number of cells of each combination, with the flag `-c`.
+        The number of cells in each combination, with the flag `-c`.
     labels : mapping
-        The labels of each map's categories, by the name of the map, with the flag `-l`.
+        The labels of each map's categories, by map name, with the flag `-l`.
     """
 
     line: int
@@ -181,15 +181,15 @@ def run(
     Parameters
     ----------
     script : str
-        The lines of the script.
+        The script, with one statement per line.
     maps : mapping, optional
         Maps by name, for names that cannot be Python keyword arguments.
     **named
         Maps by name. A map is the path of an rcell grid or of a file that rasterio can open; an
         array or masked array of whole numbers (with cells of size 1); `(array, region)` or `(array,
-        transform)`; a `Raster`; a DataArray; or an open dataset or band of rasterio.
+        transform)`; a `Raster`; a DataArray; or an open rasterio dataset or band.
     crs : any, optional
-        The reference system to assume for maps that have none.
+        The coordinate reference system to assume for maps that do not have one.
 
     Returns
     -------
@@ -200,10 +200,10 @@ def run(
     Raises
     ------
     Refused
-        The program rejects the script or a map; the error contains the source, line and message.
-        Raised as BadMap or OtherRegion if a map cannot be sent.
+        The program rejects the script or a map. The error contains the source, line and message.
+        If a map cannot be sent to the program, the error is a BadMap or OtherRegion.
     RcellError
-        The program is missing, wrong or killed.
+        The program is missing, is not rcell-pipe, or was killed.
 
     Examples
     --------
@@ -231,39 +231,39 @@ def table(
     crs: Any = None,
     **named: MapLike,
 ) -> Table:
-    """Run a script that produces one table and return it.
+    """Run a script that produces one table, and return the table.
 
     Parameters
     ----------
     script : str
-        A line `r.stats ..`, or a script that contains one r.stats.
+        An r.stats line, or a script that contains exactly one r.stats.
     maps : mapping, optional
         See `run`.
     area : {"m2", "ha", "km2"}, optional
-        Add a column of areas. Maps in degrees or without a reference system raise an error. In
-        degrees, the area of a cell differs from row to row; `composition` and `cross` weight each
-        row by its cell area.
+        Add a column of areas in this unit. Maps in degrees or without a reference system raise an
+        error. In degrees, the area of a cell differs from row to row; use `composition` or `cross`,
+        which weight each row by its cell area.
     percent : bool
-        Add a column with percentages of all cells in the table.
+        Add a column of percentages of all cells in the table.
     pivot : bool
-        Return the table of two maps as a matrix of percentages or areas, if `percent` or `area` is
-        given, otherwise of cells.
+        Return a table of two maps as a matrix of percentages (with `percent`), areas (with `area`)
+        or cells.
     crs : any, optional
-        The reference system to assume for maps that have none.
+        The coordinate reference system to assume for maps that do not have one.
     **named
         Maps by name, as in `run`.
 
     Returns
     -------
     pandas.DataFrame
-        Columns by map name (nullable Int64), `NAME_label` with the flag `-l` (text), `cells`,
-        `area_ha` or another unit, and `percent`.
+        For each map, a column `NAME` (nullable Int64) and, with the flag `-l`, a column
+        `NAME_label` (text), followed by `cells`, `area_ha` (or another unit) and `percent`.
 
     Raises
     ------
     Refused
-        See `run`; also raised if the script does not produce exactly one table, or if areas are
-        unknown.
+        The script does not produce exactly one table, or areas are unknown. See `run` for other
+        reasons.
 
     Examples
     --------
@@ -301,13 +301,13 @@ def grid(
     Parameters
     ----------
     script : str
-        The lines of the script. Its outputs, if any, are ignored.
+        The script. Its outputs, if any, are ignored.
     name : str
-        A map that the script creates, or a given map.
+        The name of a map that the script creates, or of a given map.
     maps : mapping, optional
         See `run`.
     crs : any, optional
-        The reference system to assume for maps that have none.
+        The coordinate reference system to assume for maps that do not have one.
     **named
         Maps by name, as in `run`.
 

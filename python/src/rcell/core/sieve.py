@@ -1,5 +1,5 @@
 # SPDX-License-Identifier: Apache-2.0 OR GPL-2.0-or-later
-"""Apply a minimum mapping unit by merging small patches into their neighbours."""
+"""Apply a minimum mapping unit, by merging small patches into their neighbours."""
 
 from __future__ import annotations
 
@@ -25,7 +25,7 @@ from .sources import ArrayMap, MapLike, Source, source_of
 
 __all__ = ["Sieved", "cells_of_hectares", "sieve"]
 
-# A number of cells is rounded to this many decimals before it is rounded up.
+# The decimals to which a number of cells is rounded before it is rounded up.
 _DIGITS = 9
 _SIDES = {"right": "0,1", "below": "1,0"}
 _CORNERS = {"falling": "1,1", "rising": "1,-1"}
@@ -44,7 +44,7 @@ class Sieved(NamedTuple):
     cells_changed : int
         The number of cells whose class changed, or that became null.
     patches_below : int
-        The number of patches that remain below the smallest size because they share no side with
+        The number of patches that remain below the minimum size because they share no side with
         another class.
 
     Examples
@@ -69,41 +69,41 @@ def sieve(
     *,
     crs: Any = None,
 ) -> tuple[ArrayMap, Sieved]:
-    """Merge patches below a given size into their neighbours, or set the patches to null.
+    """Merge patches below a minimum size into their neighbours, or set these patches to null.
 
-    As long as a patch below the smallest size shares a side with another class, the smallest of
-    these patches gets the class of the neighbour with which it shares most sides. It is then joined
-    to all patches of this class that it touches. In a tie, the patch whose first cell comes first
-    is used.
+    While any patch below the minimum size shares a side with another class, the smallest such patch
+    gets the class of the neighbour with which it shares the most sides, and is joined to all
+    patches of this class that it touches. In a tie, the patch whose first cell comes first is used.
 
     Parameters
     ----------
     map : path, array, or any map that `run` accepts
     min_cells : int
-        The smallest number of cells in a patch.
+        The minimum number of cells in a patch.
     min_ha : float
-        The smallest area of a patch in hectares, instead of `min_cells`; not for maps in degrees.
+        The minimum area of a patch in hectares, instead of `min_cells`. Maps in degrees are not
+        supported.
     connectivity : {4, 8}
-        4 connects cells that share an edge, 8 also cells that share a corner.
+        4 connects cells that share an edge, and 8 also connects cells that share a corner.
     drop : bool
-        Whether small patches become null instead of being merged.
+        Whether to set small patches to null instead of merging them.
     crs : any, optional
-        The reference system to assume for a map that has none.
+        The coordinate reference system to assume for a map that does not have one.
 
     Returns
     -------
     Raster
-        The new map, with the labels and colours of the input map. Its attribute `sieved` is a
-        `Sieved`, which counts patches and changed cells. A map without small patches is returned
-        unchanged.
+        The new map, with the labels and colours of the input map. Its attribute `sieved` contains a
+        `Sieved` object, which counts patches and changed cells. A map without small patches is
+        returned unchanged.
 
     Raises
     ------
     Refused
         See `run`.
     BadArgument
-        Both sizes or no size is given; a size is out of range; or `min_ha` is given for a map in
-        degrees or without a reference system.
+        Neither or both of the sizes are given; a size is out of range; or `min_ha` is given for a
+        map in degrees or without a reference system.
 
     Examples
     --------
@@ -143,7 +143,7 @@ def sieve(
 
 
 def _fewest(min_cells: Any, min_ha: Any, source: Source, crs: Any) -> int:
-    """Return the smallest patch size in cells, from `min_cells` or `min_ha`."""
+    """Return the minimum patch size in cells, from `min_cells` or `min_ha`."""
     if (min_cells is None) == (min_ha is None):
         outcome = "neither" if min_cells is None else "both"
         raise BadArgument(
@@ -165,7 +165,7 @@ def cells_of_hectares(name: str, hectares: Any, source: Source, crs: Any) -> int
 
 
 def _script(name: str, connectivity: int, tables: Sequence[str], steps: Mapping[str, str]) -> str:
-    """Return a script that counts patches, and pairs of patches one step apart."""
+    """Return a script that counts patches, and the contacts between each pair of patches."""
     lines = [clump_line(connectivity, name), *(f"r.stats -c -n input={maps}" for maps in tables)]
     for title, step in steps.items():
         other = f"if(patch != patch[{step}], patch[{step}], null())"
@@ -198,7 +198,7 @@ class _Touching(NamedTuple):
 class _Merging:
     """Merges the small patches of a map.
 
-    A merged patch gets the smallest number of its parts.
+    A merged patch keeps the smallest number of its parts.
 
     Parameters
     ----------
@@ -281,7 +281,7 @@ class _Merging:
 
 
 def _counted(run: Run, fewest: int, before: int) -> Sieved:
-    """Return counts of the result, after checking that no small patch borders another class."""
+    """Count patches and changed cells, and check that no small patch borders another class."""
     sizes, changes, *pairs = (part for part in run.outputs() if isinstance(part, Stats))
     assert sizes.cells is not None and changes.cells is not None
     small = sizes.categories[sizes.cells < fewest, 0]

@@ -1,5 +1,5 @@
 # SPDX-License-Identifier: Apache-2.0 OR GPL-2.0-or-later
-"""Convert the maps that a caller passes to cells that the program accepts."""
+"""Convert map arguments to cells that the program accepts."""
 
 from __future__ import annotations
 
@@ -57,7 +57,7 @@ _EXACT_FLOAT32 = 1 << 24
 # The factor for the decimals of the map that is being read, before rounding; None for other maps.
 _scale: contextvars.ContextVar[int | None] = contextvars.ContextVar("rcell.scale", default=None)
 
-# How to round a map, outside Python and in Python.
+# The advice for rounding a map: a command, and a call for Python.
 _ROUNDED = (
     'gdal_calc.py -A {0}.tif --calc="rint(A)" --type=Int32 --outfile={0}_rounded.tif',
     "rcell.Raster(np.rint(array), transform, crs)",
@@ -72,7 +72,7 @@ MapLike = Union[str, "os.PathLike[str]", "list[str]", ArrayLike, tuple[Any, Any]
 
 @dataclass(frozen=True)
 class Block:
-    """Complete rows of a map, or a window of the map.
+    """A block of complete rows of a map, or a window of a map.
 
     Attributes
     ----------
@@ -91,8 +91,8 @@ class Source(Protocol):
 
     Maps that can be read in parts also define `window(row, col, rows, cols)`, which returns a block
     and can be called from any thread. Optional attributes are `block_shape`, for maps that store
-    cells in blocks; `is_file`, which is true if the cells are its files' unchanged cells; and
-    `sent(window)`, which returns a map that other processes can read, or None.
+    cells in blocks; `is_file`, which is true if the map's cells are exactly the cells in its files;
+    and `sent(window)`, which returns a map that other processes can read, or None.
     """
 
     @property
@@ -170,7 +170,7 @@ def unmasked(cells: Any) -> tuple[Cells, Mask | None]:
 
 
 def is_converted(dtype: np.dtype[Any]) -> bool:
-    """Return whether cells of a type are converted to int32, as floats and uint64 are.
+    """Return whether cells of a type must be converted to int32: floats and uint64.
 
     In converted cells, -2147483648 is null. The program accepts all other types unchanged.
     """
@@ -259,7 +259,7 @@ def checked(
     Raises
     ------
     BadMap
-        A cell is neither null nor a whole number from -2147483647 to 2147483647; the error contains
+        A cell is neither null nor a whole number from -2147483647 to 2147483647. The error names
         the first such cell.
     """
     cells = np.ascontiguousarray(
@@ -332,7 +332,7 @@ def _good(cells: Cells) -> Mask:
 
 
 def _bad_cell(name: str, row: int, col: int, value: float, scale: int | None) -> BadMap:
-    """Return the error for a cell that is not a whole number in the valid range."""
+    """Return the error for a cell that is not a whole number in range."""
     number = f"{value:.15g}" if isinstance(value, float) else str(value)
     if scale is not None:
         problem = (
@@ -355,7 +355,7 @@ def _bad_cell(name: str, row: int, col: int, value: float, scale: int | None) ->
 
 
 class Scaled:
-    """A map whose decimals are multiplied by a scale and rounded when they are read.
+    """A map of decimals, which are multiplied by a scale and rounded when they are read.
 
     Parameters
     ----------
@@ -417,9 +417,9 @@ class ArrayMap:
     Parameters
     ----------
     name : str
-        The name of the map, for errors.
+        The name of the map, for messages.
     array : array of whole numbers, rows x cols
-        Its type may be any integer, bool, or a float if all cells are whole numbers; NaN is null.
+        Any integer type, bool, or floats that are whole numbers. NaN is null.
     region : Region
     null : array of bool, optional
         An array of the same shape that is True for null cells.
@@ -428,14 +428,14 @@ class ArrayMap:
     labels : mapping, optional
     crs : any, optional
     exact_transform : tuple of six float, optional
-        The transform for results; by default, the region's transform.
+        The transform of results. By default, it is the region's transform.
     is_narrow : bool
         Whether the array stores cells as bytes to save memory. Users still get int32 cells.
 
     Raises
     ------
     BadMap
-        The array cannot be a map. Invalid cells are found only when they are sent.
+        The array cannot be a map. Invalid cells are detected only when they are sent.
     """
 
     name: str
@@ -464,7 +464,7 @@ class ArrayMap:
 
     @property
     def transform(self) -> Transform:
-        """The transform for results."""
+        """The transform of results."""
         return self.exact_transform or self.region.transform
 
     @property
@@ -483,7 +483,7 @@ class ArrayMap:
         return self.null is not None and not is_converted(self.array.dtype)
 
     def filled(self, null: int) -> Cells:
-        """Return all cells of a map of whole numbers, with the given number for null."""
+        """Return the cells of a map of whole numbers, with the given value for null."""
         is_null = null_cells(self.array, self.null, self.nodata_value)
         wide = np.promote_types(self.array.dtype, np.int32)
         return np.where(is_null, wide.type(null), self.array)
@@ -503,7 +503,7 @@ class ArrayMap:
 
 
 def check_array(name: str, array: Any) -> None:
-    """Raise BadMap unless an array contains numbers in rows and columns."""
+    """Raise BadMap unless an array has numbers in two dimensions, and at least one cell."""
     if array.dtype.kind not in "iufb":
         raise BadMap(name, f"not a map of whole numbers: its cells are of the type {array.dtype}")
     if array.ndim != 2:
@@ -532,17 +532,17 @@ def array_map(
     Parameters
     ----------
     name : str
-        The name of the map, for errors.
+        The name of the map, for messages.
     cells : array, masked array, or nested lists of whole numbers
     place : Region, or a transform, optional
-        By default, cells have size 1.
+        The position of the cells. By default, cells have size 1.
     crs, nodata, labels, colors, files
         As in ArrayMap.
 
     Raises
     ------
     BadMap
-        The array is not two-dimensional, or the transform is not upright.
+        The array is not two-dimensional, or the transform is not north-up.
     """
     try:
         array, null = unmasked(cells)
@@ -594,8 +594,9 @@ def source_of(name: str, map: Any) -> Source:
     Parameters
     ----------
     name : str
-    map : path, list or pattern of paths, array, masked array, (array, region or transform), Raster,
-    DataArray, dataset or band of rasterio
+    map : any
+        A path, a list or pattern of paths, an array or masked array, `(array, region)`, `(array,
+        transform)`, a Raster, a DataArray, or a rasterio dataset or band.
 
     Raises
     ------
@@ -666,7 +667,7 @@ def check_names(names: Iterable[str]) -> None:
 
 
 def named_once(maps: Any, named: Mapping[str, Any]) -> dict[str, Any]:
-    """Merge the maps of a mapping or Dataset with maps passed as keywords.
+    """Merge the maps in a mapping or Dataset with the maps passed as keywords.
 
     Raises BadArgument if both contain the same name.
     """
@@ -689,7 +690,7 @@ def sources_of(
     ----------
     maps : mapping of str to any
     crs : any
-        The reference system to assume for maps that have none.
+        The coordinate reference system to assume for maps that do not have one.
     written : mapping of str to any, optional
         The maps as the caller passed them, for the advice in errors.
 
@@ -699,7 +700,7 @@ def sources_of(
         Reference systems differ, or only some maps have one and `crs` is not given.
     OtherRegion
         A map's region differs from the first map's region. The message lists the differences and
-        the call that aligns the map.
+        shows the call that aligns the map.
     """
     if not maps:
         raise BadArgument("maps", 'must be given by name, for example a="a.tif"; got none')
@@ -736,7 +737,7 @@ def _alignment(name: str, mine: str, its: str, is_whole: bool) -> str:
 
 
 def _written(name: str, map: Any) -> str:
-    """Return the caller's notation for a map: its path or its name."""
+    """Return the text for a map in the caller's notation: its path or its name."""
     if host().words == "qgis":
         return f'"{map.name}"'
     return (

@@ -1,5 +1,5 @@
 # SPDX-License-Identifier: Apache-2.0 OR GPL-2.0-or-later
-"""Format tables as CSV, TSV, JSON and Markdown."""
+"""Format tables as CSV, TSV, JSON or Markdown."""
 
 from __future__ import annotations
 
@@ -15,8 +15,8 @@ __all__ = ["table_text"]
 def table_text(form: str, columns: Sequence[str], rows: Sequence[Sequence[Any]]) -> str:
     """Format a table as text.
 
-    Numbers are written in the shortest form that reads back unchanged. Missing values are empty or
-    null.
+    Numbers are written in the shortest form that reads back unchanged. Missing values are empty, or
+    null in JSON.
     """
     if form == "json":
         objects = (json.dumps(dict(zip(columns, row)), ensure_ascii=False) for row in rows)
@@ -35,7 +35,7 @@ def _shortest(value: Any) -> Any:
 
 
 def _markdown(columns: Sequence[str], rows: Sequence[Sequence[Any]]) -> str:
-    """Format a table in Markdown, with numeric columns aligned to the right."""
+    """Format a table in Markdown, with right-aligned numeric columns."""
     sides = []
     for index in range(len(columns)):
         has_texts = any(isinstance(row[index], str) for row in rows)

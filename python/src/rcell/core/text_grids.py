@@ -28,7 +28,7 @@ from .region import Region, Transform, fits_one_run, units_of
 
 __all__ = ["TextMap", "is_grid", "open_path"]
 
-# Enough for a header of six short lines, with blank lines before it.
+# Enough for a header of six short lines, even after blank lines.
 HEADER_BYTES = 1 << 16
 _EDGE = re.compile(r"[+-]?[0-9]+\.?[0-9]*")
 _VIRTUAL = re.compile(r"/vsi|[A-Za-z][A-Za-z0-9+.-]+:")
@@ -36,7 +36,7 @@ _VIRTUAL = re.compile(r"/vsi|[A-Za-z][A-Za-z0-9+.-]+:")
 
 @dataclass(frozen=True)
 class TextMap:
-    """A map that is read from a text grid, created by `open_path`.
+    """A map read from a text grid, created by `open_path`.
 
     Attributes
     ----------
@@ -68,11 +68,11 @@ class TextMap:
 
     @property
     def transform(self) -> Transform:
-        """The transform for results."""
+        """The transform of results."""
         return self.region.transform
 
     def blocks(self) -> Iterator[Block]:
-        """Yield the rows from north to south, as rcell reads them.
+        """Yield the rows from north to south.
 
         Raises
         ------
@@ -110,7 +110,7 @@ def open_path(name: str, path: str | os.PathLike[str]) -> Source:
     BadMap
         The file cannot be a map.
     Refused
-        rcell rejects the header of the grid.
+        rcell rejects the header of the text grid.
     """
     text = os.fsdecode(path)
     if "\0" in text:
@@ -178,7 +178,7 @@ def _fields(head: bytes) -> tuple[dict[str, str], bool]:
 def _region_of(name: str, head: bytes) -> Region | None:
     """Return the region in a header, or None if the header is invalid.
 
-    The caller then raises the program's error about the invalid header.
+    For an invalid header, the caller raises the program's error.
     """
     fields = _fields(head + b"\n")[0]
     try:
@@ -195,13 +195,13 @@ def _region_of(name: str, head: bytes) -> Region | None:
 
 
 def _edge_of(text: str) -> float | Fraction:
-    """Return an edge as a float, or as a Fraction if a float is too inexact for the program."""
+    """Return an edge as a float or, if a float is not precise enough, as a Fraction."""
     exact = Fraction(text) if _EDGE.fullmatch(text) else Fraction(float(text))
     return float(exact) if units_of(float(exact)) == units_of(exact) else exact
 
 
 def _refused_region(name: str, path: str, is_file: bool) -> Region:
-    """Raise rcell's error about a grid with an invalid header."""
+    """Raise rcell's error about the invalid header of a grid."""
     if is_file:
         for _ in TextMap(name, path, Region.of_cells(1, 1)).blocks():
             pass

@@ -1,5 +1,5 @@
 # SPDX-License-Identifier: Apache-2.0 OR GPL-2.0-or-later
-"""Count the sequences of classes over many years, and map when classes changed."""
+"""Count sequences of classes over many years, and map when classes changed."""
 
 from __future__ import annotations
 
@@ -36,18 +36,17 @@ class Trajectories(NamedTuple):
     Parameters
     ----------
     table : pandas.DataFrame
-        A row for each sequence of classes: the class and label of each year, `cells`, `area_ha`,
-        `percent`, the number of `changes` and of distinct `classes`, and `first_change` and
-        `last_change`, the years in which the new class of the first and of the last change is first
-        seen.
+        A row for each sequence of classes: each year's class and label, `cells`, `area_ha`,
+        `percent`, the number of `changes`, the number of distinct `classes`, and the years
+        `first_change` and `last_change`. A change is dated to the first year with the new class.
     changes : pandas.DataFrame
-        A row for each number of changes: `changes`, `cells`, `area_ha`, `percent`.
+        A row for each number of changes, with `changes`, `cells`, `area_ha` and `percent`.
     intervals : pandas.DataFrame
-        A row for each pair of consecutive years: the change between them, its annual percentage
-        `percent_year`, and `uniform_percent_year`, the annual percentage over all years (Aldwaik
-        and Pontius 2012, equations 1 and 2).
+        A row for each pair of consecutive years: the change between them, the annual percentage
+        `percent_year`, and the average annual percentage over all years, `uniform_percent_year`
+        (Aldwaik and Pontius 2012, equations 1 and 2).
     maps : dict of str to Raster
-        With `include_maps`: `changes`, `first_change` and `last_change`.
+        With `include_maps`, the maps `changes`, `first_change` and `last_change`.
 
     Examples
     --------
@@ -74,35 +73,35 @@ def trajectories(
     include_maps: bool = False,
     crs: Any = None,
 ) -> Trajectories:
-    """Count each sequence of classes over the years, using cells that are not null in any year.
+    """Count each sequence of classes over the years, in cells that are not null in any year.
 
     Parameters
     ----------
-    maps : list of maps of `run`, or DataArray with the dimension `time`
-        Two or more maps, in the order of their years. More than 16 maps, or 15 in degrees, are
-        accepted only if they contain few classes.
+    maps : list of maps, or DataArray with the dimension `time`
+        Two or more maps that `run` accepts, in the order of their years. More than 16 maps, or 15
+        in degrees, are accepted only if they contain few classes.
     years : iterable of int
-        The year of each map, ascending; not needed for a DataArray.
+        The year of each map, in ascending order. A DataArray does not need years.
     area, labels
         See `change`.
     include_maps : bool
-        Whether to compute maps of the number of changes, and of the years of the first and the last
-        change.
+        Whether to compute maps of the number of changes, of the year of the first change, and of
+        the year of the last change.
     crs : any, optional
-        The reference system to assume for maps that have none.
+        The coordinate reference system to assume for maps that do not have one.
 
     Returns
     -------
     Trajectories
-        A named tuple of the DataFrames `table`, `changes` and `intervals`, and of `maps` by name.
+        A named tuple of the DataFrames `table`, `changes` and `intervals`, and the dict `maps`.
 
     Raises
     ------
     Refused
         See `run`.
     BadArgument
-        The years do not ascend, their number differs from the number of maps, or there are too many
-        maps for the number of classes.
+        The years are not in ascending order, their number differs from the number of maps, or there
+        are too many maps for the number of classes.
 
     Examples
     --------

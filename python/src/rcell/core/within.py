@@ -1,5 +1,5 @@
 # SPDX-License-Identifier: Apache-2.0 OR GPL-2.0-or-later
-"""Find the cells within a distance of given classes (buffers)."""
+"""Find the cells within given distances of classes (buffers)."""
 
 from __future__ import annotations
 
@@ -24,7 +24,7 @@ __all__ = ["within"]
 
 # The largest distance in cells. The time per cell grows with it.
 MOST_STEPS = 255
-# The number of cells to process at a time, in complete rows, which fit in a processor's cache.
+# The number of cells, in complete rows, to process at a time, so that they fit in a cache.
 _CACHED = 1 << 17
 
 
@@ -35,7 +35,7 @@ def within(
     *,
     crs: Any = None,
 ) -> ArrayMap:
-    """Find the cells within distances of the given classes, measured between cell centres.
+    """Find the cells within given distances of classes, measured between cell centres.
 
     Parameters
     ----------
@@ -44,9 +44,9 @@ def within(
     classes : int or iterable of int
         The classes from which distances are measured.
     distances : float or iterable of float
-        The distances in metres, ascending, up to 255 cells.
+        The distances in metres, in ascending order, up to 255 cells.
     crs : any, optional
-        The reference system to assume for a map that has none.
+        The coordinate reference system to assume for a map that does not have one.
 
     Returns
     -------
@@ -61,8 +61,8 @@ def within(
     Refused
         See `run`.
     BadArgument
-        No class is given; distances do not ascend or are too long; or the length of the map's unit
-        is unknown.
+        No class is given; the distances are too large or not in ascending order; or the length of
+        the map's unit is unknown.
 
     Examples
     --------
@@ -95,7 +95,7 @@ def within(
 
 
 def _ascending(distances: Any) -> list[float]:
-    """Return distances as floats, or raise BadArgument unless they ascend from above 0."""
+    """Return distances as floats, or raise BadArgument unless they are positive and ascending."""
     if isinstance(distances, numbers.Real):
         distances = [distances]
     if isinstance(distances, (str, bytes)) or not isinstance(distances, Iterable):

@@ -21,7 +21,7 @@ FULL_BELOW = 1 << 18
 
 @contextlib.contextmanager
 def write_errors(path: str, *kinds: type[Exception]) -> Iterator[None]:
-    """Convert OSError and other given exceptions to WriteFailed, which names the path.
+    """Convert OSError and the given exceptions to WriteFailed, which names the path.
 
     Raster libraries report a full disk only on standard error, if at all, and fail later for
     another reason. This function therefore checks the free space.
@@ -49,7 +49,7 @@ def write_errors(path: str, *kinds: type[Exception]) -> Iterator[None]:
 
 @contextlib.contextmanager
 def replacing(path: str) -> Iterator[str]:
-    """Yield a temporary path, whose file replaces the target at the end of the block.
+    """Yield a temporary path whose file replaces the target at the end of the block.
 
     If an error is raised, nothing is replaced.
 
@@ -57,7 +57,7 @@ def replacing(path: str) -> Iterator[str]:
     ------
     WriteFailed
         The folder is missing, or the file cannot be replaced. The temporary file is then removed,
-        and an old file is unchanged.
+        and the target is unchanged.
 
     Examples
     --------

@@ -42,33 +42,33 @@ def zonal(
     zones : map, or path of polygons, GeoDataFrame or GeoSeries
         See `composition`.
     quantiles : iterable of float
-        Quantiles from 0 to 1, each of which becomes a column: 0.5 is `q50`, 0.025 is `q2_5`. They
-        are interpolated linearly, like numpy's default.
+        Quantiles from 0 to 1, each of which becomes a column: 0.5 is `q50`, and 0.025 is `q2_5`.
+        They are interpolated linearly, as numpy does by default.
     scale : int, optional
-        For maps of decimals: round values to 1 / `scale`, with a warning. `scale=100` keeps two
-        decimals.
+        Round decimals to multiples of 1 / `scale`, with a warning. For example, `scale=100` keeps
+        two decimals.
     zone_field, layer : str, optional
         See `composition`.
     each : bool
-        Whether to process overlapping polygons one after another, as in `composition`.
+        Whether to process overlapping polygons separately, as in `composition`.
     zone_labels : path, dict, Series or DataFrame, optional
         The legend of the zones, as in `composition`.
     crs : any, optional
-        The reference system to assume for maps that have none.
+        The coordinate reference system to assume for maps that do not have one.
 
     Returns
     -------
     pandas.DataFrame
-        Columns `zone`, `zone_label`, `cells`, `sum`, `mean`, `minimum`, `maximum`, `variance` (of
-        the population), and the quantiles. Zones with only null values have no row. All statistics
-        are computed with integers and divided by `scale` at the end.
+        The columns are `zone`, `zone_label`, `cells`, `sum`, `mean`, `minimum`, `maximum`,
+        `variance` (of the population), and the quantiles. Zones with only null values have no row.
+        With `scale`, statistics are computed from integers and divided at the end.
 
     Raises
     ------
     Refused
-        See `run`; also raised if a value is too large for `scale`.
+        A value is too large for `scale`. See `run` for other reasons.
     BadArgument
-        A quantile is not between 0 and 1.
+        A quantile is not from 0 to 1, or `scale` is out of range.
 
     Examples
     --------
@@ -120,7 +120,7 @@ def _title(quantile: Any) -> str:
 def _moments(
     values: Integers, cells: Integers, first: NDArray[np.intp], scale: int | None
 ) -> list[Column]:
-    """Return sums, means, extremes and variances, using integers until the final division."""
+    """Return sums, means, extremes and variances, using integers until the last division."""
     if not first.size:
         sums = squares = count = least = most = np.empty(0, np.int64)
     else:

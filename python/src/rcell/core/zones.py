@@ -1,5 +1,5 @@
 # SPDX-License-Identifier: Apache-2.0 OR GPL-2.0-or-later
-"""Convert polygons to zones: find each feature's zone, and the feature that contains each cell."""
+"""Convert polygons to zones: number the zones, and find the zone of each cell."""
 
 from __future__ import annotations
 
@@ -44,14 +44,14 @@ class Feature:
     Attributes
     ----------
     id : any
-        The feature's id in the layer: the fid, or the index of a GeoDataFrame.
+        The feature's id in the layer: the fid, or the index in a GeoDataFrame.
     value : any
         The field's value as a Python object (int, float, str, bool, date, ..), or None if the value
         is missing or NaN, or if no field is named.
     kind : str
-        The OGC name of its geometry type, for example `MultiPolygon`; empty without a geometry.
+        The OGC name of the geometry type, for example `MultiPolygon`, or empty without a geometry.
     geometry : any
-        An object for the same layer's `burn` and `bounds`.
+        The geometry, as an object that the layer's `burn` and `bounds` accept.
     """
 
     id: Any
@@ -61,7 +61,7 @@ class Feature:
 
 
 class Layer(Protocol):
-    """Features with their fields, as readers of vector files return them."""
+    """A layer of features with fields, as returned by readers of vector files."""
 
     @property
     def name(self) -> str:
@@ -76,7 +76,7 @@ class Layer(Protocol):
         """The names of the layer's fields."""
 
     def features(self, field: Optional[str]) -> Iterable[Feature]:
-        """Yield the features in order, with their values of a field, and with curves as lines."""
+        """Yield the features in order, with their values of a field and with curves as lines."""
 
     def burn(
         self, shapes: Sequence[tuple[Any, int]], transform: Transform, shape: tuple[int, int]
@@ -94,12 +94,12 @@ class Zones:
     Attributes
     ----------
     maps : list of ArrayMap
-        Maps with the categories 1, 2, ..; several maps if overlapping polygons are processed one
-        after another.
+        Maps with the categories 1, 2, .. There are several maps if overlapping polygons are
+        processed separately.
     ids : array of int64
-        The zone of each category, ascending.
+        The zone of each category, in ascending order.
     labels : dict of int to str
-        The labels by zone.
+        The labels of the zones.
     """
 
     maps: list[ArrayMap]
@@ -112,28 +112,28 @@ def zones_of(
 ) -> Zones:
     """Convert polygons to zones on a map's grid.
 
-    A cell belongs to the last polygon that contains its centre. The zone of a feature is its value
-    of a field, or its id. A feature without geometry or without a value has no zone. Whole numbers
-    are used as zones directly. Other values become zones 1, 2, .. in the order of their appearance,
-    with the values as labels.
+    A cell belongs to the last polygon that contains its centre. A feature's zone is its value of
+    the field or, without a field, its id. Features without a geometry or without a value have no
+    zone. Whole numbers are used as zones directly. Other values become the labels of zones 1, 2, ..
+    in the order of their appearance.
 
     Parameters
     ----------
     layer : Layer
     field : str, optional
     like : Source
+        The map whose grid is used.
     crs : any
-        The reference system to assume for maps that have none.
+        The coordinate reference system to assume for maps that do not have one.
     each : bool
-        Whether to process overlapping polygons one after another, so that no polygon loses a cell.
+        Whether to process overlapping polygons separately, so that no polygon loses a cell.
 
     Raises
     ------
     OtherCrs
         The polygons' reference system differs from the map's.
     BadMap
-        The field is missing, a feature is not a polygon, or no polygon contains the centre of a
-        cell.
+        The field is missing, a feature is not a polygon, or no polygon contains a cell centre.
     """
     if field is not None and field not in layer.fields:
         raise BadMap(layer.name, f"no field {field}: {known_names('field', layer.fields)}")
@@ -211,7 +211,7 @@ def _name(feature: Feature, zone: int, labels: Mapping[int, str]) -> str:
 
 
 class _Losses:
-    """Counts the cells in more than one polygon, and collects the features that lose cells."""
+    """Counts the cells in several polygons, and collects the features that lose cells."""
 
     def __init__(self) -> None:
         self.cells = 0
@@ -220,7 +220,7 @@ class _Losses:
         self._lock = threading.Lock()
 
     def add(self, place: Rectangle, first: NDArray[np.int32], lost: NDArray[np.bool_]) -> None:
-        """Record the cells of a block that the first feature loses to a later feature."""
+        """Record the cells of a block that a feature loses to a later feature."""
         if not lost.any():
             return
         row, col = np.unravel_index(int(np.argmax(lost)), lost.shape)
@@ -277,7 +277,7 @@ class _Grid:
         return ArrayMap(name, cells, like.region, None, 0, {}, like.crs, like.transform)
 
     def _over_blocks(self, burn: Callable[[Rectangle], NDArray[np.bool_]]) -> None:
-        """Burn features in all blocks, and record which features contain the centre of a cell."""
+        """Burn features into all blocks, and record which features contain a cell centre."""
         places = rectangles_of(self.like.region.shape, (_BLOCK, _BLOCK))
         if len(places) == 1:
             self._has_centre |= burn(places[0])
@@ -304,7 +304,7 @@ class _Grid:
         return last, cells > 0
 
     def _find_hidden(self, rest: list[int]) -> None:
-        """Find features that contain a centre, but are hidden between two other features."""
+        """Find the features that contain a cell centre but are hidden by other features."""
         while rest:
             self._over_blocks(lambda place: self._burnt(rest, place)[1])
             left = [index for index in rest if not self._has_centre[index + 1]]
@@ -363,7 +363,7 @@ def _apart(
 
 
 def _meets(box: NDArray[np.float64], others: NDArray[np.float64]) -> NDArray[np.bool_]:
-    """Return a mask of the boxes that a box touches."""
+    """Return a mask of the other boxes that a box touches."""
     is_below = (others[:, :2] <= box[2:]).all(axis=1)
     is_above = (others[:, 2:] >= box[:2]).all(axis=1)
     touches: NDArray[np.bool_] = is_below & is_above
