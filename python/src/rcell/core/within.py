@@ -24,8 +24,8 @@ __all__ = ["within"]
 
 # The largest distance in cells. The time per cell grows with it.
 MOST_STEPS = 255
-# The number of cells, in complete rows, to process at a time, so that they fit in a cache.
-_CACHED = 1 << 17
+# The number of cells, in complete rows, to process at a time, so that their bits fit in a cache.
+_CACHED = 1 << 20
 
 
 def within(
@@ -114,7 +114,7 @@ def _ascending(distances: Any) -> list[float]:
 
 
 def reaches(distance: float, width: float, height: float) -> list[int]:
-    """Return how many rows away a cell within the distance may be, for 0, 1, 2, .. columns.
+    """Return how many columns away a cell within the distance may be, for 0, 1, 2, .. rows.
 
     Examples
     --------
@@ -128,41 +128,56 @@ def reaches(distance: float, width: float, height: float) -> list[int]:
             f"must be at most {MOST_STEPS} cells; got {distance:.10g} m, which is {cells:.1f} cells"
         )
         raise BadArgument("distances", rule)
-    rows: list[int] = []
-    while len(rows) ** 2 * wide <= square:
-        rows.append(math.isqrt(math.floor((square - len(rows) ** 2 * wide) / high)))
-    return rows
+    cols: list[int] = []
+    while len(cols) ** 2 * high <= square:
+        cols.append(math.isqrt(math.floor((square - len(cols) ** 2 * high) / wide)))
+    return cols
 
 
 def _ring_of(cells: Any, rings: Sequence[Sequence[int]], null: int) -> Any:
     """Return the index of each cell's smallest ring that contains a 0."""
     if hasattr(cells, "map_overlap"):  # a Dask array
-        sides = rings[-1][0], len(rings[-1]) - 1
+        sides = len(rings[-1]) - 1, rings[-1][0]
         depth = tuple(map(min, sides, cells.shape))
         words = {"rings": rings, "null": NULL, "dtype": np.int32, "boundary": "none"}
         return cells.map_overlap(_ring_of, depth=depth, **words).rechunk(cells.chunks)
-    far = _rows_away(cells, rings[-1][0] + 1)
+    rows, cols = cells.shape
+    step = max(1, _CACHED // cols)
+    parts = [slice(start, start + step) for start in range(0, rows, step)]
+    # One bit per cell, and zeros after each row, so that a widened row does not reach the next row.
+    inside = np.zeros((rows, (cols + rings[-1][0]) // 64 + 1), "<u8")
+    for part in parts:
+        bits = np.packbits(cells[part] == 0, axis=1, bitorder="little")
+        inside[part].view(np.uint8)[:, : bits.shape[1]] = bits
     nearest = cells_for(cells.shape, np.uint8 if null == NULL_BYTE else np.int32)
     nearest.fill(null)
-    step = max(1, _CACHED // cells.shape[1])
-    for start in range(0, len(far), step):
-        part = far[start : start + step]
-        for number, ring in reversed(list(enumerate(rings))):
-            near = part <= ring[0]
-            for col, reach in enumerate(ring[1:], 1):
-                is_reached = part <= reach
-                near[:, col:] |= is_reached[:, :-col]
-                near[:, :-col] |= is_reached[:, col:]
-            np.copyto(nearest[start : start + step], number, where=near)
+    for number, ring in reversed(list(enumerate(rings))):
+        near = _near(inside, ring, parts).view(np.uint8)
+        for part in parts:
+            is_near = np.unpackbits(near[part], axis=1, count=cols, bitorder="little")
+            np.copyto(nearest[part], number, where=is_near.view(np.bool_))
     return nearest
 
 
-def _rows_away(cells: Any, most: int) -> Any:
-    """Return each cell's distance in rows, up to `most`, to the nearest 0 in its column."""
-    far = cells_for(cells.shape, np.min_scalar_type(most + 1))
-    before: Any = np.full(cells.shape[1], most, far.dtype)
-    for line, row in zip(cells, far):
-        before = row[:] = np.minimum(before + 1, most) * (line != 0)
-    for row in reversed(far):
-        before = row[:] = np.minimum(row, before + 1)
-    return far
+def _near(inside: Any, ring: Sequence[int], parts: Sequence[slice]) -> Any:
+    """Return the bits of the cells whose ring contains a cell in `inside`."""
+    most = len(ring) - 1
+    near = np.zeros((len(inside) + 2 * most, inside.shape[1]), inside.dtype)
+    for part in parts:
+        wide, width = inside[part], 0
+        for row, reach in reversed(list(enumerate(ring))):
+            wide, width = _widened(wide, reach - width), reach
+            for top in (part.start + most - row, part.start + most + row):
+                near[top : top + len(wide)] |= wide
+    return near[most : most + len(inside)]
+
+
+def _widened(bits: Any, times: int) -> Any:
+    """Return bits in which all bits up to `times` places from a set bit are also set."""
+    flat = bits.reshape(-1)
+    for _ in range(times):
+        wide = flat | flat << 1 | flat >> 1
+        wide[1:] |= flat[:-1] >> 63
+        wide[:-1] |= flat[1:] << 63
+        flat = wide
+    return flat.reshape(bits.shape)
