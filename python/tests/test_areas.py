@@ -132,7 +132,9 @@ def test_systems_without_a_unit_of_the_plane_have_no_areas(wkt: str) -> None:
 def test_lengths_in_degrees_are_not_a_number_with_one_warning() -> None:
     land = rcell.Raster(LAND, DEGREES, crs="EPSG:4326")
     for call, column in ((rcell.patches, "perimeter_m"), (rcell.adjacency, "border_m")):
-        with pytest.warns(UserWarning, match="lengths are not computed for maps in degrees") as caught:
+        with pytest.warns(
+            UserWarning, match="lengths are not computed for maps in degrees"
+        ) as caught:
             found = call(land)
         assert len(caught) == 1
         assert caught[0].filename == __file__

@@ -214,5 +214,7 @@ def test_what_a_cluster_does_is_said() -> None:
         future.set_exception(error)
         with pytest.raises(kind, match=words):
             clusters.result_of(future)
-    with pytest.raises(rcell.WrongProgram, match="rcell .* is installed, but the calling machine has rcell 0.1"):
+    with pytest.raises(
+        rcell.WrongProgram, match="rcell .* is installed, but the calling machine has rcell 0.1"
+    ):
         clusters.run_on_worker(None, {}, "0.1")  # type: ignore[arg-type]

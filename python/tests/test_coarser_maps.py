@@ -79,7 +79,10 @@ def test_shares_that_cannot_be_written(tmp_path: pathlib.Path) -> None:
         ({"factor": 0}, "factor must be a whole number from 1 to 2147483647; got 0"),
         ({"factor": 2.0}, "factor must be a whole number from 1 to 2147483647; got 2.0"),
         ({"factor": 2, "min_percent": -1}, "min_percent must be a number from 0 to 100; got -1"),
-        ({"factor": 2, "min_percent": "50"}, "min_percent must be a number from 0 to 100; got '50'"),
+        (
+            {"factor": 2, "min_percent": "50"},
+            "min_percent must be a number from 0 to 100; got '50'",
+        ),
     ],
 )
 def test_blocks_that_are_refused(words: Any, told: str) -> None:

@@ -162,7 +162,7 @@ def test_an_input_is_no_output(room: pathlib.Path) -> None:
     ran = shell(room, f"{TIF}x.tif --out n=./x.tif")
     assert (ran.returncode, ran.stderr) == (
         2,
-        "rcell-gis: ./x.tif: two outputs go to one file: choose another name\n",
+        "rcell-gis: ./x.tif: two outputs are the same file: choose another name\n",
     )
 
 
@@ -357,8 +357,7 @@ def test_programs_are_not_found_through_relative_folders(room: pathlib.Path) -> 
         assert shell(room, f"PATH={path} {sys.executable} -c {shlex.quote(code)}").stdout == "[]\n"
     ran = shell(room, TABLE, RCELL="rcell", RCELL_PIPE=programs.find_pipe())
     assert ran.stderr == (
-        f"rcell-gis: {stranger} is not the program rcell in a version that this package "
-        "supports\n"
+        f"rcell-gis: {stranger} is not a supported version of the program rcell\n"
     )
 
 

@@ -121,7 +121,7 @@ def test_two_outputs_are_not_one_file(room: pathlib.Path, capsys: Any) -> None:
         words = [word.replace("\\", " ") for word in line.format(one, other).split()]
         words = ["run", "r.clump input=lc output=k", *words[-5:]]
         assert main(words) == 2
-        assert "two outputs go to one file" in capsys.readouterr().err
+        assert "two outputs are the same file" in capsys.readouterr().err
         assert files_of(room) == before
 
 

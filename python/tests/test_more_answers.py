@@ -68,7 +68,7 @@ def test_rules_that_are_refused(rules: Any, told: str) -> None:
 def test_rules_of_a_file_that_are_refused(tmp_path: pathlib.Path) -> None:
     path = tmp_path / "rules.csv"
     for text, told in (
-        ("value,label\n1,a\n", "no header with value and new"),
+        ("value,label\n1,a\n", "line 1: the header must contain value and new"),
         ("value,new\n1,2\n1,3\n", "two for 1"),
         ("value,new\n1,x\n", "line 2: 'x' is not a class"),
     ):

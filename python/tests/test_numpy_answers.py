@@ -732,7 +732,7 @@ class Programs(unittest.TestCase):
     def test_killed(self) -> None:
         for signal, told in (
             (9, "SIGKILL): too little memory"),
-            (15, "SIGTERM): someone ended it"),
+            (15, "SIGTERM): someone ended the program"),
         ):
             with self.assertRaises(rcell.Killed) as caught:
                 self.run_with(f"kill -{signal} $$")

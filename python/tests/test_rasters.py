@@ -268,5 +268,5 @@ def test_without_rasterio(raster: Write) -> None:
     )
     assert (
         ran.stdout
-        == "to read a raster the library rasterio is needed: pip install 'rcell[gis]', or Debian's package python3-rasterio\n"
+        == "the library rasterio is required to read a raster: run pip install 'rcell[gis]', or install Debian's package python3-rasterio\n"
     ), ran.stderr

@@ -380,7 +380,7 @@ def test_a_library_that_cannot_be_loaded_is_not_called_missing(
     )
     assert ran.returncode == 2
     assert ran.stderr == (
-        "rcell-gis: to read a raster the library rasterio is needed, but it cannot be loaded: "
+        "rcell-gis: the library rasterio is required to read a raster, but cannot be loaded: "
         "librasterio.so.32: failed to map segment from shared object\n"
     )
 

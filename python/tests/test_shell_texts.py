@@ -93,7 +93,7 @@ def test_esri_grids_are_read_without_libraries(room: pathlib.Path, nodata: str, 
         (ESRI.format("0", "").replace("1.0", "1,0"), "cellsize must be a number; got '1,0'"),
         (
             "ncols 4\nncols 4\n",
-            "line 2: a line of the header must have one key and one value",
+            "line 2: a header line must have one key and one value",
         ),
     ],
 )
@@ -120,7 +120,7 @@ def test_the_edges_of_esri_grids_are_exact(room: pathlib.Path) -> None:
         (room / "m.asc").write_text(header + "1 " * count)
         ran = bare("convert", "m.asc", "-")
         assert ran.stdout.split("\n")[2] == f"east: {east}"
-        told = "because the 12 decimals of the cell size would make it" in ran.stderr
+        told = "because the cell size, truncated to 12 decimals, would make it" in ran.stderr
         assert told == (parts != 7)
     text = "ncols 1\nnrows 2\nxllcenter 10.5\nyllcenter 0.05\ndx 0.2\ndy 0.1\n1 2"
     (room / "m.asc").write_text(text)
@@ -128,7 +128,7 @@ def test_the_edges_of_esri_grids_are_exact(room: pathlib.Path) -> None:
     assert bare("convert", "m.asc", "-").stdout.startswith(edges)
     (room / "m.asc").write_text("ncols 2\nnrows 1\nxllcorner 0\nyllcorner 0\ncellsize 1\n-9999 2")
     assert (
-        "cells are -9999, which the header does not declare as null"
+        "some cells are -9999, which the header does not declare as nodata"
         in bare("convert", "m.asc", "-").stderr
     )
 
@@ -274,7 +274,7 @@ def test_explanations_of_files_and_extents(room: pathlib.Path) -> None:
     (room / "script").write_text("r.stats -c input=a,b\n")
     (room / "b.txt").write_text(GRID.replace("north: 3", "north: 3.00000001"))
     ran = bare("explain", "script", "a=land.txt", "b=b.txt")
-    assert "north is 3.00000001 in b, and 3 in a\n" in ran.stderr
+    assert "north is 3.00000001 in b, but 3 in a\n" in ran.stderr
     assert "try: land.txt\n" in bare("explain", "script", "a=lnad.txt", "b=b.txt").stderr
     assert bare("explain", "script", "a").stderr.startswith(
         "rcell: arguments:2: bad grid argument\n  try: NAME=PATH"

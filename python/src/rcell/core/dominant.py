@@ -26,7 +26,7 @@ def dominant(
     each: bool = False,
     crs: Any = None,
 ) -> Table:
-    """Find each zone's most frequent and rarest classes, and count the zone's classes.
+    """Find the most frequent and the rarest class of each zone, and count the classes.
 
     Parameters
     ----------
@@ -49,9 +49,9 @@ def dominant(
     pandas.DataFrame
         The columns are `zone`, `zone_label`, `cells`, `area_ha`, `classes` (the number of classes),
         `majority`, `majority_label`, `majority_percent`, `minority`, `minority_label` and
-        `minority_percent`. Frequencies and percentages refer to the number of the zone's non-null
-        cells, even if the map is in degrees. In a tie, the smallest class is used. Zones with only
-        null cells are left out.
+        `minority_percent`. Frequencies and percentages are based on the zone's non-null cells, not
+        on areas, even if the map is in degrees. In a tie, the smallest class is used. Zones with
+        only null cells are left out.
 
     Raises
     ------

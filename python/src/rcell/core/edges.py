@@ -1,5 +1,5 @@
 # SPDX-License-Identifier: Apache-2.0 OR GPL-2.0-or-later
-"""Print and compare the edges of maps as the program does, in whole units of 10^-8."""
+"""Format and compare map edges as the program does, in whole units of 10^-8."""
 
 from __future__ import annotations
 
@@ -9,7 +9,7 @@ __all__ = ["DECIMALS", "UNITS", "differences_of", "edge_text"]
 
 DECIMALS = 8
 UNITS = 10**DECIMALS
-"""An edge of 1; the program keeps edges as whole numbers of this unit."""
+"""The number of units in an edge of 1. The program stores edges as whole numbers of units."""
 
 
 def edge_text(units: int) -> str:
@@ -22,7 +22,7 @@ def edge_text(units: int) -> str:
 def differences_of(own: Iterable[int], others: Iterable[int]) -> list[str]:
     """Return a description of each difference between two grids.
 
-    A grid is given as a sequence of its four edges in units of 10^-8, its rows and its columns.
+    Each grid is given as its four edges in units of 10^-8, its rows and its columns.
 
     Examples
     --------

@@ -1,5 +1,5 @@
 # SPDX-License-Identifier: Apache-2.0 OR GPL-2.0-or-later
-"""Define the errors of the package, with one class for each kind of error."""
+"""Define the package's errors, with one class for each kind."""
 
 from __future__ import annotations
 
@@ -25,9 +25,9 @@ __all__ = [
 ]
 
 _CAUSES = {
-    4: "the processor is older than x86-64-v2, which the program needs",
-    9: "too little memory, or someone ended it",
-    11: "too little room for its stack (ulimit -s), or a bug in the program",
+    4: "the processor does not support x86-64-v2, which the program requires",
+    9: "memory ran out, or someone ended the program",
+    11: "the stack limit is too low (ulimit -s), or the program has a bug",
 }
 
 
@@ -80,18 +80,18 @@ class Refused(Fault, RcellError):
     Parameters
     ----------
     text : str
-        The message. For an error in the program, this is the program's own message.
+        The message. If the program reports the error, this is the program's message.
     source : str
-        The name of the map, or `script`, `labels` or `output`.
+        The name of the map or argument, or `script` or `output`.
     line : int
         The line of the source, counted from 1, or 0 if the error is not in a line.
     status : int
         The exit status of the program: 1 for an error in a grid or the script, 2 for an error in
-        the command line, 3 if memory ran out, and 4 for an error in reading or writing a file.
+        the command line, 3 if memory ran out, and 4 if a file cannot be read or written.
     content : str, optional
         The text of the line, if the source is the script.
     advice : str, optional
-        The text to write instead.
+        A suggested correction.
     column : int, optional
         The position in the line, counted in bytes from 1, unless `text` contains the position.
 
@@ -112,7 +112,7 @@ class Refused(Fault, RcellError):
 class OutOfMemory(Refused, MemoryError):
     """Raised if the program runs out of memory.
 
-    `source` and `line` identify the place that the program was processing.
+    `source` and `line` identify the input that the program was processing.
 
     Parameters
     ----------
@@ -128,7 +128,7 @@ class OutOfMemory(Refused, MemoryError):
 
 
 class BadMap(Refused, ValueError):
-    """Raised if a map contains values that are not whole numbers, or its grid is not regular.
+    """Raised if a map contains values that are not whole numbers, or has an irregular grid.
 
     Parameters
     ----------
@@ -212,7 +212,7 @@ class OtherCrs(BadMap):
 
 
 class ReadFailed(BadMap):
-    """Raised if a file cannot be opened, or a part of a file cannot be read.
+    """Raised if a file cannot be opened, or cannot be read completely.
 
     Parameters
     ----------
@@ -261,7 +261,7 @@ class WrongProgram(RcellError):
     ...     find_program("/bin/true")
     ... except rcell.WrongProgram as error:
     ...     print(error)
-    /bin/true is not the program rcell in a version that this package supports
+    /bin/true is not a supported version of the program rcell
     """
 
 
@@ -277,10 +277,10 @@ class Killed(RcellError):
     --------
     >>> import rcell
     >>> print(rcell.Killed(9))
-    the program was killed by signal 9 (SIGKILL): too little memory, or someone ended it
+    the program was killed by signal 9 (SIGKILL): memory ran out, or someone ended the program
     >>> print(*str(rcell.Killed(4)).split(": "), sep="\\n")
     the program was killed by signal 4 (SIGILL)
-    the processor is older than x86-64-v2, which the program needs
+    the processor does not support x86-64-v2, which the program requires
     """
 
     def __init__(self, signal: int) -> None:
@@ -293,7 +293,7 @@ class Killed(RcellError):
         name = next((f" ({known.name})" for known in Signals if known == self.signal), "")
         return (
             f"the program was killed by signal {self.signal}{name}: "
-            f"{_CAUSES.get(self.signal, 'someone ended it')}"
+            f"{_CAUSES.get(self.signal, 'someone ended the program')}"
         )
 
 
@@ -318,19 +318,19 @@ class MissingLibrary(RcellError, ImportError):
     library : str
         The name of the library.
     extra : str
-        The extra of the wheel that installs the library.
+        The extra of this package that installs the library.
     purpose : str
-        The task that needs the library.
+        The purpose of the library, beginning with "to" or "for".
     reason : str, optional
-        The reason why an installed library cannot be loaded, for example because memory ran out.
+        The error message of an installed library that cannot be loaded.
 
     Examples
     --------
     >>> import rcell
     >>> error = rcell.MissingLibrary("rasterio", "gis", "to read GeoTIFF")
     >>> print(*str(error).split(": "), sep="\\n")
-    to read GeoTIFF the library rasterio is needed
-    pip install 'rcell[gis]', or Debian's package python3-rasterio
+    the library rasterio is required to read GeoTIFF
+    run pip install 'rcell[gis]', or install Debian's package python3-rasterio
     """
 
     def __init__(self, library: str, extra: str, purpose: str, reason: str = "") -> None:
@@ -341,16 +341,11 @@ class MissingLibrary(RcellError, ImportError):
         self.reason = reason
 
     def __str__(self) -> str:
+        problem = f"the library {self.library} is required {self.purpose}"
         if self.reason:
-            return (
-                f"{self.purpose} the library {self.library} is needed, but it cannot be loaded: "
-                f"{self.reason}"
-            )
+            return f"{problem}, but cannot be loaded: {self.reason}"
         package = f"Debian's package python3-{self.library}"
-        return (
-            f"{self.purpose} the library {self.library} is needed: pip install "
-            f"'rcell[{self.extra}]', or {package}"
-        )
+        return f"{problem}: run pip install 'rcell[{self.extra}]', or install {package}"
 
 
 # Tracebacks show the public names.

@@ -51,7 +51,7 @@ def _shown(word: bytes) -> str:
 
 
 class _Header:
-    """The header of an ESRI ASCII grid: each key's value, and the position of the first cell."""
+    """The header of an ESRI ASCII grid: the value of each key, and where the cells begin."""
 
     def __init__(self, start: bytes) -> None:
         self.values: dict[bytes, bytes] = {}
@@ -63,7 +63,7 @@ class _Header:
                 break
             if words and (len(words) != 2 or key in self.values):
                 rule = "must have one key and one value, and no key may appear twice"
-                raise Refused(f"a line of the header {rule}", "map", self.line)
+                raise Refused(f"a header line {rule}", "map", self.line)
             if words:
                 self.values[key] = words[1]
             self.end += len(raw)
@@ -88,7 +88,7 @@ class _Header:
         """Return the value of the first given key that is present, as a number and as text."""
         key = next((key for key in keys if key in self.values), None)
         if key is None:
-            raise Refused(f"the header has no {keys[0].decode()}", "map")
+            raise Refused(f"the header has no {' or '.join(map(bytes.decode, keys))}", "map")
         number = _number(self.values[key])
         if number is None:
             raise Refused(f"{key.decode()} must be a number; got {_shown(self.values[key])}", "map")
@@ -113,9 +113,8 @@ class _Header:
         old_text = edge_text(round(high * UNITS))
         if new_text != old_text:
             warn(
-                f"{name}: {new_text}, because the {decimals} decimals of the cell size would "
-                "make it "
-                f"{old_text}"
+                f"{name} is set to {new_text}, because the cell size, truncated to {decimals} "
+                f"decimals, would make it {old_text}"
             )
         return low, corrected
 
@@ -152,7 +151,7 @@ class _Cells(dict[bytes, bytes]):
 
 
 def grid_of_esri(path: str) -> Iterator[bytes]:
-    """Convert an ESRI ASCII grid to an rcell grid, and yield the text in pieces.
+    """Convert an ESRI ASCII grid to an rcell grid and yield the text in pieces.
 
     Raises
     ------
@@ -181,7 +180,7 @@ def grid_of_esri(path: str) -> Iterator[bytes]:
         difference = f"the header declares {declared}, but {count} cells follow"
         raise Refused(difference, "map")
     for word in sorted(cells.forgotten):
-        warn(f"cells are {word.decode()}, which the header does not declare as null")
+        warn(f"some cells are {word.decode()}, which the header does not declare as nodata")
 
 
 def _lines(start: bytes, pieces: Iterable[bytes]) -> Iterator[bytes]:
@@ -193,7 +192,7 @@ def _lines(start: bytes, pieces: Iterable[bytes]) -> Iterator[bytes]:
 
 
 def esri_of_grid(pieces: Iterator[bytes]) -> Iterator[bytes]:
-    """Convert a grid that rcell printed to an ESRI ASCII grid, and yield the text in pieces."""
+    """Convert a grid printed by rcell to an ESRI ASCII grid and yield the text in pieces."""
     start = b""
     while start.count(b"\n") < 6:
         start += next(pieces)

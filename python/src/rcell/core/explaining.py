@@ -1,5 +1,5 @@
 # SPDX-License-Identifier: Apache-2.0 OR GPL-2.0-or-later
-"""Run rcell on text grids and explain its error message, for `rcell-gis explain`.
+"""Run rcell on text grids and explain the error message, for `rcell-gis explain`.
 
 This module needs only the standard library.
 """
@@ -28,7 +28,7 @@ LONGEST_LINE = 1 << 20  # the longest line that is examined, in bytes
 
 
 def explain(script: str, words: Sequence[str]) -> int:
-    """Run rcell on a script, print its message followed by advice, and return its exit status.
+    """Run rcell on a script, print the error message with advice, and return the exit status.
 
     The output of rcell is written to standard output unchanged.
     """
@@ -132,7 +132,7 @@ def _other_region(paths: dict[str, str], name: str, start: bytes) -> Iterator[st
     for key, value in _EDGE.findall(start):
         if wanted.get(key, value) != value:
             difference = f"{key.decode()} is {value.decode()} in {name}"
-            yield f"{difference}, and {wanted[key].decode()} in {first}"
+            yield f"{difference}, but {wanted[key].decode()} in {first}"
 
 
 def _printable(text: str) -> str:

@@ -1,5 +1,5 @@
 # SPDX-License-Identifier: Apache-2.0 OR GPL-2.0-or-later
-"""Track the inputs of a call, write outputs completely or not at all, and use standard streams."""
+"""Check inputs, write outputs completely or not at all, and handle standard streams."""
 
 from __future__ import annotations
 
@@ -36,7 +36,7 @@ __all__ = [
 ]
 
 SIDECARS = (".aux.xml", ".msk", ".ovr")
-"""Endings of GDAL's files next to a raster. A new raster must not keep old masks or labels."""
+"""Endings of GDAL's sidecar files. A new raster must not inherit old masks or labels."""
 
 MOST_LINKS = 40
 PIECE = 1 << 20
@@ -44,7 +44,7 @@ OWN_DESCRIPTORS = "/proc/self/fd"
 
 
 def open_standard_streams() -> None:
-    """Open /dev/null on closed standard streams, so that other files do not get their numbers.
+    """Open /dev/null on closed standard streams, so that no other file uses their descriptors.
 
     A closed standard output is opened for reading, so that writing to standard output still fails.
     """
@@ -83,7 +83,7 @@ _outputs: ContextVar[Sequence[str]] = ContextVar("outputs", default=())
 
 @contextlib.contextmanager
 def writing(*paths: str) -> Iterator[None]:
-    """Raise Refused if two outputs are the same file, or this block reads one of the outputs.
+    """Raise Refused if two outputs are the same file, or if an output is read in this block.
 
     Examples
     --------
@@ -91,12 +91,12 @@ def writing(*paths: str) -> Iterator[None]:
     ...     pass
     Traceback (most recent call last):
       ...
-    rcell.Refused: arguments: ./a.csv: two outputs go to one file: choose another name
+    rcell.Refused: arguments: ./a.csv: two outputs are the same file: choose another name
     """
     for first, second in combinations(paths, 2):
         if os.path.realpath(first) == os.path.realpath(second) or is_same_file(first, second):
             raise Refused(
-                f"{second}: two outputs go to one file: choose another name",
+                f"{second}: two outputs are the same file: choose another name",
                 status=_STATUS,
             )
     token = _outputs.set(paths)
@@ -107,7 +107,7 @@ def writing(*paths: str) -> Iterator[None]:
 
 
 def opened(*paths: str) -> None:
-    """Record the files that the current call reads.
+    """Raise Refused if a file that the current call reads is also an output of the call.
 
     Call this function whenever a file is opened, with all files that GDAL lists for a raster.
     """
@@ -206,7 +206,7 @@ def write_all(descriptor: int, data: bytes | memoryview) -> None:
 
 
 def _own_descriptor(path: str) -> int | None:
-    """Return the open descriptor to which a path such as /dev/stdout refers, or None."""
+    """Return the open descriptor that a path such as /dev/stdout refers to, or None."""
     own = os.path.realpath(OWN_DESCRIPTORS)
     for _ in range(MOST_LINKS):
         folder, name = os.path.split(os.path.abspath(path))
@@ -341,7 +341,7 @@ class Output:
         os.chmod(part, mode & ~0o070 if has_other_group else mode)
 
     def _replace(self, part: str) -> None:
-        """Move the new files to their targets, or restore the old files if that fails."""
+        """Move the new files to their targets, or restore the old files if a move fails."""
         assert self._room is not None
         with open(part, "rb") as file:
             os.fsync(file.fileno())

@@ -1,5 +1,5 @@
 # SPDX-License-Identifier: Apache-2.0 OR GPL-2.0-or-later
-"""Suggest a correction, or give advice, for a script line that rcell rejects.
+"""Suggest a correction, or offer advice, for a script line that rcell rejects.
 
 The corrections cover common mistakes. At most two corrected lines are tested with rcell-pipe, and a
 line is suggested only if rcell-pipe accepts it. No result of a run depends on this module. Lines
@@ -154,7 +154,7 @@ REWRITES: dict[str, list[tuple[str, Replacement]]] = {
 
 
 class _Error:
-    """A rejected line, with one character per byte, its message, and the names of known maps."""
+    """A rejected line (one character per byte), the error message, and the known map names."""
 
     def __init__(self, text: str, line: str, column: int, names: list[str]) -> None:
         self.text, self.line, self.names = text, line, names
@@ -166,7 +166,7 @@ class _Error:
             self.place = self.bad.start()
 
     def bad_word(self) -> Optional[re.Match[str]]:
-        """Return the match of the first word that is not a valid option or a known map, or None."""
+        """Match the first word that is neither a valid option nor a known map, or return None."""
         if self.text == "unknown map":
             values = re.compile(r"(?<=[=,])[A-Za-z_][\w.]*(?=[,\s]|$)", re.ASCII)
             words = values.finditer(self.line) if self.command in OPTIONS else ()
@@ -272,7 +272,7 @@ class _Error:
         return self.text == "number not whole" and new.count("/") > self.line.count("/")
 
     def sentence(self) -> str:
-        """Return a sentence of advice about the message, or an empty string."""
+        """Return advice on the message, or an empty string."""
         text = self.text
         if text == "bad option":
             text = "options that exclude each other"
@@ -282,7 +282,7 @@ class _Error:
         flags, keys = OPTIONS.get(self.command, ("", ()))
         options = [f"-{flag}" for flag in flags] + [f"{key}=" for key in keys]
         return sentence(self.part, text).format(
-            maps=", ".join(self.names[:12]) or "no map",
+            maps=", ".join(self.names[:12]) or "none",
             command=self.command,
             options=" ".join(options),
             functions=", ".join(FUNCTIONS),
@@ -361,7 +361,7 @@ def _sentences() -> dict[str, dict[str, str]]:
 
 
 def sentence(part: str, text: str) -> str:
-    """Return the advice about a message from messages.json, or an empty string.
+    """Return the advice on a message from messages.json, or an empty string.
 
     `part` is `arguments`, `files`, `grid`, `script` or `expression`.
     """
@@ -369,7 +369,7 @@ def sentence(part: str, text: str) -> str:
 
 
 def lines_of_error(content: str, column: Optional[int]) -> list[str]:
-    """Return a list of a script line and, if a column is given, a line that marks the column.
+    """Return a script line and, if a column is given, a second line that marks the column.
 
     Columns are counted in bytes from 1. A long line is shortened to the part around the mark.
     """

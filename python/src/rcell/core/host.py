@@ -1,5 +1,5 @@
 # SPDX-License-Identifier: Apache-2.0 OR GPL-2.0-or-later
-"""Describe the host, which is the package, command line or plugin that calls the core."""
+"""Describe the host: the package, command line or plugin that calls the core."""
 
 from __future__ import annotations
 
@@ -32,7 +32,7 @@ class Host:
     Attributes
     ----------
     words : {"python", "shell", "qgis"}
-        The syntax in which messages write options.
+        The syntax of options in messages.
     warn : callable
         A function that is called with the text of each warning.
     find : callable, optional
@@ -41,8 +41,7 @@ class Host:
     watch : callable, optional
         A function that is called repeatedly while a program runs. An exception ends the run.
     progress : callable, optional
-        A function that is called with the share of the maps' cells that have been sent, from 0 to
-        1.
+        A function that is called with the share of the maps' cells sent so far, from 0 to 1.
     started : callable, optional
         A function that is called before a script runs, with the script and its maps by name.
     """
@@ -79,7 +78,7 @@ def warn(text: str) -> None:
 
 
 def option(name: str, value: Any = None) -> str:
-    """Return an option, followed by the value if one is given, in the host's syntax.
+    """Return an option in the host's syntax, with a value if one is given.
 
     Examples
     --------

@@ -1,8 +1,8 @@
 # SPDX-License-Identifier: Apache-2.0 OR GPL-2.0-or-later
-"""Find the program rcell-join, and join the clumps of tiles with rcell-join.
+"""Find the program rcell-join, and use it to join the clumps of tiles.
 
-`rcell-join` is proved to compute, from the borders of tiles, the numbering of the tiles' clumps in
-the full map.
+`rcell-join` is proved to compute the numbering of the tiles' clumps in the full map, from nothing
+but the borders of the tiles.
 """
 
 from __future__ import annotations
@@ -29,7 +29,7 @@ __all__ = ["check_files", "find_joiner", "numbering_of"]
 _MESSAGE = re.compile(r"rcell-join: ([^:]*):(\d+): (.*)")
 
 FILES_EACH = 2
-"""Open files per text: one in this process, and one in the program."""
+"""The open files per tile: one in this process and one in the program."""
 
 FIELDS = 4
 """The number of fields in a line of the numbering."""
@@ -65,9 +65,7 @@ def _probe(path: str) -> None:
             f"{path} did not end within {PROBE_SECONDS} seconds: it is not the program rcell-join"
         ) from None
     if not is_known:
-        raise WrongProgram(
-            f"{path} is not the program rcell-join in a version that this package supports"
-        )
+        raise WrongProgram(f"{path} is not a supported version of the program rcell-join")
 
 
 def numbering_of(
@@ -80,9 +78,9 @@ def numbering_of(
     Returns
     -------
     array of int64, entries x 4
-        The numbering. Each row contains a tile, the first and the last of several consecutive
-        clumps, and the first clump's number in the full map. The other clumps have consecutive
-        numbers in the full map. Tiles and clumps are counted from 1.
+        The numbering. Each row contains a tile, the first and the last clump of a range, and the
+        first clump's number in the full map. The clumps of a range also have consecutive numbers in
+        the full map. Tiles and clumps are counted from 1.
 
     Raises
     ------
@@ -103,12 +101,12 @@ def numbering_of(
 
 
 def check_files(count: int) -> None:
-    """Raise WriteFailed if the system does not allow enough files to be open at once."""
+    """Raise WriteFailed if the system does not allow enough open files to join the tiles."""
     needed, most = FILES_EACH * count + OTHER_FILES, resource.getrlimit(resource.RLIMIT_NOFILE)[1]
     if most != resource.RLIM_INFINITY and most < needed:
         raise WriteFailed(
-            f"joining {count:,} tiles opens {needed:,} files at once, but this system allows "
-            f"{most:,}: raise the limit, which ulimit -Hn shows"
+            f"joining {count:,} tiles requires {needed:,} open files, but this system allows "
+            f"{most:,}: raise the hard limit, which ulimit -Hn shows"
         )
 
 
@@ -127,7 +125,7 @@ def _checked(path: str, status: int, output: bytes, errors: str) -> bytes:
 def _run(
     path: str, words: list[str], texts: Sequence[bytes], seconds: float | None = None
 ) -> tuple[int, bytes, str]:
-    """Run rcell-join, and return its exit status, output and message."""
+    """Run rcell-join and return the exit status, output and message."""
     with ExitStack() as opened:
         opened.enter_context(_files_allowed(len(texts)))
         files = []
@@ -158,7 +156,7 @@ _limit_lock = threading.Lock()
 
 @contextmanager
 def _files_allowed(count: int) -> Iterator[None]:
-    """Raise the limit on open files in this block, as far as the system allows it."""
+    """Raise the limit on open files in this block, as far as the system allows."""
     needed, soft = FILES_EACH * count + OTHER_FILES, resource.getrlimit(resource.RLIMIT_NOFILE)[0]
     if soft == resource.RLIM_INFINITY or needed <= soft:
         yield
@@ -188,14 +186,14 @@ def _held(text: bytes) -> int:
     try:
         file = above_standard(_unnamed())
     except OSError as error:
-        raise WriteFailed(f"a text for rcell-join cannot be written: {error.strerror}") from None
+        raise WriteFailed(f"an input of rcell-join cannot be written: {error.strerror}") from None
     try:
         write_all(file, text)
     except BaseException as error:
         os.close(file)
         if isinstance(error, OSError):
             raise WriteFailed(
-                f"a text for rcell-join cannot be written: {error.strerror}"
+                f"an input of rcell-join cannot be written: {error.strerror}"
             ) from None
         raise
     return file

@@ -1,5 +1,5 @@
 # SPDX-License-Identifier: Apache-2.0 OR GPL-2.0-or-later
-"""Keep the cells of large maps in memory, or in an unnamed file if memory is short."""
+"""Keep the cells of large maps in memory or, if memory is short, in unnamed files."""
 
 from __future__ import annotations
 
@@ -53,4 +53,4 @@ def cells_for(shape: tuple[int, int], dtype: Any) -> NDArray[Any]:
             return np.memmap(file, dtype, "r+", shape=shape)
     except OSError as error:
         problem = f"{size:,} bytes of map cells cannot be stored in {folder}: {error.strerror}"
-        raise WriteFailed(f"{problem}; set TMPDIR to a folder with more room") from None
+        raise WriteFailed(f"{problem}: set TMPDIR to a folder with more free space") from None

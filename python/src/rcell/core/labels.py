@@ -35,14 +35,15 @@ def checked_labels(name: str, labels: Any) -> dict[int, str]:
     Raises
     ------
     BadMap
-        A key is not a category, or a label contains a character that files cannot store.
+        The labels are not strings by category, or a label contains a character that files cannot
+        store.
 
     Examples
     --------
     >>> checked_labels("land", {"1": "wood"})  # doctest: +ELLIPSIS
     Traceback (most recent call last):
       ...
-    rcell.BadMap: land: the label of '1': a category must be a whole number from ...
+    rcell.BadMap: land: the keys of labels must be whole numbers from ...
     """
     if not isinstance(labels, Mapping):
         raise BadMap(
@@ -52,11 +53,11 @@ def checked_labels(name: str, labels: Any) -> dict[int, str]:
         if not (isinstance(category, numbers.Integral) and abs(int(category)) < -NULL):
             raise BadMap(
                 name,
-                f"the label of {category!r}: a category must be a whole number from -2147483647 to "
-                f"2147483647, for example {{1: 'wood'}}",
+                "the keys of labels must be whole numbers from -2147483647 to 2147483647, for "
+                f"example {{1: 'wood'}}; got {category!r}",
             )
         if not isinstance(label, str):
-            raise BadMap(name, f"the label of {category} must be text; got {label!r}")
+            raise BadMap(name, f"the label of {category} must be a string; got {label!r}")
         bad = _UNWRITABLE.search(label)
         if bad:
             raise BadMap(
@@ -129,7 +130,7 @@ def flags_of(values: Any, meanings: Any) -> dict[int, str]:
 def _color_table(band: ElementTree.Element, labels: Mapping[int, str]) -> dict[int, str]:
     """Return the colours by category from a band's colour table.
 
-    A category that is black and has no label is left out.
+    Categories that are black and have no label are left out.
     """
     colors = {}
     for code, entry in enumerate(band.findall("ColorTable/Entry")):
@@ -252,12 +253,12 @@ def write_labels(path: str, labels: Mapping[int, str]) -> str | None:
     try:
         ElementTree.parse(beside)
     except ElementTree.ParseError as error:
-        raise OSError(f"the labels file was not written correctly: {error}") from None
+        raise OSError(f"the label file was not written correctly: {error}") from None
     return beside
 
 
 def _root_of(beside: str) -> ElementTree.Element:
-    """Return the root element of a raster's `.aux.xml`, or a new element if there is no file."""
+    """Return the root element of a raster's `.aux.xml`, or a new one if there is no such file."""
     with contextlib.suppress(OSError, ElementTree.ParseError):
         root = ElementTree.parse(beside).getroot()
         if root.tag == "PAMDataset":
@@ -266,7 +267,7 @@ def _root_of(beside: str) -> ElementTree.Element:
 
 
 def _put_table(band: ElementTree.Element, labels: Mapping[int, str]) -> None:
-    """Add an attribute table of values and labels in GDAL's format to a band."""
+    """Add a GDAL attribute table of values and labels to a band."""
     table = ElementTree.SubElement(band, "GDALRasterAttributeTable", tableType="thematic")
     columns = [("Value", _INTEGER, _USAGE_VALUE), ("Class_Name", _TEXT, _USAGE_NAME)]
     for place, (title, kind, usage) in enumerate(columns):

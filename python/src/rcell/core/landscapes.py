@@ -49,7 +49,7 @@ class Landscapes:
         weight is in square metres if the map is in degrees, otherwise in cells. Ends are northern
         and southern cell sides, and flanks are western and eastern cell sides.
     like : array
-        For each member, the number of sides between two cells of the member.
+        For each member, the number of sides between its own cells.
     sides : Sides
         The sides between different members of the same landscape.
     end, flank : float
@@ -95,7 +95,7 @@ def summed(groups: Integers, values: NDArray[Any], size: int) -> NDArray[Any]:
 
 
 def landscapes_of(maps: Maps, connectivity: int, measure: Measure, has_zones: bool) -> Landscapes:
-    """Count the landscapes of the map `map`: one per zone, or one if there are no zones."""
+    """Count the patches and sides of the map `map` in each zone or, without zones, in total."""
     name, lines = "map", []
     zones, classes, steps = np.zeros(1, np.int64), None, 1
     if has_zones:
@@ -140,7 +140,7 @@ def landscapes_of(maps: Maps, connectivity: int, measure: Measure, has_zones: bo
 
 
 def _weights(cells: Integers, by_row: Sequence[Integers], measure: Measure) -> Floats:
-    """Return the weight of each patch: square metres in degrees, otherwise cells."""
+    """Return each patch's weight, in square metres if the map is in degrees, otherwise in cells."""
     if measure.by_row is None:
         return cells.astype(np.float64)
     [table] = by_row
@@ -154,15 +154,15 @@ def _sums(values: NDArray[Any], first: NDArray[np.intp]) -> NDArray[Any]:
 
 
 def _ranked(source: str, name: str, values: Integers, step: int) -> list[str]:
-    """Return script lines that renumber the given categories of a map 0, step, 2 * step, ..."""
+    """Return script lines that renumber a map's categories as 0, step, 2 * step, ..."""
     rules = [f"{value} = {place * step}" for place, value in enumerate(values.tolist())]
     return [f"r.reclass input={source} output={name}", *rules, "end"]
 
 
 def _script(name: str, connectivity: int, measure: Measure) -> list[str]:
-    """Return script lines that count the cells and sides of patches, and neighbouring members.
+    """Return script lines that count the cells and sides of patches and of pairs of members.
 
-    In degrees, the lines also count each patch's cells in each row.
+    If the map is in degrees, the lines also count each patch's cells in each row.
     """
     flag = "-d " if connectivity == 8 else ""
     # Cells of one class that share a side are in one patch, so two comparisons yield all

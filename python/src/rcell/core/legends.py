@@ -51,7 +51,7 @@ class Legend(NamedTuple):
 
 
 class Entry(NamedTuple):
-    """A class in a legend, with its line or key in the legend for error messages."""
+    """A class of a legend, with the line or key that error messages name."""
 
     place: str
     value: Any
@@ -113,14 +113,16 @@ def _of_path(path: str) -> Legend:
     if ending in _TEXTS:
         entries = list(_entries_of(path))
         if not entries:
-            raise _refused(f"{path} has no class: it must have at least one line below its header")
+            raise _refused(
+                f"{path} has no classes: it must have at least one line below the header"
+            )
         return _of_entries(entries)
     from .sources import source_of
 
     source = source_of("labels", path)
     if not source.labels:
         raise _refused(
-            f"{path} has no labels: a legend must be a CSV, a TSV, a QML or a raster with labels"
+            f"{path} has no labels: a legend must be a CSV, TSV or QML file or a raster with labels"
         )
     return Legend(dict(source.labels), dict(source.colors))
 
@@ -137,12 +139,14 @@ def _entries_of(source: Any) -> Iterator[Entry]:
 def rows_of(
     source: str, table: Any, needed: Tuple[str, ...], optional: Tuple[str, ...] = ()
 ) -> Iterator[Tuple[str, Dict[str, Any]]]:
-    """Yield the place and the selected fields of each row in a DataFrame, CSV or TSV file."""
+    """Yield the place and the selected fields of each row of a DataFrame or a CSV or TSV file."""
     if isinstance(table, (str, os.PathLike)):
         yield from _rows_of_file(source, os.fspath(table), needed, optional)
         return
     titles = [str(name) for name in table.columns]
-    problem = f"no columns {' and '.join(needed)}: {known_names('column', titles)}"
+    problem = (
+        f"the columns must include {' and '.join(needed)}, but {known_names('column', titles)}"
+    )
     columns = _columns_of(source, titles, needed, problem)
     wanted = {name: columns[name] for name in (*needed, *optional) if name in columns}
     for number, row in enumerate(table.itertuples(index=False, name=None), 1):
@@ -170,10 +174,9 @@ def _rows_of_file(
     delimiter = "\t" if "\t" in lines[0] else ","
     rows = csv.reader(lines, delimiter=delimiter, skipinitialspace=True)
     header = next(rows)
-    problem = f"line 1 is {lines[0].strip()!r}"
+    problem = f"line 1: the header must contain {' and '.join(needed)}; got {lines[0].strip()!r}"
     if len(header) == 1 and ";" in header[0]:
-        problem += ", which is separated by ';': save it with commas"
-    problem = f"no header with {' and '.join(needed)}: {problem}"
+        problem += ": separate the columns with commas"
     columns = _columns_of(source, header, needed, problem)
     wanted = {name: columns[name] for name in (*needed, *optional) if name in columns}
     while True:
@@ -189,7 +192,7 @@ def _rows_of_file(
         if any(map(str.strip, row[len(header) :])):
             text = f"{len(row)} fields, but the header has {len(header)}"
             raise Refused(
-                f"line {first}: {text}: put a label with a comma in quotes", source, status=1
+                f"line {first}: {text}: put labels that contain commas in quotes", source, status=1
             )
         fields = row + [""] * (len(header) - len(row))
         yield f"line {first}", {name: fields[place] for name, place in wanted.items()}
@@ -223,7 +226,7 @@ def _lines_of(source: str, path: str) -> List[str]:
 def _columns_of(
     source: str, titles: List[str], needed: Tuple[str, ...], problem: str
 ) -> Dict[str, int]:
-    """Return the index of each column by its title in lower case."""
+    """Return the index of each column by lower-case title, or raise Refused if one is missing."""
     columns: Dict[str, int] = {}
     for place, title in enumerate(titles):
         columns.setdefault(title.strip().lower(), place)
@@ -260,7 +263,7 @@ def _of_entries(entries: Iterable[Entry]) -> Legend:
             legend.labels[value] = label
         color = _of_parts(_text(entry.color))
         if color and not _COLOR.fullmatch(color):
-            raise _refused(f"{entry.place}: {color} is not a colour such as #00ff00")
+            raise _refused(f"{entry.place}: {color} is not a colour in the form #rrggbb")
         if color:
             legend.colors[value] = color.lower()
     return legend
@@ -349,7 +352,7 @@ def legend_of_qml(path: str) -> Legend:
         reason = expat.errors.messages[error.code]
         raise _refused(f"{path} is not a QGIS style: line {error.lineno}: {reason}") from None
     if not palette and not ramp:
-        raise _refused(f"{path} has no classes: neither a palette nor a colour ramp")
+        raise _refused(f"{path} has no classes: it contains neither a palette nor a colour ramp")
     return _of_entries(palette or ramp)
 
 

@@ -110,7 +110,7 @@ def known_after(probe: Callable[[str], None], path: str) -> str:
     return path
 
 
-_UNKNOWN = "{} is not the program {} in a version that this package supports"
+_UNKNOWN = "{} is not a supported version of the program {}"
 _NOT_STARTED = "the program {} cannot be executed: {}"
 _ENDLESS = "{} did not end within {} seconds: it is not the program {}"
 _PROBE_GRID = b"north: 1\nsouth: 0\neast: 3\nwest: 0\nrows: 1\ncols: 3\nnull: ***\n007 *** 012 "
