@@ -130,8 +130,8 @@ killed <- function(number) {
   name <- switch(as.character(number),
     "4" = " (SIGILL)", "9" = " (SIGKILL)", "15" = " (SIGTERM)", "")
   cause <- switch(as.character(number),
-    "4" = "the processor is older than x86-64-v2, which the program needs",
-    "9" = "too little memory, or someone ended it", "someone ended it")
+    "4" = "the processor does not support x86-64-v2, which the program requires",
+    "9" = "memory ran out, or someone ended the program", "someone ended the program")
   text <- sprintf("the program was killed by signal %d%s: %s", number, name, cause)
   signal("rcell_killed", text, signal = number)
 }

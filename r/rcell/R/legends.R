@@ -52,7 +52,7 @@ legend_of_table <- function(given, name) {
 check_colours <- function(colours, places, name) {
   bad <- which(nzchar(colours) & !grepl(COLOUR, colours))
   if (!length(bad)) return(invisible())
-  text <- sprintf("%s%s is not a colour such as #00ff7f", places[[bad[[1]]]], colours[[bad[[1]]]])
+  text <- sprintf("%s%s is not a colour in the form #rrggbb", places[[bad[[1]]]], colours[[bad[[1]]]])
   refuse(text, name)
 }
 

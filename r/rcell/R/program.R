@@ -86,7 +86,7 @@ bundled_program <- function(name) {
 # Test the program on three cells, with all features that this package uses.
 probe <- function(path) {
   wrong <- function(e) {
-    text <- "%s is not the program rcell-pipe in a version that this package supports"
+    text <- "%s is not a supported version of the program rcell-pipe"
     wrong_program(sprintf(text, path))
   }
   frames <- tryCatch(

@@ -103,7 +103,7 @@ file_columns <- function(path, name, needed) {
   table <- separated_values(path, name)
   titles <- tolower(trimmed(table$rows[[1]]))
   if (!all(needed %in% titles)) {
-    text <- "%s, line %d: no header with %s, separated by commas or tabs: %s"
+    text <- "%s, line %d: the header must contain %s, separated by commas or tabs; got %s"
     listed <- paste(needed, collapse = " and ")
     refuse(sprintf(text, path, table$lines[[1]], listed, table$first), name)
   }
@@ -133,7 +133,7 @@ check_widths <- function(rows, width, places, name) {
   for (place in seq_along(rows)) {
     row <- rows[[place]]
     if (length(row) > width && any(nzchar(trimmed(row[-seq_len(width)])))) {
-      text <- "%s%d fields, but the header has %d: put a label with a comma in quotes"
+      text <- "%s%d fields, but the header has %d: put labels that contain commas in quotes"
       refuse(sprintf(text, places[[place]], length(row), width), name)
     }
   }

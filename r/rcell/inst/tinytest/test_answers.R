@@ -117,7 +117,7 @@ expect_identical(suppressWarnings(rcell_composition(land, labels = data.frame(va
 text_of <- function(...) sub("^.*legend.csv(, |: | )", "", refusal(rcell_composition(land, labels = legend(...)))$text)
 expect_identical(text_of("value,label", "1,a", "1.5,b"), "line 3: 1.5 is not a whole number from -2147483647 to 2147483647")
 expect_identical(text_of("value,label", "7,a", "8,b", "7,c"), "line 4: value 7 occurs twice")
-expect_identical(text_of("class,name", "7,a"), "line 1: no header with value and label, separated by commas or tabs: class,name")
+expect_identical(text_of("class,name", "7,a"), "line 1: the header must contain value and label, separated by commas or tabs; got class,name")
 expect_identical(text_of(character()), "is empty")
 expect_identical(rcell_change(land, later, labels = c("1" = "a", "2" = "b", "3" = "c", "4" = "d"))$summary$label, c("a", "b", "c", "d"))
 

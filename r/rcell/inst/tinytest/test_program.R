@@ -41,7 +41,7 @@ good <- sprintf("if grep -aq 'after=7,1' /dev/stdin; then exec '%s' < /dev/stdin
 death <- script("killed", c(good, "kill -9 $$"))
 dead <- refusal_by(death, rcell_run("r.stats input=lc", lc = lc))
 expect_inherits(dead, "rcell_killed")
-expect_identical(conditionMessage(dead), "the program was killed by signal 9 (SIGKILL): too little memory, or someone ended it")
+expect_identical(conditionMessage(dead), "the program was killed by signal 9 (SIGKILL): memory ran out, or someone ended the program")
 none <- script("none", good)
 writeBin(as.raw(1:100), none)
 expect_inherits(refusal_by(none), "rcell_wrong_program")
