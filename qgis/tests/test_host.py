@@ -116,7 +116,7 @@ class HostTest(unittest.TestCase):
         self.assertEqual(feedback.shares, [50.0])
 
     def test_killed_and_not_understood(self) -> None:
-        with self.assertRaisesRegex(Killed, r"killed by signal 9 \(SIGKILL\): too little memory"):
+        with self.assertRaisesRegex(Killed, r"killed by signal 9 \(SIGKILL\): memory ran out"):
             self.run_of("kill -9 $$", Feedback())
         with self.assertRaisesRegex(WrongProgram, "ended with status 7 and printed: Unsinn"):
             self.run_of("echo Unsinn >&2; exit 7", Feedback())
