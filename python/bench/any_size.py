@@ -5,9 +5,12 @@
 
 The map is land cover of N x N cells, 16,000 if N is not given, as a GeoTIFF that is kept in the folder F, and the same map moved by two
 cells. TASK is one of `reading` (alone), `composition`, `cross`, `change`, `majority` (3 x 3, written as a GeoTIFF), `patches` and
-`summary` (of patches by class); all if none is given. Each call runs in a process of its own, all calls of a task in turns. Results must be equal. Seconds are
-processor time of this process and of its programs; in parentheses by the clock, which means something if nothing else runs. With
---write the table takes its place in bench/RESULTS.md.
+`summary` (of patches by class); all if none is given. Each call runs in a process of its own, all calls of a task in turns. Seconds are
+processor time of this process and of its programs; in parentheses by the clock, which means something if nothing else runs. The column
+"by the clock" is the time with the most workers divided by the time of one run. With --write the table takes its place in bench/RESULTS.md.
+
+Results are compared after the clock has stopped: cells and patches of all ways, and each byte of the tables and maps of one run and of
+tiles. If they differ in a row, the row says so, and the exit status is 1.
 """
 
 from __future__ import annotations
@@ -30,34 +33,54 @@ import rasterio
 import rcell
 from made_maps import land_cover
 from page import load, put
+from rasterio.windows import Window
 from rcell.core.rectangles import rectangles_of
 from rcell.core.sources import source_of
 from rcell.core.tiling import work, working
 
 TASKS = ("reading", "composition", "cross", "change", "majority", "patches", "summary")
 # The side of tiles that calls with four workers choose.
-TILE = 3328
+TILE = 2816
 CLASSES = 13
+DIFFERENT = "DIFFERENT"
 
 
 def call_of(task: str, path: str, other: str, out: str) -> Any:
-    """Run a task, and return a sum of its result."""
+    """Run a task, and return its result."""
     if task == "reading":
         return cells_read(path)
     if task == "majority":
-        rcell.majority(path).write(out)
-        return sum_of_file(out)
+        return rcell.majority(path).write(out)
     if task == "composition":
-        return rcell.composition(path).cells.tolist()
+        return rcell.composition(path)
     if task == "cross":
-        return rcell.cross(a=path, b=other).cells.tolist()
+        return rcell.cross(a=path, b=other)
     if task == "change":
-        return rcell.change(path, other).table.cells.tolist()
-    table = rcell.patches(path, summary="class" if task == "summary" else None)
+        return rcell.change(path, other).table
+    return rcell.patches(path, summary="class" if task == "summary" else None)
+
+
+def numbers_of(task: str, result: Any) -> Any:
+    """Return the numbers that all ways return for a task: of cells, and of patches."""
+    if task == "majority":
+        return sum_of_file(result)
+    if task == "patches":
+        cells = np.sort(result if isinstance(result, np.ndarray) else result.cells.to_numpy())
+        return [cells.size, zlib.crc32(cells.tobytes())]
+    if isinstance(result, (int, list)):  # the reading, and tables of Dask
+        return result
     if task == "summary":
-        return table["patches"].tolist(), table.cells.tolist()
-    cells = table.cells.to_numpy()
-    return len(table), zlib.crc32(np.sort(cells).tobytes())
+        return [result["patches"].tolist(), result.cells.tolist()]
+    return result.cells.tolist()
+
+
+def sum_of_table(result: Any) -> int:
+    """Return a sum of all columns of a table, or 0 for other results."""
+    found = 0
+    for name in getattr(result, "columns", ()):
+        column = result[name].to_numpy(np.float64, na_value=np.nan)
+        found = zlib.crc32(column.tobytes(), found)
+    return found
 
 
 def cells_read(path: str) -> int:
@@ -72,10 +95,14 @@ def cells_read(path: str) -> int:
 
 
 def sum_of_file(path: str) -> int:
-    """Return the sum of the cells of a raster, without nodata."""
+    """Return a sum of the cells of a raster, with 0 for nodata."""
+    found = 0
     with rasterio.open(path) as dataset:
-        parts = (dataset.read(1, window=window) for _, window in dataset.block_windows(1))
-        return sum(int(part[part != dataset.nodata].sum(dtype=np.int64)) for part in parts)
+        for top in range(0, dataset.height, TILE):
+            rows = min(TILE, dataset.height - top)
+            cells = dataset.read(1, window=Window(0, top, dataset.width, rows))
+            found = zlib.crc32(np.where(cells == dataset.nodata, 0, cells).tobytes(), found)
+    return found
 
 
 def peer_of(task: str, path: str, other: str, out: str) -> Any:
@@ -95,7 +122,7 @@ def peer_of(task: str, path: str, other: str, out: str) -> Any:
     if task == "majority":
         made = a.copy(data=a.data.map_overlap(most_frequent, depth=1, boundary=0, dtype=np.uint8))
         made.rio.to_raster(out, tiled=True, compress="deflate", lock=__import__("threading").Lock())
-        return sum_of_file(out)
+        return out
     cells = a.to_numpy()
     ndimage = __import__("scipy.ndimage").ndimage
     sizes = {}
@@ -103,9 +130,8 @@ def peer_of(task: str, path: str, other: str, out: str) -> Any:
         labels, count = ndimage.label(cells == code)
         sizes[code] = np.bincount(labels.ravel(), minlength=count + 1)[1:]
     if task == "summary":
-        return [len(of) for of in sizes.values()], [int(of.sum()) for of in sizes.values()]
-    every = np.concatenate(list(sizes.values())).astype(np.int64)
-    return len(every), zlib.crc32(np.sort(every).tobytes())
+        return [[len(of) for of in sizes.values()], [int(of.sum()) for of in sizes.values()]]
+    return np.concatenate(list(sizes.values())).astype(np.int64)
 
 
 def most_frequent(cells: Any) -> Any:
@@ -132,34 +158,35 @@ def measured(task: str, path: str, other: str, workers: int) -> None:
     begun = time.monotonic()
     try:
         with working(workers=max(workers, 1), size=size):
-            found = (peer_of if workers < 0 else call_of)(task, path, other, out)
+            result = (peer_of if workers < 0 else call_of)(task, path, other, out)
+        elapsed = time.monotonic() - begun
+        used = [resource.getrusage(who) for who in (resource.RUSAGE_SELF, resource.RUSAGE_CHILDREN)]
+        numbers, full = numbers_of(task, result), sum_of_table(result)
     finally:
         if os.path.exists(out):
             os.unlink(out)
-    own, programs = (
-        resource.getrusage(who) for who in (resource.RUSAGE_SELF, resource.RUSAGE_CHILDREN)
-    )
-    seconds = [of.ru_utime + of.ru_stime for of in (own, programs)]
-    print(json.dumps([found, time.monotonic() - begun, seconds, own.ru_maxrss, programs.ru_maxrss]))
+    seconds = sum(of.ru_utime + of.ru_stime for of in used)
+    memory = sum(of.ru_maxrss for of in used) / 1024
+    print(json.dumps([numbers, full, seconds, elapsed, memory]))
 
 
 def line_of(task: str, paths: list[str], counts: list[int], rounds: int) -> str:
     """Return the row of a task: the fastest of some rounds, for one run, some numbers of workers, and Dask."""
-    best: dict[int, tuple[float, float, float]] = {}
-    results = set()
+    best: dict[int, list[float]] = {}
+    numbers, sums = set(), set()
     for _ in range(rounds):
         for workers in [0, *counts, -1]:
             words = [sys.executable, __file__, "--measure", task, *paths, str(workers)]
-            ran = subprocess.run(words, capture_output=True, text=True, check=True)
-            found, wall, seconds, own, program = json.loads(ran.stdout)
-            results.add(json.dumps(found))
-            memory = (own + program) / 1024
-            new = (sum(seconds), wall, memory)
-            best[workers] = min(new, best.get(workers, new))
-            print(task, workers, *(f"{value:.1f}" for value in new), file=sys.stderr, flush=True)
-    is_equal = "equal" if len(results) == 1 else "DIFFERENT"
+            ran = subprocess.run(words, stdout=subprocess.PIPE, text=True, check=True)
+            found, full, *new = json.loads(ran.stdout)
+            numbers.add(json.dumps(found))
+            sums |= {full} if workers >= 0 else set()
+            best[workers] = list(map(min, new, best.get(workers, new)))
+            print(task, workers, *(f"{value:.2f}" for value in new), file=sys.stderr, flush=True)
+    is_equal = "equal" if len(numbers) == len(sums) == 1 else DIFFERENT
     cells = [f"{cpu:.1f} s ({wall:.1f}), {memory:,.0f} MB" for cpu, wall, memory in best.values()]
-    return f"| {task}, {is_equal} | {' | '.join(cells)} |"
+    ratio = best[max(counts)][1] / best[0][1]
+    return f"| {task}, {is_equal} | {' | '.join(cells)} | {ratio:.2f} |"
 
 
 def main() -> None:
@@ -187,13 +214,15 @@ def main() -> None:
     lines = [
         f"{given.side:,} x {given.side:,} cells of land cover, tiles of {TILE:,}; rounds: {given.rounds}. {load()}.",
         "",
-        f"| Call | one run | {' | '.join(names)} | Dask, numpy, scipy |",
-        "|---|" + "---|" * (2 + len(counts)),
+        f"| Call | one run | {' | '.join(names)} | Dask, numpy, scipy | by the clock |",
+        "|---|" + "---|" * (3 + len(counts)),
         *(line_of(task, [str(path), str(other)], counts, given.rounds) for task in given.tasks),
     ]
     print("\n".join(lines))
     if given.write:
         put(f"Tiles: {given.side}", "\n".join(lines) + "\n")
+    if any(DIFFERENT in line for line in lines):
+        sys.exit("the results differ")
 
 
 if __name__ == "__main__":
