@@ -4,7 +4,7 @@
 from __future__ import annotations
 
 import warnings
-from collections.abc import Callable, Iterator
+from collections.abc import Callable
 from typing import TYPE_CHECKING, Any
 
 import numpy as np
@@ -13,8 +13,7 @@ from .core.protocol import NULL, NULL_BYTE
 from .core.writing import replacing, write_errors
 from .core.labels import checked_labels, write_labels
 from .core.libraries import need
-from .core.memory import processors
-from .core.tiling import work
+from .core.tiling import in_threads, threads
 
 if TYPE_CHECKING:
     from .raster import Raster
@@ -26,8 +25,8 @@ TILE = 256
 _BIG_FROM = 1 << 29
 # Files with up to this many cells are created in memory.
 _IN_MEMORY = 1 << 25
-# The number of cells to write at a time, and the bytes that GDAL may cache.
-_BLOCK_CELLS = 1 << 23
+# The number of cells to write or check at a time, and the bytes that GDAL may cache.
+_BLOCK_CELLS = 1 << 22
 _CACHE = 64 << 20
 _COG = {
     "driver": "COG",
@@ -75,7 +74,7 @@ def profile_of(
         "transform": affine.Affine(*transform),
         "compress": "deflate",
         "BIGTIFF": "YES" if rows * cols >= _BIG_FROM else "IF_SAFER",
-        "NUM_THREADS": str(work().workers or processors()),
+        "NUM_THREADS": str(threads()),
     }
     if rows >= TILE and cols >= TILE:
         profile |= {"tiled": True, "blockxsize": TILE, "blockysize": TILE}
@@ -154,28 +153,36 @@ def _write(grid: Raster, path: str, profile: dict[str, Any]) -> None:
                 if 0 <= code < nodata
             }
             dataset.write_colormap(1, colors)
-        for row, cells in _rows_of(grid):
-            dataset.write(_filled(cells, dtype, nodata), 1, window=_window(row, cells))
+        for row, end in _places_of(grid):
+            cells = _filled(_rows_of(grid, row, end), dtype, nodata)
+            dataset.write(cells, 1, window=_window(grid, row, end))
 
 
 def _check(grid: Raster, path: str, profile: dict[str, Any]) -> None:
     """Raise OSError unless a file contains the cells of a map."""
-    with need("rasterio", "gis", "to write a GeoTIFF").open(path) as dataset:
-        for row, cells in _rows_of(grid):
-            expected = _filled(cells, profile["dtype"], profile["nodata"])
-            if not np.array_equal(dataset.read(1, window=_window(row, cells)), expected):
-                rows = f"rows {row + 1} to {row + len(cells)}"
-                raise OSError(f"{rows} were not written correctly: the disk may be full")
+    rasterio = need("rasterio", "gis", "to write a GeoTIFF")
+
+    def check(row: int, end: int) -> None:
+        expected = _filled(_rows_of(grid, row, end), profile["dtype"], profile["nodata"])
+        with rasterio.open(path) as dataset:
+            found = dataset.read(1, window=_window(grid, row, end))
+        if not np.array_equal(found, expected):
+            rows = f"rows {row + 1} to {end}"
+            raise OSError(f"{rows} were not written correctly: the disk may be full")
+
+    in_threads(check, *zip(*_places_of(grid)))
 
 
-def _window(row: int, cells: Any) -> Any:
+def _window(grid: Raster, row: int, end: int) -> Any:
     windows = need("rasterio.windows", "gis", "to write a GeoTIFF")
-    return windows.Window(0, row, cells.shape[1], len(cells))
+    return windows.Window(0, row, grid.region.cols, end - row)
 
 
 def _range_of(grid: Raster) -> tuple[int, int]:
     """Return the smallest and the largest category, or 0 and 0 if all cells are null."""
-    ends = [end for _, cells in _rows_of(grid) for end in _ends_of(cells)]
+    places = zip(*_places_of(grid))
+    found = in_threads(lambda row, end: _ends_of(_rows_of(grid, row, end)), *places)
+    ends = [end for both in found for end in both]
     return min(ends, default=0), max(ends, default=0)
 
 
@@ -188,20 +195,20 @@ def _ends_of(cells: Any) -> tuple[int, ...]:
     return () if smallest == NULL_BYTE else (smallest, int((cells + np.uint8(1)).max()) - 1)
 
 
-def _rows_of(grid: Raster) -> Iterator[tuple[int, Any]]:
-    """Yield the rows of a map in blocks, each with the index of its first row.
-
-    Blocks are masked arrays, or bytes with 255 for null if the map stores bytes.
-    """
+def _places_of(grid: Raster) -> list[tuple[int, int]]:
+    """Return the first row of each block of rows in a map, and the row after its last."""
     rows, cols = grid.region.shape
     step = max(_BLOCK_CELLS // cols // TILE, 1) * TILE
-    for row in range(0, rows, step):
-        end = min(row + step, rows)
-        cells = grid._bytes(row, end)
-        if cells is None:
-            cells = grid.rows(row, end)
-            cells = cells if cells.dtype == np.int64 else cells.astype(np.int32)
-        yield row, cells
+    return [(row, min(row + step, rows)) for row in range(0, rows, step)]
+
+
+def _rows_of(grid: Raster, row: int, end: int) -> Any:
+    """Return rows as a masked array, or as bytes with 255 for null if the map stores bytes."""
+    cells = grid._bytes(row, end)
+    if cells is None:
+        cells = grid.rows(row, end)
+        cells = cells if cells.dtype == np.int64 else cells.astype(np.int32)
+    return cells
 
 
 def _filled(cells: Any, dtype: str, nodata: float) -> Any:

@@ -7,9 +7,10 @@ import contextlib
 import contextvars
 import math
 import os
-from collections.abc import Callable, Iterator, Mapping, Sequence
+from collections.abc import Callable, Iterable, Iterator, Mapping, Sequence
+from concurrent.futures import ThreadPoolExecutor
 from dataclasses import dataclass, replace
-from typing import Any, Optional
+from typing import Any, Optional, TypeVar
 
 from .arguments import whole_number_of
 from .clusters import Cluster, client_of, current_client
@@ -24,12 +25,16 @@ __all__ = [
     "DryRun",
     "Work",
     "cluster",
+    "in_threads",
     "is_small",
     "takes_one_run",
+    "threads",
     "tile_size",
     "work",
     "working",
 ]
+
+Made = TypeVar("Made")
 
 # Maps with fewer cells use one run, because starting more programs would cost more than it saves.
 SMALL_CELLS = 10_000_000
@@ -118,6 +123,23 @@ def working(
         yield
     finally:
         _work.reset(token)
+
+
+def threads() -> int:
+    """Return the number of threads that the current call may use."""
+    return work().workers or processors()
+
+
+def in_threads(do: Callable[..., Made], *items: Iterable[Any]) -> list[Made]:
+    """Return `list(map(do, *items))`, computed in threads.
+
+    Examples
+    --------
+    >>> in_threads(pow, [2, 3], [3, 2])
+    [8, 9]
+    """
+    with ThreadPoolExecutor(threads()) as pool:
+        return list(pool.map(do, *items))
 
 
 def cluster() -> Optional[Cluster]:
@@ -237,8 +259,7 @@ def takes_one_run(plan: Sequence[Statement], maps: Mapping[str, Source], demand:
     current = work()
     if current.size is not None or current.resume is not None or not fits_one_run(shape):
         return False
-    workers = current.workers or processors()
-    return workers == 1 and cluster() is None and demand.of_tile(*shape) <= free_memory() * SHARE
+    return threads() == 1 and cluster() is None and demand.of_tile(*shape) <= free_memory() * SHARE
 
 
 def tile_size(
@@ -256,7 +277,7 @@ def tile_size(
     """
     current = work()
     first = next(iter(maps.values()))
-    (rows, cols), workers = first.region.shape, current.workers or processors()
+    (rows, cols), workers = first.region.shape, threads()
     if cluster is not None:
         workers = cluster.threads
     if current.size is not None:

@@ -20,12 +20,11 @@ from .errors import BadMap
 from .host import option, warn
 from .kept import cells_for
 from .legends import is_missing, whole_number
-from .memory import processors
 from .protocol import NULL
 from .rectangles import Rectangle, rectangles_of
 from .region import Transform
 from .sources import ArrayMap, Source
-from .tiling import work
+from .tiling import threads
 
 __all__ = ["Feature", "Layer", "Zones", "zones_of"]
 
@@ -282,7 +281,7 @@ class _Grid:
         if len(places) == 1:
             self._has_centre |= burn(places[0])
             return
-        with Crew(work().workers or processors(), len(places), is_shown=False) as crew:
+        with Crew(threads(), len(places), is_shown=False) as crew:
             for _, occurs in crew.each(burn, places):
                 self._has_centre |= occurs
 
