@@ -451,9 +451,9 @@ def test_tiles_shrink_and_fewer_are_worked_on_if_memory_is_short() -> None:
     )
     demand = tiling.Demand(100.0, NO_MARGIN)
     for free, expected in (
-        (1 << 40, (1792, 4)),
-        (1 << 30, (768, 4)),
-        (40_000_000, (250, 3)),
+        (1 << 40, (1024, 4)),
+        (1 << 29, (512, 4)),
+        (30_000_000, (174, 3)),
     ):
         with pytest.MonkeyPatch.context() as patch, tiling.working(workers=4):
             patch.setattr(tiling, "free_memory", lambda: free)

@@ -148,7 +148,8 @@ def frame_of(table: Table) -> pandas.DataFrame:
     """
     import pandas  # imported here because it is slow to load
 
-    frame = pandas.DataFrame({column.name: _series(column) for column in table.data})
+    columns = {column.name: _series(column) for column in table.data}
+    frame = pandas.DataFrame(columns, copy=False)
     if isinstance(table, Matrix):
         frame = frame.set_index(list(frame.columns[: table.key_count]))
         if table.is_numbered:
@@ -163,16 +164,27 @@ def _series(column: Column) -> Any:
     if column.kind == "class":
         is_null = column.values == NULL
         return pandas.arrays.IntegerArray(column.values.astype(np.int64), is_null)
-    return pandas.array(column.values, dtype="string") if column.kind == "label" else column.values
+    if column.kind == "label":
+        return pandas.array(column.values, dtype="string")
+    return np.ascontiguousarray(column.values)
+
+
+def _load_pandas() -> None:
+    """Import pandas, which takes about as long as counting 100 million cells."""
+    import pandas  # noqa: F401
 
 
 def _returning(
-    kind: str, convert: Callable[[Made], Returned], lazy: str = ""
+    kind: str,
+    convert: Callable[[Made], Returned],
+    lazy: str = "",
+    meanwhile: Callable[[], None] | None = None,
 ) -> Callable[[Callable[Words, Made]], Call[Words, Returned]]:
     """Return a decorator that converts a function's result, and documents its type as `kind`.
 
     The decorator adds the parameters `workers` and `resume`, which control the processing of large
-    maps, and `compute`, with which Dask can compute the result later.
+    maps, and `compute`, with which Dask can compute the result later. A thread calls `meanwhile`
+    while the tiles of a large map are processed.
     """
 
     def wrap(make: Callable[Words, Made]) -> Call[Words, Returned]:
@@ -184,7 +196,7 @@ def _returning(
             if not work.pop("compute"):
                 later: Returned = _lazily(make, lazy, work, words, named)
                 return later
-            with working(**work):
+            with working(**work, meanwhile=meanwhile):
                 return convert(make(*words, **named))
 
         call.__annotations__ = {**make.__annotations__, **_WORK_TYPES, "return": kind}
@@ -335,8 +347,8 @@ def _result_of(outputs: list[Any]) -> Result:
     )
 
 
-_framed = _returning("pandas.DataFrame", frame_of)
-_framed_or_delayed = _returning("pandas.DataFrame", frame_of, "table")
+_framed = _returning("pandas.DataFrame", frame_of, "", _load_pandas)
+_framed_or_delayed = _returning("pandas.DataFrame", frame_of, "table", _load_pandas)
 _rastered = _returning("rcell.Raster", _raster_of)
 _rastered_or_lazy = _returning("rcell.Raster", _raster_of, "map")
 
@@ -349,7 +361,7 @@ table = _framed_or_delayed(_scripts.table)
 dominant = _framed_or_delayed(_dominant.dominant)
 metrics = _framed_or_delayed(_metrics.metrics)
 sample = _framed(_sample.sample)
-change = _returning("rcell.Change", _change_of, "table")(_change.change)
+change = _returning("rcell.Change", _change_of, "table", _load_pandas)(_change.change)
 accuracy = _returning("rcell.Accuracy", _accuracy_of)(_accuracy.accuracy)
 trajectories = _returning("rcell.Trajectories", _trajectories_of)(_trajectories.trajectories)
 aggregate = _returning("rcell.Aggregate", _aggregate_of)(_aggregate.aggregate)

@@ -19,6 +19,7 @@ from .process import WATCH_SECONDS
 from .rectangles import Rectangle
 from .showing import Bar
 from .tile_work import TileDone, TileWork, run_work
+from .tiling import work
 
 __all__ = ["Crew"]
 
@@ -73,6 +74,8 @@ class Crew:
         self._pool = ThreadPoolExecutor(workers, "rcell")
         self._is_shown = is_shown
         self._bar = Bar(steps, self._caller)
+        if (meanwhile := work().meanwhile) is not None:
+            self._pool.submit(meanwhile)
 
     def __enter__(self) -> Crew:
         return self
@@ -130,9 +133,12 @@ class Crew:
     def _in_turn(
         self, submit: Callable[[Rectangle], Future[Made]], places: Sequence[Rectangle]
     ) -> Iterator[tuple[int, Made]]:
-        """Submit places, staying a few ahead of the workers, and yield results as tiles finish."""
+        """Submit places, staying a few ahead of the workers, and yield results as tiles finish.
+
+        The largest tiles are first, so that no worker waits long for the last tile.
+        """
         running: dict[Future[Any], int] = {}
-        waiting = iter(enumerate(places))
+        waiting = iter(sorted(enumerate(places), key=lambda item: -item[1].cells))
         while True:
             ahead = AHEAD * (self._workers if self._cluster is None else self._cluster.threads)
             while len(running) < ahead and (following := next(waiting, None)):

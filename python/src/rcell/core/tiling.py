@@ -41,7 +41,7 @@ SMALL_CELLS = 10_000_000
 # The sides of tiles. Smaller tiles cost time for halos and programs, larger tiles cost memory.
 LEAST_SIDE, USUAL_SIDE, MOST_SIDE = 256, 1_024, 4_096
 # The number of tiles per worker. With several tiles, no worker waits long for the last tile.
-TILES_EACH = 4
+TILES_EACH = 8
 # The share of free memory that tiles may use.
 SHARE = 0.8
 # The memory of a program and its buffers, in bytes.
@@ -71,6 +71,8 @@ class Work:
     engine : callable or None
         A function that returns outputs instead of the program. Its arguments are a script, maps,
         names of requested maps, and a fold.
+    meanwhile : callable or None
+        A function that a thread calls while tiles are processed, for example to import a library.
     """
 
     workers: Optional[int] = None
@@ -79,6 +81,7 @@ class Work:
     size: Optional[tuple[int, int]] = None
     is_dry: bool = False
     engine: Optional[Callable[..., Any]] = None
+    meanwhile: Optional[Callable[[], Any]] = None
 
 
 _work: contextvars.ContextVar[Work] = contextvars.ContextVar("rcell.work", default=Work())
@@ -101,6 +104,7 @@ def working(
     size: Optional[tuple[int, int]] = None,
     is_dry: bool = False,
     engine: Optional[Callable[..., Any]] = None,
+    meanwhile: Optional[Callable[[], Any]] = None,
 ) -> Iterator[None]:
     """Change the given settings for the calls in a `with` block."""
     before = _work.get()
@@ -117,6 +121,7 @@ def working(
             size or before.size,
             is_dry or before.is_dry,
             engine or before.engine,
+            meanwhile or before.meanwhile,
         )
     )
     try:
@@ -309,12 +314,16 @@ def _even_side(length: int, most: int, block: int) -> int:
 
     Examples
     --------
-    >>> _even_side(16000, 4001, 256), _even_side(1000, 4096, 256), _even_side(1000, 700, 2000)
-    (3328, 1024, 500)
+    >>> _even_side(16000, 2829, 256), _even_side(8000, 1415, 256), _even_side(1000, 700, 2000)
+    (2816, 1024, 500)
     """
     most = _multiple(most, block)
-    side = -(-length // -(-length // most))
-    return side if block > most else -(-side // block) * block
+    count = -(-length // most)
+    if block > most:
+        return -(-length // count)
+    side = -(-length // (count * block)) * block
+    is_last_narrow = 0 < length % side < side // 2
+    return -(-length // ((count + is_last_narrow) * block)) * block
 
 
 def _too_little(needed: int, side: int, free: int) -> OutOfMemory:
