@@ -552,10 +552,10 @@ def test_the_program_judges_the_script_before_a_map_is_missed() -> None:
         (
             "r.stats -c -1 input=lc",
             None,
-            "one of the two: `-1` cannot be used with `-c` or `after=`",
+            "use one of the two: `-1` cannot be combined with `-c` or `after=`",
         ),
         ("r.stat input=lc", None, "r.stats input=lc"),
-        ("r.reclass input=lc output=k\n1 = 1 a", None, "a line `end` after the last rule"),
+        ("r.reclass input=lc output=k\n1 = 1 a", None, "add a line `end` after the last rule"),
         ("r.mapcalc x = lc = 2", 18, "r.mapcalc x = lc == 2"),
     ],
 )

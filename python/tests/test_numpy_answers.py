@@ -731,7 +731,7 @@ class Programs(unittest.TestCase):
 
     def test_killed(self) -> None:
         for signal, told in (
-            (9, "SIGKILL): too little memory"),
+            (9, "SIGKILL): memory ran out"),
             (15, "SIGTERM): someone ended the program"),
         ):
             with self.assertRaises(rcell.Killed) as caught:

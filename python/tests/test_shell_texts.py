@@ -251,8 +251,8 @@ def test_each_output_of_a_script_in_a_file(raster: Write, room: pathlib.Path, ca
             "r.stats -c input=lc\n",
             GRID.replace("1 2 2 2", "1 2.5 2 2"),
             1,
-            "rcell: lc:8: bad cell\n  1 2.5 2 2\n    ^\n  try: whole numbers, and `*` for null; any other null text "
-            "needs a line `null: TEXT` in the header\n",
+            "rcell: lc:8: bad cell\n  1 2.5 2 2\n    ^\n  try: use whole numbers, and `*` for null; to use another "
+            "null text, add a line `null: TEXT` to the header\n",
         ),
         (
             "r.stats -c input=lc\n",
@@ -277,7 +277,7 @@ def test_explanations_of_files_and_extents(room: pathlib.Path) -> None:
     assert "north is 3.00000001 in b, but 3 in a\n" in ran.stderr
     assert "try: land.txt\n" in bare("explain", "script", "a=lnad.txt", "b=b.txt").stderr
     assert bare("explain", "script", "a").stderr.startswith(
-        "rcell: arguments:2: bad grid argument\n  try: NAME=PATH"
+        "rcell: arguments:2: bad grid argument\n  try: write NAME=PATH"
     )
 
 
