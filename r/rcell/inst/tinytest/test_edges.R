@@ -135,7 +135,7 @@ options(rcell.python = if (has_code) python else "")
 for (case in if (has_code) list(c("r.stats -cn lc", "lc", 13, "r.stats -cn input=lc"), c("r.stats in=lc", "in=lc", 9, "r.stats input=lc"),
   c("r.stats -c input=lc output=t.txt", "output=t.txt", 21, "r.stats -c input=lc"), c("r.stats -cq input=lc", "-cq", 9, "r.stats -c input=lc"),
   c("r.stats input=lc input=lc", "input=lc", 18, "r.stats input=lc"), c("\tr.clump -n input=lc output=k", "-n", 10, "r.clump input=lc output=k"),
-  c("r.stats input=lc separator=ab", "separator=ab", 18, "`separator=` with pipe, comma, space, tab or one character"))) {
+  c("r.stats input=lc separator=ab", "separator=ab", 18, "use `separator=` with pipe, comma, space, tab or one character"))) {
   found <- refusal(rcell_run(case[[1]], lc = plain))
   expect_identical(found$text, "bad option", info = case[[1]])
   expect_identical(found$column, as.integer(case[[3]]), info = case[[1]])
@@ -146,7 +146,7 @@ for (case in if (has_code) list(c("r.stats -cn lc", "lc", 13, "r.stats -cn input
 if (has_code) {
   both <- refusal(rcell_run("r.stats -c -1 input=lc", lc = plain))
   expect_identical(both$column, NA_integer_)
-  expect_identical(conditionMessage(both), "script, line 1: bad option\n  r.stats -c -1 input=lc\n  try: one of the two: `-1` cannot be used with `-c` or `after=`")
+  expect_identical(conditionMessage(both), "script, line 1: bad option\n  r.stats -c -1 input=lc\n  try: use one of the two: `-1` cannot be combined with `-c` or `after=`")
 }
 options(rcell.python = "")
 for (name in c("a=b", "a-b", "1a", strrep("x", 65))) {
