@@ -162,8 +162,8 @@ class Scripts(Session):
             self.refused("\tr.stats -c -1 input=a"),
             (
                 "rcell: script:1: bad option",
-                "     r.stats -c -1 input=a\n    try: one of the two: `-1` cannot be "
-                "used with `-c` or `after=`\n",
+                "     r.stats -c -1 input=a\n    try: use one of the two: `-1` cannot be "
+                "combined with `-c` or `after=`\n",
             ),
         )
         self.assertEqual(
