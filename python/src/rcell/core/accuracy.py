@@ -358,7 +358,7 @@ def _pairs_of_table(reference: Any) -> Optional[Integers]:
 def _sizes_of(
     areas: Any, area: Any, maps: Optional[Maps], crs: Any
 ) -> tuple[Optional[dict[int, float]], Optional[str]]:
-    """Return each map class's area, or None without areas, and the result's unit of areas."""
+    """Return each class's area, or None if no areas are given, and the unit of areas."""
     if areas is None:
         return None, None
     if isinstance(areas, str) and areas == "map":

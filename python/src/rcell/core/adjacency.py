@@ -72,8 +72,8 @@ def sides_of(
 ) -> tuple[NDArray[np.int64], NDArray[np.int64], NDArray[np.int64]]:
     """Return each pair of classes once, with the numbers of cell sides that the pair shares.
 
-    The first array of numbers counts the sides between cells of a row, and the second array counts
-    the sides between cells of a column.
+    Returns the pairs, the number of sides between cells in the same row, and the number of sides
+    between cells in the same column.
     """
     pairs = np.sort(np.concatenate([right[:, :2], below[:, :2]]), axis=1)
     kinds, pair_of = np.unique(pairs, axis=0, return_inverse=True)

@@ -183,8 +183,8 @@ def _null_of(source: Source, block: Block) -> Mask:
 class _Axis(NamedTuple):
     """The rows (or columns) of a map that a grid uses.
 
-    `taken` lists the map's rows in ascending order, `first` is the grid's first row inside the map,
-    and `often` counts how often the grid uses each row of the map.
+    `taken` lists the used rows of the map in ascending order, `first` is the grid's first row
+    inside the map, and `often` counts how often the grid uses each row of the map.
     """
 
     taken: NDArray[np.int64]

@@ -35,8 +35,8 @@ def composition(
     ----------
     map : path, array, or any map that `run` accepts
     zones : map, or path of polygons, GeoDataFrame or GeoSeries, optional
-        A cell belongs to the polygon that contains the cell's centre. Features without a geometry
-        or without a value are ignored.
+        The zones in which to count separately. A cell belongs to the polygon that contains the
+        cell's centre. Features without a geometry or without a value are ignored.
     area : {"ha", "km2", "m2"} or None
         The unit of areas; None leaves areas out. By default, areas are in hectares if the map has a
         reference system with a known unit, and are left out otherwise. If the map is in degrees,

@@ -78,8 +78,8 @@ def like(raster: Any, path: str) -> Any:
     for name, size in (("north", height), ("south", height), ("east", width), ("west", width)):
         edge, other_edge = getattr(mine, name), getattr(its, name)
         if abs(edge - other_edge) * 2 > size:
-            difference = f"{name} is {other_edge}, but {edge} in the map"
-            raise Refused(f"{path}: {difference}: more than half a cell apart", "like", status=1)
+            rule = f"{name} must be within half a cell of {edge}; got {other_edge}"
+            raise Refused(f"{path}: {rule}", "like", status=1)
     crs = raster.crs if other.crs is None else other.crs
     legend = {"labels": raster.labels, "colors": raster.colors}
     return type(raster)(raster.array, other.transform, crs, **legend)

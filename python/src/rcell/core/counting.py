@@ -182,7 +182,7 @@ class Maps:
     def counts(
         self, tables: Sequence[Sequence[str]], measure: Measure, include_null: bool = False
     ) -> list[Counts]:
-        """Count the combinations of classes in each of several lists of maps."""
+        """Count the combinations of classes for each list of maps in `tables`."""
         flags = "-c" if include_null else "-c -n"
         rows = [] if measure.by_row is None else ["row"]
         lines = ["r.mapcalc row = row()"] if rows else []

@@ -1,8 +1,8 @@
 # SPDX-License-Identifier: Apache-2.0 OR GPL-2.0-or-later
 """Find the program rcell-join, and use it to join the clumps of tiles.
 
-`rcell-join` is proved to compute the numbering of the tiles' clumps in the full map, from nothing
-but the borders of the tiles.
+`rcell-join` is proved to compute the numbering of the tiles' clumps in the full map, using only the
+borders of the tiles.
 """
 
 from __future__ import annotations

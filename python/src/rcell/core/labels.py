@@ -35,8 +35,8 @@ def checked_labels(name: str, labels: Any) -> dict[int, str]:
     Raises
     ------
     BadMap
-        The labels are not strings by category, or a label contains a character that files cannot
-        store.
+        The labels do not map categories to strings, or a label contains a character that files
+        cannot store.
 
     Examples
     --------
