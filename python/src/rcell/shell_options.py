@@ -13,8 +13,10 @@ FORMATS = ("csv", "tsv", "markdown", "json")
 # Texts that follow the options in the help of a command.
 NOTES = {
     "accuracy": """\
-If the sample was drawn class by class, as by `sample`, give --areas map. Otherwise only the user's
-accuracies and their errors are correct. --table summary contains the overall accuracy.""",
+--areas map adds each class's mapped_ha, the area on the map, area_ha, its estimate from the sample,
+and area_se_ha, the standard error of the estimate (Olofsson et al. 2014). A sample that was drawn
+class by class, for example with `sample`, requires --areas. Without it, only the user's accuracies
+and their errors are correct. --table summary contains the overall accuracy.""",
     "metrics": """\
 The columns by class are cells, area_ha, percent, patches, patches_km2, largest_patch_percent,
 mean_patch_ha, area_weighted_mean_patch_ha, effective_mesh_ha, edge_m, edge_density_m_ha,
@@ -22,15 +24,16 @@ mean_shape_index, aggregation_index, cohesion and interspersion_index. The lands
 cells of the map or zone that are not null. Borders of zones and sides next to null are not
 edges.""",
     "sieve": """\
-The smallest patch is merged first, into the neighbour with the longest common border. patches_below
-counts the remaining small patches, which touch no other class.""",
+The smallest patch is merged first, into the neighbour with the longest common border. In a tie, the
+neighbour whose first cell comes first is used. patches_below counts the remaining small patches,
+which touch no other class.""",
     "verify": """\
 To let others verify a table, give them FILE.csv, FILE.csv.json and the files that the record names.
 Their paths are relative to FILE.csv.""",
     "within": """\
-OUT is 0 in the classes, 1 up to the first distance, and 2 from there up to the second distance.
-Distances are between cell centres. `composition MAP --zones OUT` lists the classes in each
-ring.""",
+OUT is 0 in the classes, 1 up to the first distance, 2 from there up to the second distance, and
+null beyond the last. Rings also cover cells that are null in MAP. Distances are between cell
+centres. `composition MAP --zones OUT` lists the classes in each ring.""",
 }
 
 
