@@ -78,19 +78,18 @@ class PatchFold(Protocol):
 
     def add(
         self,
-        tile: int,
         place: Rectangle,
         rows: NDArray[Any],
         waiting: NDArray[Any],
         tables: list[NDArray[Any]],
     ) -> None:
-        """Receive a tile's patches, which are numbered within the tile.
+        """Receive a tile's patches, which are numbered within the tile, in any thread.
 
         `waiting` lists the patches that may continue in other tiles. The first column of each table
         in `tables` is the patch number.
         """
 
-    def join(self, numbers_of: Callable[[int, NDArray[Any]], NDArray[Any]]) -> None:
+    def join(self, numbers_of: Callable[[Rectangle, NDArray[Any]], NDArray[Any]]) -> None:
         """Join the patches of all tiles, using their numbers in the full map."""
 
 
@@ -213,7 +212,7 @@ def ask(
     assert isinstance(found, protocol.PatchesFrame)
     full = Rectangle(0, 0, *next(iter(maps.values())).region.shape)
     rows = np.frombuffer(found.rows, ZONED_PATCH if question.zones else PATCH)
-    fold.add(0, full, rows, np.empty(0, np.int64), [])
+    fold.add(full, rows, np.empty(0, np.int64), [])
     fold.join(lambda _, numbers: numbers)
     return True
 

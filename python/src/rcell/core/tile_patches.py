@@ -27,6 +27,7 @@ from .sources import Block, null_cells
 from .tile_clumps import NO_CLUMP, sides_text
 from .tile_tables import order_of
 from .tile_work import TileWork, wide
+from .tiling import in_threads
 
 __all__ = ["PATCH", "ZONED_PATCH", "PatchSum", "measures_of"]
 
@@ -44,6 +45,9 @@ PATCH = np.dtype(
 ZONED_PATCH = np.dtype([*PATCH.descr, ("zones", "<i4")])
 """The measures of a patch, and the zone that contains most of its cells."""
 assert (PATCH.itemsize, ZONED_PATCH.itemsize) == (PATCH_BYTES, PATCH_BYTES + ZONE_BYTES)
+
+PIECE = 2**14
+"""The number of patches whose measures are written at a time, which fit in a processor's cache."""
 
 _JOINED_BY: dict[str, Any] = {
     "class": np.minimum,
@@ -68,7 +72,7 @@ def measures_of(work: TileWork, frames: Sequence[Frame]) -> list[Integers]:
     [question] = work.questions
     grid, *tables, patches = frames
     assert isinstance(grid, GridFrame) and isinstance(patches, PatchesFrame)
-    rows = np.frombuffer(patches.rows, PATCH).copy()
+    rows = np.frombuffer(patches.rows, PATCH)
     source = work.maps[question.map]
     numbers = np.asarray(grid.cells).reshape(grid.rows, grid.cols)
     block = source.window(*work.outer)
@@ -78,6 +82,8 @@ def measures_of(work: TileWork, frames: Sequence[Frame]) -> list[Integers]:
     text = sides_text(work.place, sides, begun, question.is_diagonal)
     tile.leave_out_inner_sides(rows)
     tile.add_core_cells(rows, question)
+    for name, first in zip(("top", "bottom", "left", "right"), np.repeat(work.place[:2], 2)):
+        rows[name] += first
     open_ones = np.unique(np.concatenate([numbers.ravel() for _, numbers in sides]))
     told = [np.frombuffer(text, np.uint8), rows, open_ones[open_ones != NO_CLUMP]]
     return told + [entries_of(table) for table in tables if isinstance(table, TableFrame)]
@@ -178,7 +184,7 @@ def _add(counts: Integers, numbers: Integers, step: int) -> None:
 
 
 class PatchSum:
-    """Collects patch measures from all tiles.
+    """Collects patch measures from all tiles, in any threads.
 
     Excluded patches are dropped immediately, unless they may continue in other tiles.
 
@@ -192,13 +198,15 @@ class PatchSum:
 
     def __init__(self, classes: Optional[list[int]], fewest: int) -> None:
         self._listed, self._fewest = classes, fewest
-        self._tiles: dict[int, tuple[Integers, Integers, list[Integers]]] = {}
+        self._closed: dict[Rectangle, tuple[Integers, Integers]] = {}
+        self._open: dict[Rectangle, tuple[Integers, Integers]] = {}
+        self._tables: dict[Rectangle, list[Integers]] = {}
         self.numbers: Integers = np.empty(0, np.int64)
         self.counts: dict[str, Integers] = {}
         self.tables: list[Integers] = []
 
     def add(
-        self, tile: int, place: Rectangle, rows: Integers, waiting: Integers, tables: list[Integers]
+        self, place: Rectangle, rows: Integers, waiting: Integers, tables: list[Integers]
     ) -> None:
         """Add a tile's patches, its open patches, and its tables of patches."""
         is_open = np.zeros(len(rows), np.bool_)
@@ -206,31 +214,60 @@ class PatchSum:
         kept = is_open | (rows["cells"] >= self._fewest)
         if self._listed is not None:
             kept &= np.isin(rows["class"], self._listed)
-        rows = rows[kept]
-        for name, first in zip(("top", "bottom", "left", "right"), np.repeat(place[:2], 2)):
-            rows[name] += first
-        tables = [table[kept[table[:, 0] - 1]] for table in tables]
-        self._tiles[tile] = np.flatnonzero(kept) + 1, rows, tables
+        for parts, of in ((self._closed, kept & ~is_open), (self._open, kept & is_open)):
+            parts[place] = np.flatnonzero(of) + 1, rows if of.all() else rows[of]
+        self._tables[place] = [table[kept[table[:, 0] - 1]] for table in tables]
 
-    def join(self, numbers_of: Callable[[int, Integers], Integers]) -> None:
+    def join(self, numbers_of: Callable[[Rectangle, Integers], Integers]) -> None:
         """Join the patches of all tiles, using their numbers in the full map."""
-        found = [(tile, *self._tiles.pop(tile)) for tile in sorted(self._tiles)]
-        numbers = np.concatenate([numbers_of(tile, own) for tile, own, _, _ in found])
+        open_numbers, open_rows = self._joined(numbers_of)
+        places, closed = zip(*self._closed.items())
+        numbers = in_threads(numbers_of, places, [own for own, _ in closed])
+        self.numbers, indices = _merged([*numbers, open_numbers])
+        for name in open_rows.dtype.names or ():
+            self.counts[name] = np.empty(self.numbers.size, np.int64)
+        in_threads(self._fill, indices, [*(rows for _, rows in closed), open_rows])
+        for place, tables in self._tables.items():
+            for table in tables:
+                table[:, 0] = numbers_of(place, table[:, 0])
+        self.tables = [_summed(np.concatenate(parts)) for parts in zip(*self._tables.values())]
+
+    def _joined(
+        self, numbers_of: Callable[[Rectangle, Integers], Integers]
+    ) -> tuple[Integers, Integers]:
+        """Join the open patches of all tiles, and return their numbers and measures."""
+        found = self._open.items()
+        numbers = np.concatenate([numbers_of(place, own) for place, (own, _) in found])
+        rows = np.concatenate([rows for _, (_, rows) in found])
         order = np.argsort(numbers, kind="stable")
-        numbers = numbers[order]
-        first = places_of(numbers)
-        for name in found[0][2].dtype.names or ():
-            counts = np.concatenate([rows[name] for _, _, rows, _ in found])[order]
-            join = _JOINED_BY.get(name, np.add)
-            counts = join.reduceat(counts, first) if first.size else counts
-            self.counts[name] = counts.astype(np.int64)
-        kept = self.counts["cells"] >= self._fewest
-        self.numbers = numbers[first][kept]
-        self.counts = {name: counts[kept] for name, counts in self.counts.items()}
-        for parts in zip(*(tables for _, _, _, tables in found)):
-            for (tile, _, _, _), part in zip(found, parts):
-                part[:, 0] = numbers_of(tile, part[:, 0])
-            self.tables.append(_summed(np.concatenate(parts)))
+        first = places_of(numbers[order])
+        joined = rows[order[first]]
+        for name in (rows.dtype.names or ()) if first.size else ():
+            joined[name] = _JOINED_BY.get(name, np.add).reduceat(rows[name][order], first)
+        kept = joined["cells"] >= self._fewest
+        return numbers[order[first]][kept], joined[kept]
+
+    def _fill(self, indices: Integers, rows: Integers) -> None:
+        """Write the measures of patches to their indices among all patches."""
+        for start in range(0, indices.size, PIECE):
+            piece = slice(start, start + PIECE)
+            for name, counts in self.counts.items():
+                counts[indices[piece]] = rows[name][piece]
+
+
+def _merged(parts: list[Integers]) -> tuple[Integers, list[Integers]]:
+    """Return the numbers of all parts in ascending order, and the index of each part's numbers.
+
+    Examples
+    --------
+    >>> _merged([np.array([2, 9]), np.array([5])])
+    (array([2, 5, 9]), [array([0, 2]), array([1])])
+    """
+    count = sum(part.size for part in parts)
+    if count == max(part.max(initial=0) for part in parts):  # no number is missing
+        return np.arange(1, count + 1), [part - 1 for part in parts]
+    numbers = np.sort(np.concatenate(parts), kind="stable")
+    return numbers, [np.searchsorted(numbers, part) for part in parts]
 
 
 def _summed(table: Integers) -> Integers:

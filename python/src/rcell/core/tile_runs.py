@@ -254,12 +254,15 @@ class _Tiles:
         def text(place: Rectangle, _: Rectangle, shape: tuple[int, int]) -> str:
             return script.text(place, place, shape)
 
-        found = self._run(script, text, measures_of, question=question)
-        for index, (border, rows, sides, *tables) in found:
+        def add(place: Rectangle, results: list[Integers]) -> list[Integers]:
+            border, rows, sides, *tables = results
+            fold.add(place, rows, sides, tables)
+            return [border]
+
+        for index, [border] in self._run(script, text, measures_of, put=add, question=question):
             borders[index] = border.tobytes()
-            fold.add(index, self._places[index], rows, sides, tables)
-        tiles = join(borders, question.is_diagonal).tiles
-        fold.join(lambda index, numbers: tiles[index].looked_up(numbers))
+        tiles = dict(zip(self._places, join(borders, question.is_diagonal).tiles))
+        fold.join(lambda place, numbers: tiles[place].looked_up(numbers))
 
     def add_clumps(self, plan: Sequence[Statement], clump: Statement, is_last: bool) -> None:
         """Compute the map of an `r.clump` statement, and add the map to the known maps.
@@ -277,7 +280,8 @@ class _Tiles:
 
         text = partial(script.clump_text, clump)
         borders = [b""] * len(self._places)
-        for index, [border] in self._run(script, text, clumps_of(diagonal), is_last, keep_numbers):
+        found = self._run(script, text, clumps_of(diagonal), is_last, False, keep_numbers)
+        for index, [border] in found:
             borders[index] = border.tobytes()
         joined = join(borders, diagonal)
         self._maps[clump.made] = ArrayMap(
@@ -301,14 +305,15 @@ class _Tiles:
         text: Callable[[Rectangle, Rectangle, tuple[int, int]], str],
         results: Any,
         is_last: bool = True,
-        keep: Put | None = None,
+        is_kept: bool = True,
+        put: Put = lambda _, results: results,
         question: Question | None = None,
     ) -> Iterator[tuple[int, list[Integers]]]:
         """Yield the index and the results of each tile as tiles complete.
 
         A run reads the maps that the script needs. The last run also reads all maps that no run has
-        read, to check their cells. Results that `keep` stores are not kept for resuming, because
-        they are too large.
+        read, to check their cells. Results are kept for resuming, unless `is_kept` is False because
+        they are too large. They are yielded as `put` returns them, in the thread of the tile.
         """
         read = script.reads
         if is_last:
@@ -326,15 +331,13 @@ class _Tiles:
             outer = place.with_halo(reach, self._shape)
             words = text(place, outer, self._shape)
             work = TileWork(words, place, outer, self._shape, *common, questions=questions)
-            return work if keep is not None else self._shelf.known(work)
+            return self._shelf.known(work) if is_kept else work
 
         def finish(work: TileWork, done: TileDone) -> list[Integers]:
             for name, counts in done.counts.items():
                 self._watches[name].merge(counts)
-            if keep is not None:
-                return keep(work.place, done.results)
             self._shelf.keep(work.path, done)
-            return done.results
+            return put(work.place, done.results)
 
         yield from self._crew.run(prepare, finish, self._places)
         for name in watched:
