@@ -2,4 +2,5 @@
 pub mod ReadLemmas
 pub mod TableLemmas
 pub mod WorkedMaps
+pub mod NumberingLemmas
 pub mod ClumpLemmas

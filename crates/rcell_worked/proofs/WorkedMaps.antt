@@ -1,13 +1,11 @@
 -- The maps of the worked runs, and how their tables are printed.
-use Rattle.std.proofs.Common.{ℕ, pos, true, false, [], ◌∷◌, Some, None, codes}
-use Rattle.cell_core.specs.Grid.{Grid, CellValue, no_labels}
+use Rattle.std.proofs.Common.{pos, true, false, [], ◌∷◌, None, codes}
+use Rattle.cell_core.specs.Grid.{Grid, no_labels}
 use Rattle.cell_core.specs.Shelf.{ShelfValue}
 use Rattle.cell_stats_combinations.specs.declared.skip.Skip.TheVariants.{Nothing}
 use Rattle.rcell.specs.Loading.{shelf_of_one}
 use Rattle.rcell_script_commands.specs.declared.command.StatsOptions.{StatsOptions}
-
-abbrev pub class : ℕ → CellValue
-class n = Some (pos n)
+use Rattle.rcell_worked.specs.WorkedNumbers.{class}
 
 abbrev pub land_map : Grid
 land_map = record {

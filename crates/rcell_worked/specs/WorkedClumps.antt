@@ -1,13 +1,19 @@
--- Worked clump numbers of r.clump.
-use Rattle.std.specs.Prelude.{[], ◌∷◌, codes}
+-- Worked clump maps of r.clump.
+use Rattle.std.specs.Prelude.{ℕ, List, [], ◌∷◌, ◌++◌, codes}
 use Rattle.rcell_worked.specs.WorkedRuns.{Prints, Text}
 
--- two cells of one category touch only at a corner
+-- the header of a grid of four rows and four columns
+abbrev pub header : List ℕ
+header = codes "north: 4\nsouth: 0\neast: 4\nwest: 0\nrows: 4\ncols: 4\n"
+
+-- the map of WorkedNumbers
 abbrev pub field : Text
-field = (codes "field", codes "north: 2\nsouth: 0\neast: 2\nwest: 0\nrows: 2\ncols: 2\n5 *\n7 5\n")
+field = (codes "field", header ++ codes "5 7 5 *\n5 5 5 0\n* 0 * 5\n0 5 5 5\n")
 
 pub record WorkedClumps : Type 0 where
-  -- the clump numbers by edges, and by edges and corners; null cells stay null
-  pub numbered : Prints (field ∷ [])
-      (codes "r.clump input=field output=sides\nr.clump -d input=field output=all\nr.stats -1 input=sides,all\n")
-      (codes "1 1\n* *\n2 2\n3 1\n")
+  -- the clump numbers by edges; null stays null
+  pub by_edges : Prints (field ∷ []) (codes "r.clump input=field output=clumps\nr.out.ascii input=clumps\n")
+      (header ++ codes "1 2 1 *\n1 1 1 3\n* 4 * 5\n6 5 5 5\n")
+  -- the clump numbers by edges and corners
+  pub by_corners : Prints (field ∷ []) (codes "r.clump -d input=field output=clumps\nr.out.ascii input=clumps\n")
+      (header ++ codes "1 2 1 *\n1 1 1 3\n* 4 * 1\n4 1 1 1\n")

@@ -2,6 +2,7 @@
 
 ghost use Rattle.rcell_worked.specs.WorkedClumps.{WorkedClumps};
 ghost use Rattle.rcell_worked.specs.WorkedGrids.{WorkedGrids};
+ghost use Rattle.rcell_worked.specs.WorkedNumbers.{WorkedNumbers};
 ghost use Rattle.rcell_worked.specs.WorkedRequests.{WorkedRequests};
 ghost use Rattle.rcell_worked.specs.WorkedTables.{WorkedTables};
 
@@ -22,10 +23,15 @@ pub fn grids()
     script_reading_denotes();
 }
 
-/// Clump numbers of r.clump, on a map where the connectivity matters.
+/// The clump numbers of a map, by edges and by edges and corners: no others are right.
 ///
-/// The checker cannot compute them, because `IsClumping` states which map of numbers is correct but does not construct
-/// one. Therefore this law states the bytes, and its proof shows that the two maps of numbers are correct.
+/// `IsClumping` states which map of numbers is right but does not construct one. Therefore the proof names the first
+/// cell of each clump and a path to each cell, and the checker computes that they fit the map.
+pub fn numbers()
+    ensures { WorkedNumbers }
+{}
+
+/// Clump maps: the output of r.clump and r.out.ascii for this map.
 pub fn clumps()
     ensures { WorkedClumps }
 {

@@ -14,7 +14,8 @@ use Rattle.rcell.specs.Loading.{shelf_from}
 use Rattle.rcell.specs.Making.{with_map}
 use Rattle.rcell_worked.proofs.ReadLemmas.{script_of}
 use Rattle.rcell_worked.proofs.TableLemmas.{prints}
-use Rattle.rcell_worked.proofs.WorkedMaps.{class, land_map, land_shelf, both_shelf, counts}
+use Rattle.rcell_worked.specs.WorkedNumbers.{class}
+use Rattle.rcell_worked.proofs.WorkedMaps.{land_map, land_shelf, both_shelf, counts}
 use Rattle.rcell_worked.proofs.law.tables.Goals as goal
 
 abbrev groups : List RuleValue
