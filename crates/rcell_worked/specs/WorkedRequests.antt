@@ -7,6 +7,8 @@ use Rattle.rcell_pipe_response.specs.Frames.{OutputFrame}
 use Rattle.rcell_pipe_response.specs.FrameBytes.{response_bytes}
 use Rattle.rcell_pipe_response.specs.RunEnds.{done_end, GivesAll}
 use Rattle.rcell_plan_response.specs.Responses.{AsksForFrames}
+use Rattle.rcell_pipe_law.specs.SentExamples.{docs_request}
+use Rattle.rcell_worked.specs.SentResponses.{frames_request}
 use Rattle.rcell_worked.specs.WorkedRuns.{given}
 
 -- the response to a request for frames, as in the theorem of `respond`
@@ -39,4 +41,7 @@ table_response =
     ++ (0 ∷ 0 ∷ 0 ∷ 0 ∷ 0 ∷ 0 ∷ 0 ∷ 0 ∷ 0 ∷ 0 ∷ 0 ∷ 0 ∷ 0 ∷ 0 ∷ 0 ∷ 0 ∷ [])
 
 pub record WorkedRequests : Type 0 where
+  -- the bytes that the definitions give for the map and the script
+  pub written : frames_request docs_request ≡ table_request
+  -- the response to these bytes
   pub table : Responds table_request table_response

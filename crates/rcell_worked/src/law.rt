@@ -1,11 +1,13 @@
 //! Outputs of worked runs, as the specification defines them.
 
+ghost use Rattle.rcell_worked.specs.SentResponses.{SentRequestsGetFrames};
 ghost use Rattle.rcell_worked.specs.WorkedClumps.{WorkedClumps};
 ghost use Rattle.rcell_worked.specs.WorkedGrids.{WorkedGrids};
 ghost use Rattle.rcell_worked.specs.WorkedNumbers.{WorkedNumbers};
 ghost use Rattle.rcell_worked.specs.WorkedRequests.{WorkedRequests};
 ghost use Rattle.rcell_worked.specs.WorkedTables.{WorkedTables};
 
+use rcell_pipe_law::law::sent_requests_are_read;
 use rcell_script::law::script_reading_denotes;
 
 /// Tables: the first example of the documents, without null, of two maps, after a combination, cell by cell, and of
@@ -43,4 +45,12 @@ pub fn requests()
     ensures { WorkedRequests }
 {
     script_reading_denotes();
+}
+
+/// The response to any request that a caller writes for maps, a script and questions. If it reports no error, it
+/// consists of the frames of this script over these maps, and of these questions. No error is in the request itself.
+pub fn sent_requests_get_frames()
+    ensures { SentRequestsGetFrames }
+{
+    sent_requests_are_read();
 }

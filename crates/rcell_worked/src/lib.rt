@@ -2,7 +2,7 @@
 //! checker. This crate contains only proofs.
 //!
 //! - `law`: `tables` of r.stats, `grids` of r.out.ascii, `numbers` and `clumps` of r.clump, and `requests` of
-//!   rcell-pipe with their frames
+//!   rcell-pipe with their frames; and `sent_requests_get_frames`, about all requests
 //! - specs/WorkedRuns.antt: the definition of worked runs; if a definition is empty or wrong, these outputs cannot be
 //!   proved
 #![tactic(auto)]

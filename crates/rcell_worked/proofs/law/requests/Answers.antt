@@ -1,4 +1,4 @@
-use Rattle.std.proofs.Common.{refl, List, ℕ, [], ◌∷◌, codes, ap}
+use Rattle.std.proofs.Common.{refl, List, [], ◌∷◌, codes, ap}
 use Rattle.cell_stats.specs.CategoryTables.{Pairs, table_of}
 use Rattle.cell_stats_combinations.specs.Combinations.{Combination}
 use Rattle.cell_stats_combinations.specs.LeftOut.{kept_cells}
@@ -28,6 +28,7 @@ small_cells = combinations_of small_shelf (0 ∷ [])
 pub returns : goal.returns
 unfolding line_len lines_from bytes_at number_at signed_at text_at steps coordinate_at edges_at region_at map_name_at new_name_at same_region_at flags_at type_at format_at label_at one_more_label labels_at head_at one_more_row with_labels map_at one_more_map count_at script_at end_at questions_at last_questions_at first_map_at run_at cells_at form_at first_fault
 returns c = record {
+  written = refl;
   table = record {
     shelf = small_shelf;
     statements = _;
