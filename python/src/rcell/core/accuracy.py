@@ -5,7 +5,6 @@ from __future__ import annotations
 
 import math
 import os
-from collections.abc import Mapping
 from typing import Any, NamedTuple, Optional
 
 import numpy as np
@@ -14,7 +13,7 @@ from ..readers import open_features
 from .area import AUTO, unit_of
 from .arguments import MAX_CATEGORY, first_of
 from .arrays import NDArray
-from .columns import Column, Matrix, Table, distinct_names
+from .columns import Column, Matrix, Table, measures
 from .counting import Maps, coded, legend_for
 from .crs import UNITS_OF_AREA
 from .errors import BadArgument, Refused
@@ -157,26 +156,20 @@ def accuracy(
     legend = legend_for(labels, next(filter(None, own), {}), [("the sample", classes)])
     columns = coded("class", classes, legend, "label") + estimate.columns()
     if unit is not None:
-        parts = {"mapped": mapped, "area": mapped.sum() * estimate.shares}
-        parts["area_se"] = mapped.sum() * estimate.shares_se
-        columns += [Column(f"{name}_{unit}", "measure", part) for name, part in parts.items()]
-    matrix = _matrix_of(classes, counts, legend)
+        areas_of = mapped.sum() * np.array([estimate.shares, estimate.shares_se])
+        names = (f"{part}_{unit}" for part in ("mapped", "area", "area_se"))
+        columns += measures(dict(zip(names, [mapped, *areas_of])))
+    pairs_of = np.stack(np.meshgrid(classes, classes, indexing="ij"), -1).reshape(-1, 2)
+    matrix = Matrix.of(["map", "reference"], pairs_of, counts.reshape(-1), [legend, legend])
     return Accuracy(matrix, Table(columns), *estimate.summary(), int(counts.sum()))
 
 
 def summary_of(result: Accuracy) -> Table:
     """Return the overall measures and the number of sample cells as a one-row table."""
-    names = result._fields[2:]
-    parts = ((name, np.array([value])) for name, value in zip(names, result[2:]))
     return Table(
-        Column(name, "measure" if part.dtype.kind == "f" else "count", part) for name, part in parts
+        Column(name, "count" if name == "cells" else "measure", np.array([value]))
+        for name, value in zip(result._fields[2:], result[2:])
     )
-
-
-def _matrix_of(classes: Integers, counts: Integers, legend: Mapping[int, str]) -> Matrix:
-    titles, texts = distinct_names([(classes, legend), (classes, legend)], ["map"])
-    key = Column("map", "label", texts) if legend else Column("map", "class", classes)
-    return Matrix([key], "reference", titles, counts, not legend)
 
 
 class _Estimate:
@@ -211,17 +204,14 @@ class _Estimate:
         # Equation 7, with shares in place of numbers of cells.
         others = self._squares.sum(axis=0) - own
         spread = (1 - producers) ** 2 * own + producers**2 * others
-        measures = {
+        values = {
             "users": np.where(has_rows, np.diag(self._within), np.nan),  # equation 2
             "users_se": np.where(has_rows, np.sqrt(self._users_variance), np.nan),
             "producers": producers,
             "producers_se": _ratio(np.sqrt(np.maximum(spread, 0)), self.shares),
         }
-        return [
-            Column("cells_map", "count", self._rows),
-            Column("cells_reference", "count", self._counts.sum(axis=0)),
-            *(Column(name, "measure", values) for name, values in measures.items()),
-        ]
+        cells = {"cells_map": self._rows, "cells_reference": self._counts.sum(axis=0)}
+        return [*(Column(name, "count", part) for name, part in cells.items()), *measures(values)]
 
     def summary(self) -> tuple[float, float, float, float, float]:
         """Return the overall accuracy, its standard error, kappa, and the two disagreements."""

@@ -12,13 +12,7 @@ from .columns import Column, Table
 from .counting import Maps, coded, legend_for
 from .sources import MapLike
 
-__all__ = ["adjacency", "sides_of"]
-
-# The first table counts pairs of adjacent cells in rows, the second in columns.
-_SCRIPT = """r.mapcalc right = map[0,1]
-r.mapcalc below = map[1,0]
-r.stats -c -n input=map,right
-r.stats -c -n input=map,below"""
+__all__ = ["adjacency", "side_lines", "sides_of"]
 
 
 def adjacency(map: MapLike, *, labels: Any = None, crs: Any = None) -> Table:
@@ -58,13 +52,23 @@ def adjacency(map: MapLike, *, labels: Any = None, crs: Any = None) -> Table:
     2      2          2      2      20.0
     """
     maps = Maps({"map": map}, crs)
-    pairs, flanks, ends = sides_of(*maps.tables(_SCRIPT))
+    pairs, flanks, ends = sides_of(*maps.tables("\n".join(side_lines("map"))))
     unit = maps.measure(None).length()
     width, height = maps.first.transform[0], -maps.first.transform[4]
     legend = legend_for(labels, maps.sources["map"].labels, [("map", pairs)])
     columns = coded("class", pairs[:, 0], legend, "label") + coded("neighbour", pairs[:, 1], legend)
     columns.append(Column("sides", "count", flanks + ends))
     return Table([*columns, Column("border_m", "measure", (flanks * height + ends * width) * unit)])
+
+
+def side_lines(name: str) -> list[str]:
+    """Return script lines that count pairs of adjacent cells: in the same row, then in a column."""
+    return [
+        f"r.mapcalc right = {name}[0,1]",
+        f"r.mapcalc below = {name}[1,0]",
+        f"r.stats -c -n input={name},right",
+        f"r.stats -c -n input={name},below",
+    ]
 
 
 def sides_of(

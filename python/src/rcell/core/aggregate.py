@@ -4,14 +4,13 @@
 from __future__ import annotations
 
 import dataclasses
-import numbers
 from dataclasses import dataclass
 from functools import cached_property
 from typing import Any, NamedTuple
 
 import numpy as np
 
-from .arguments import MAX_CATEGORY, whole_number_of
+from .arguments import MAX_CATEGORY, is_number, whole_number_of
 from .arrays import NDArray
 from .columns import distinct_names
 from .counting import Maps, places_of
@@ -135,8 +134,7 @@ def aggregate(map: MapLike, factor: int, min_percent: float = 0, *, crs: Any = N
     [[1, None]]
     """
     whole_number_of("factor", factor, 1, MAX_CATEGORY)
-    is_number = isinstance(min_percent, numbers.Real) and not isinstance(min_percent, bool)
-    if not is_number or not 0 <= min_percent <= 100:
+    if not is_number(min_percent) or not 0 <= min_percent <= 100:
         raise BadArgument("min_percent", f"must be a number from 0 to 100; got {min_percent!r}")
     maps = Maps({"map": map}, crs)
     source = maps.first

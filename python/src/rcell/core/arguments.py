@@ -19,7 +19,9 @@ __all__ = [
     "check_script",
     "classes_of",
     "first_of",
+    "is_number",
     "known_names",
+    "list_of",
     "whole_number_of",
 ]
 
@@ -51,6 +53,20 @@ def whole_number_of(name: str, value: Any, least: int, most: Optional[int] = Non
     return int(value)
 
 
+def is_number(value: Any) -> bool:
+    """Return whether a value is a real number, and not a bool."""
+    return isinstance(value, numbers.Real) and not isinstance(value, bool)
+
+
+def list_of(name: str, values: Any, rule: str) -> List[Any]:
+    """Return an argument as a list, or raise BadArgument if it is neither a list nor a number."""
+    if isinstance(values, numbers.Real):
+        values = [values]
+    if isinstance(values, (str, bytes)) or not isinstance(values, Iterable):
+        raise BadArgument(name, f"must be a list of {rule}; got {values!r}")
+    return list(values)
+
+
 def classes_of(classes: Any) -> Optional[List[int]]:
     """Return a list of the classes to which a call is limited, or None for all classes.
 
@@ -61,16 +77,9 @@ def classes_of(classes: Any) -> Optional[List[int]]:
     """
     if classes is None:
         return None
-    if isinstance(classes, numbers.Real):
-        classes = [classes]
-    if isinstance(classes, (str, bytes)) or not isinstance(classes, Iterable):
-        raise BadArgument(
-            "classes", f"must be a list of whole numbers, for example [31, 32]; got {classes!r}"
-        )
     numbers_of_classes = []
-    for value in classes:
-        is_number = isinstance(value, numbers.Real) and not isinstance(value, bool)
-        if not is_number or not abs(value) <= MAX_CATEGORY or value != int(value):
+    for value in list_of("classes", classes, "whole numbers, for example [31, 32]"):
+        if not is_number(value) or not abs(value) <= MAX_CATEGORY or value != int(value):
             limits = f"from -{MAX_CATEGORY} to {MAX_CATEGORY}"
             raise BadArgument("classes", f"must be whole numbers {limits}; got {value!r}")
         numbers_of_classes.append(int(value))

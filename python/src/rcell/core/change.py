@@ -13,7 +13,7 @@ import numpy as np
 from .area import Measure
 from .arrays import NDArray
 from .columns import Column, Matrix, Table, distinct_names
-from .counting import Counts, Maps, legend_for
+from .counting import Counts, Maps, legend_for, sized
 from .errors import BadArgument
 from .sources import MapLike
 
@@ -186,12 +186,9 @@ class _Changes:
             classes = [pair.classes[:, place] for pair in self.pairs]
             columns += self._with_labels(name, f"{name}_label", classes, self.labels[place:])
         cells = np.concatenate([pair.cells for pair in self.pairs])
-        area = None
-        if self.measure.by_row is not None:
-            area = np.concatenate([pair.weights() for pair in self.pairs])
+        area = np.concatenate([pair.areas(self.measure) for pair in self.pairs])
         percent = np.concatenate([pair.percent() for pair in self.pairs])
-        together = Counts(np.empty((cells.size, 0), np.int64), cells, area)
-        return Table(columns + together.columns(self.measure, percent))
+        return Table(columns + sized(self.measure, cells, area, percent))
 
     def matrix(self) -> Matrix:
         """Return a matrix with a row for each earlier class and a column for each later class."""

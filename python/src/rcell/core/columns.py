@@ -12,7 +12,7 @@ import numpy as np
 from .arrays import NDArray
 from .protocol import NULL
 
-__all__ = ["Column", "Matrix", "Table", "Value", "distinct_names", "unique_names"]
+__all__ = ["Column", "Matrix", "Table", "Value", "distinct_names", "measures", "unique_names"]
 
 Value = Union[int, float, str, None]
 
@@ -44,6 +44,11 @@ class Column:
         if self.kind == "measure":
             return [None if value != value else value for value in values]
         return values
+
+
+def measures(values: Mapping[str, Any]) -> list[Column]:
+    """Return a column of measures for each name."""
+    return [Column(name, "measure", part) for name, part in values.items()]
 
 
 class Table:

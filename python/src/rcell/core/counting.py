@@ -23,7 +23,7 @@ from .sources import Source, source_of, sources_of
 from .tile_tables import in_order, order_of
 from .zones import Zones, zones_of
 
-__all__ = ["Counts", "Maps", "coded", "legend_for", "places_of"]
+__all__ = ["Counts", "Maps", "coded", "legend_for", "places_of", "sized", "sums_of"]
 
 # The largest number of maps in one r.stats; in degrees, one of the maps contains row numbers.
 MOST_MAPS = 16
@@ -59,10 +59,8 @@ class Counts:
 
         Each group begins at an index in `first` and keeps the classes of its first entry.
         """
-        if not first.size:
-            return self
-        area = None if self.area is None else np.add.reduceat(self.area, first)
-        return Counts(self.classes[first], np.add.reduceat(self.cells, first), area)
+        area = None if self.area is None else sums_of(self.area, first)
+        return Counts(self.classes[first], sums_of(self.cells, first), area)
 
     def weights(self) -> NDArray[Any]:
         """Return the weights for percentages: areas for maps in degrees, otherwise cell counts."""
@@ -84,21 +82,15 @@ class Counts:
         """
         is_null = (self.classes == NULL).any(axis=1)
         counted = np.where(is_null, 0, self.weights())
-        if not counted.size:
-            return np.empty(0)
         first = places_of(self.classes[:, :groups])
-        totals = np.add.reduceat(counted, first)
-        totals = np.repeat(totals, np.diff([*first, counted.size]))
+        totals = np.repeat(sums_of(counted, first), np.diff([*first, counted.size]))
         return np.where(is_null, np.nan, counted * 100.0 / np.where(totals == 0, 1, totals))
 
     def columns(
         self, measure: Measure, percent: Optional[NDArray[np.float64]] = None
     ) -> list[Column]:
         """Return a table's columns of cells and, if requested, of areas and percentages."""
-        columns = [Column("cells", "count", self.cells)]
-        if measure.unit is not None:
-            columns.append(Column(f"area_{measure.unit}", "measure", self.areas(measure)))
-        return columns if percent is None else [*columns, Column("percent", "measure", percent)]
+        return sized(measure, self.cells, self.areas(measure), percent)
 
 
 class Maps:
@@ -228,6 +220,24 @@ def places_of(ordered: Integers) -> NDArray[np.intp]:
     rows = ordered if ordered.ndim == 2 else ordered[:, None]
     differs = (rows[1:] != rows[:-1]).any(axis=1)
     return np.concatenate([[0], np.flatnonzero(differs) + 1])
+
+
+def sums_of(values: NDArray[Any], first: NDArray[np.intp]) -> NDArray[Any]:
+    """Return the sums of groups of consecutive values, which begin at the indices in `first`."""
+    return np.add.reduceat(values, first) if first.size else values[:0]
+
+
+def sized(
+    measure: Measure,
+    cells: Integers,
+    area: NDArray[np.float64],
+    percent: Optional[NDArray[np.float64]] = None,
+) -> list[Column]:
+    """Return columns of cells, of areas if they are wanted, and of percentages if they are given."""
+    columns = [Column("cells", "count", cells)]
+    if measure.unit is not None:
+        columns.append(Column(f"area_{measure.unit}", "measure", area))
+    return columns if percent is None else [*columns, Column("percent", "measure", percent)]
 
 
 def legend_for(

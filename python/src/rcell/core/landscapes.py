@@ -9,10 +9,11 @@ from typing import Any, NamedTuple
 
 import numpy as np
 
-from .adjacency import sides_of
+from .adjacency import side_lines, sides_of
 from .area import Measure
 from .arrays import NDArray
-from .counting import Maps, places_of
+from .counting import Maps, places_of, sums_of
+from .patch_measures import clump_line
 
 __all__ = ["Landscapes", "landscapes_of", "summed"]
 
@@ -112,9 +113,9 @@ def landscapes_of(maps: Maps, connectivity: int, measure: Measure, has_zones: bo
     # in one run.
     first = places_of(sides[:, :2])
     codes, kinds = sides[first, 1], sides[:, 2]
-    cells = _sums(sides[:, 3], first)
-    beside = _sums(sides[:, 3] * (kinds % 2), first)
-    under = _sums(sides[:, 3] * (kinds // 2), first)
+    cells = sums_of(sides[:, 3], first)
+    beside = sums_of(sides[:, 3] * (kinds % 2), first)
+    under = sums_of(sides[:, 3] * (kinds // 2), first)
     weights = _weights(cells, by_row, measure)
     members, member_at = np.unique(codes, return_inverse=True)
     of_zone = members // steps if has_zones else np.zeros(members.size, np.int64)
@@ -146,11 +147,7 @@ def _weights(cells: Integers, by_row: Sequence[Integers], measure: Measure) -> F
     [table] = by_row
     row, cells_of_row = table[:, 2], table[:, 3]
     areas = cells_of_row * measure.by_row[row - 1]
-    return _sums(areas, places_of(table[:, :2]))
-
-
-def _sums(values: NDArray[Any], first: NDArray[np.intp]) -> NDArray[Any]:
-    return np.add.reduceat(values, first) if first.size else values[:0]
+    return sums_of(areas, places_of(table[:, :2]))
 
 
 def _ranked(source: str, name: str, values: Integers, step: int) -> list[str]:
@@ -164,19 +161,15 @@ def _script(name: str, connectivity: int, measure: Measure) -> list[str]:
 
     If the map is in degrees, the lines also count each patch's cells in each row.
     """
-    flag = "-d " if connectivity == 8 else ""
     # Cells of one class that share a side are in one patch, so two comparisons yield all
     # perimeters.
     is_like_right = f"nmax({name} == {name}[0,1], 0)"
     is_like_below = f"nmax({name} == {name}[1,0], 0)"
     lines = [
-        f"r.clump {flag}input={name} output=patch",
+        clump_line(connectivity, name),
         f"r.mapcalc like = {is_like_right} + 2 * {is_like_below}",
         f"r.stats -c -n input=patch,{name},like",
-        f"r.mapcalc right = {name}[0,1]",
-        f"r.mapcalc below = {name}[1,0]",
-        f"r.stats -c -n input={name},right",
-        f"r.stats -c -n input={name},below",
+        *side_lines(name),
     ]
     if measure.by_row is not None:
         lines += ["r.mapcalc row = row()", f"r.stats -c -n input=patch,{name},row"]

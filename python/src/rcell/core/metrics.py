@@ -14,8 +14,8 @@ import numpy as np
 from .area import Measure
 from .arguments import check_connectivity
 from .arrays import NDArray
-from .columns import Column, Table
-from .counting import Maps
+from .columns import Column, Table, measures
+from .counting import Maps, sized
 from .errors import BadArgument
 from .landscapes import Landscapes, landscapes_of, summed
 from .sources import MapLike
@@ -124,18 +124,6 @@ def metrics(
     return Table(columns + of_level(land, measure))
 
 
-def _sized(cells: Integers, weights: Floats, measure: Measure) -> list[Column]:
-    """Return a column of cells and, if areas are wanted, a column of areas."""
-    columns = [Column("cells", "count", cells)]
-    if measure.unit is not None:
-        columns.append(Column(f"area_{measure.unit}", "measure", measure.area(weights)))
-    return columns
-
-
-def _measures(values: dict[str, Floats]) -> list[Column]:
-    return [Column(name, "measure", part) for name, part in values.items()]
-
-
 def _shapes(land: Landscapes) -> Floats:
     """Return each patch's shape index: a quarter of its perimeter over its area's square root."""
     shapes: Floats = 0.25 * land.perimeters / np.sqrt(land.cells * land.end * land.flank)
@@ -150,7 +138,7 @@ def _of_patches(land: Landscapes, measure: Measure) -> list[Column]:
         "shape_index": _shapes(land),
         "fractal_dimension": 2 * np.log(0.25 * land.perimeters) / np.log(areas),
     }
-    return _sized(land.cells, land.weights, measure) + _measures(values)
+    return sized(measure, land.cells, measure.area(land.weights)) + measures(values)
 
 
 def _of_classes(land: Landscapes, measure: Measure) -> list[Column]:
@@ -167,10 +155,10 @@ def _of_classes(land: Landscapes, measure: Measure) -> list[Column]:
         "cohesion": _cohesion(land.member_at, land, land.by_zone(cells)[land.zone_at]),
         "interspersion_index": _interspersion(members, borders, edges, others, others),
     }
-    columns = _sized(cells, weights, measure)
+    columns = sized(measure, cells, measure.area(weights))
     columns.append(Column("percent", "measure", 100 * weights / whole))
     columns += _of_sizes(land.member_at, land, weights, whole, edges, measure)
-    return columns + _measures(values)
+    return columns + measures(values)
 
 
 def _of_landscapes(land: Landscapes, measure: Measure) -> list[Column]:
@@ -193,9 +181,10 @@ def _of_landscapes(land: Landscapes, measure: Measure) -> list[Column]:
         "shannon_evenness": diversity / most,
         "simpson_diversity": 1 - land.by_zone(shares**2),
     }
-    columns = [*_sized(cells, whole, measure), Column("classes", "count", classes)]
+    columns = sized(measure, cells, measure.area(whole))
+    columns.append(Column("classes", "count", classes))
     columns += _of_sizes(zone_of_patch, land, whole, whole, edges, measure)
-    return columns + _measures(values)
+    return columns + measures(values)
 
 
 def _of_sizes(
@@ -227,7 +216,7 @@ def _of_sizes(
     }
     if measure.unit is None:
         del values["patches_km2"], values[f"edge_density_m_{unit}"]
-    return [Column("patches", "count", count), *_measures(values)]
+    return [Column("patches", "count", count), *measures(values)]
 
 
 def _aggregation(land: Landscapes) -> Floats:

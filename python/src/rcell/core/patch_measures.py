@@ -10,7 +10,7 @@ import numpy as np
 
 from .area import Measure
 from .arrays import NDArray
-from .counting import Maps, places_of
+from .counting import Maps, places_of, sums_of
 from .protocol import NULL, Question
 from .tile_patches import PatchSum
 
@@ -225,7 +225,7 @@ class _Tables:
 
     def __init__(self, sides: Integers, fewest: int) -> None:
         first = places_of(sides[:, 0])
-        cells = np.add.reduceat(sides[:, 3], first) if first.size else np.empty(0, np.int64)
+        cells = sums_of(sides[:, 3], first)
         kept = cells >= fewest
         self.numbers, self.classes, self.cells = (
             sides[first[kept], 0],
@@ -246,17 +246,14 @@ class _Tables:
         """
         first = places_of(numbers)
         found = np.zeros(self.numbers.size, values.dtype)
-        if first.size:
-            at, kept = _places(self.numbers, numbers[first])
-            found[at] = np.add.reduceat(values, first)[kept]
+        at, kept = _places(self.numbers, numbers[first])
+        found[at] = sums_of(values, first)[kept]
         return found
 
     def ends_of(self, table: Integers) -> tuple[Integers, Integers]:
         """Return the first row (or column) and the last row (or column) of each patch."""
         first = places_of(table[:, 0])
-        last = (
-            np.concatenate([first[1:], [len(table)]]).astype(np.intp) - 1 if first.size else first
-        )
+        last = np.append(first, len(table))[1:] - 1
         kept = _places(self.numbers, table[first, 0])[1]
         return table[first[kept], 1], table[last[kept], 1]
 

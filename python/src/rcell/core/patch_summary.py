@@ -11,7 +11,7 @@ import numpy as np
 from .area import Measure
 from .arrays import NDArray
 from .columns import Column, Table
-from .counting import Maps, places_of
+from .counting import Maps, places_of, sums_of
 from .runs import execute
 
 __all__ = ["class_summary"]
@@ -176,8 +176,6 @@ def _added(patches: Integers, area: Floats) -> tuple[Integers, Floats]:
     order = np.lexsort([patches[:, 1], patches[:, 0]])
     patches, area = patches[order], area[order]
     first = places_of(patches[:, :2])
-    if not first.size:
-        return patches, area
     sums = patches[first]
-    sums[:, 2] = np.add.reduceat(patches[:, 2], first)
-    return sums, np.add.reduceat(area, first)
+    sums[:, 2] = sums_of(patches[:, 2], first)
+    return sums, sums_of(area, first)

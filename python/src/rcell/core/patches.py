@@ -12,7 +12,7 @@ import numpy as np
 from .area import Measure
 from .arguments import check_connectivity, classes_of, whole_number_of
 from .arrays import NDArray
-from .columns import Column, Table
+from .columns import Column, Table, measures
 from .counting import Maps
 from .errors import BadArgument
 from .patch_measures import PatchMeasures, clump_line, patch_measures
@@ -157,7 +157,7 @@ def _extents(found: PatchMeasures, transform: Transform) -> list[Column]:
         "east": west + width * (found.right + 1),
         "north": north + height * found.top,
     }
-    return [Column(name, "measure", values) for name, values in edges.items()]
+    return measures(edges)
 
 
 def clump(

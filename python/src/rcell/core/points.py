@@ -39,17 +39,14 @@ class Points:
         null.
     cells, classes : array of int64
         The cell number and the class of each point.
-    left_out : list of str
-        The reasons why points are left out, each with the number of points.
-    total : int
-        The number of features in the layer.
+    left_out : dict of str to int
+        The number of points that are left out, by reason.
     """
 
     map: ArrayMap
     cells: Integers
     classes: Integers
-    left_out: list[str]
-    total: int
+    left_out: dict[str, int]
 
     def pairs(self, table: Integers) -> Integers:
         """Count the pairs of map class and point class, and warn about omitted points.
@@ -64,12 +61,14 @@ class Points:
         mapped[table[:, 0]] = table[:, 1]
         classes = mapped[self.cells]
         has_class = classes != NULL
-        reasons = list(self.left_out)
-        if not has_class.all():
-            reasons.append(f"{np.count_nonzero(~has_class):,} on null cells")
-        if reasons:
-            lost = self.total - np.count_nonzero(has_class)
-            warn(f"reference: {lost:,} of {self.total:,} points are left out: {', '.join(reasons)}")
+        left_out = {**self.left_out, "on null cells": np.count_nonzero(~has_class)}
+        lost = sum(left_out.values())
+        if lost:
+            total = lost + np.count_nonzero(has_class)
+            reasons = ", ".join(
+                f"{count:,} {reason}" for reason, count in left_out.items() if count
+            )
+            warn(f"reference: {lost:,} of {total:,} points are left out: {reasons}")
         both = np.column_stack([classes[has_class], self.classes[has_class]])
         kinds, cells = np.unique(both, axis=0, return_counts=True)
         return np.column_stack([kinds, cells])
@@ -107,28 +106,17 @@ def points_of(layer: Layer, field: Optional[str], like: Source, crs: Any = None)
     row = np.floor((north - y) / -height)
     high, wide = like.region.shape
     inside = (row >= 0) & (row < high) & (col >= 0) & (col < wide)
-    left_out = []
-    without, outside = len(rows) - len(known), np.count_nonzero(~inside)
-    if without:
-        left_out.append(f"{without:,} without a class")
-    if outside:
-        left_out.append(f"{outside:,} outside the map")
+    left_out = {
+        "without a class": len(rows) - len(known),
+        "outside the map": np.count_nonzero(~inside),
+    }
     places = row[inside].astype(np.int64) * wide + col[inside].astype(np.int64)
     distinct, cells = np.unique(places, return_inverse=True)
-    numbers = np.full(high * wide, NULL, np.int32)
-    numbers[distinct] = np.arange(1, distinct.size + 1)
-    numbered = ArrayMap(
-        layer.name,
-        numbers.reshape(high, wide),
-        like.region,
-        None,
-        NULL,
-        {},
-        like.crs,
-        like.transform,
-    )
+    numbers = np.full((high, wide), NULL, np.int32)
+    numbers.reshape(-1)[distinct] = np.arange(1, distinct.size + 1)
+    numbered = ArrayMap(layer.name, numbers, like.region, None, NULL, {}, like.crs, like.transform)
     classes = codes[inside].astype(np.int64)
-    return Points(numbered, cells.reshape(-1) + 1, classes, left_out, len(rows))
+    return Points(numbered, cells.reshape(-1) + 1, classes, left_out)
 
 
 def _field_of(layer: Layer, field: Optional[str]) -> str:

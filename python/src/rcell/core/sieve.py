@@ -5,7 +5,6 @@ from __future__ import annotations
 
 import dataclasses
 import math
-import numbers
 from collections import defaultdict
 from collections.abc import Mapping, Sequence
 from typing import Any, NamedTuple, Optional
@@ -13,7 +12,7 @@ from typing import Any, NamedTuple, Optional
 import numpy as np
 
 from .area import metres_of
-from .arguments import check_connectivity, whole_number_of
+from .arguments import check_connectivity, is_number, whole_number_of
 from .arrays import NDArray
 from .crs import UNITS_OF_AREA
 from .errors import BadArgument, RcellError
@@ -156,8 +155,7 @@ def _fewest(min_cells: Any, min_ha: Any, source: Source, crs: Any) -> int:
 
 def cells_of_hectares(name: str, hectares: Any, source: Source, crs: Any) -> int:
     """Convert hectares to a number of cells, rounded up."""
-    is_number = isinstance(hectares, numbers.Real) and not isinstance(hectares, bool)
-    if not is_number or not 0 < hectares < math.inf:
+    if not is_number(hectares) or not 0 < hectares < math.inf:
         raise BadArgument(name, f"must be a number above 0; got {hectares!r}")
     metres = metres_of(name, crs, f": give {option('min_cells')}")
     cell = -source.transform[0] * source.transform[4] * metres**2

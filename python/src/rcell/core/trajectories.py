@@ -14,7 +14,7 @@ from .arguments import MAX_CATEGORY
 from .arrays import NDArray
 from .change import checked_years, maps_in_time
 from .columns import Column, Table
-from .counting import MOST_MAPS, Counts, Maps, coded, counts_of, legend_for, places_of
+from .counting import MOST_MAPS, Counts, Maps, coded, counts_of, legend_for, places_of, sized
 from .errors import BadArgument
 from .protocol import NULL
 from .scripts import Run
@@ -187,14 +187,13 @@ class _Sequences:
         cells = (self._moved * self.counts.cells[:, None]).sum(axis=0)
         total = measured.sum()
         percent = changed * 100.0 / total if total else np.full(years.size - 1, np.nan)
-        area = None if self.counts.area is None else changed
-        together = Counts(np.empty((cells.size, 0), np.int64), cells, area)
+        area = self._measure.area(cells) if self.counts.area is None else changed
         uniform = np.full(cells.size, percent.sum() / (years[-1] - years[0]))
         return Table(
             [
                 Column("year_from", "class", years[:-1]),
                 Column("year_to", "class", years[1:]),
-                *together.columns(self._measure, percent),
+                *sized(self._measure, cells, area, percent),
                 Column("percent_year", "measure", percent / np.diff(years)),
                 Column("uniform_percent_year", "measure", uniform),
             ]

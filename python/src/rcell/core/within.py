@@ -5,7 +5,6 @@ from __future__ import annotations
 
 import dataclasses
 import math
-import numbers
 from collections.abc import Iterable, Sequence
 from fractions import Fraction
 from typing import Any
@@ -13,7 +12,7 @@ from typing import Any
 import numpy as np
 
 from .area import metres_of
-from .arguments import classes_of
+from .arguments import classes_of, is_number, list_of
 from .errors import BadArgument
 from .kept import cells_for
 from .protocol import NULL, NULL_BYTE
@@ -96,18 +95,12 @@ def within(
 
 def _ascending(distances: Any) -> list[float]:
     """Return distances as floats, or raise BadArgument unless they are positive and ascending."""
-    if isinstance(distances, numbers.Real):
-        distances = [distances]
-    if isinstance(distances, (str, bytes)) or not isinstance(distances, Iterable):
-        rule = "must be a list of numbers, for example [100, 500]"
-        raise BadArgument("distances", f"{rule}; got {distances!r}")
-    listed = list(distances)
+    listed = list_of("distances", distances, "numbers, for example [100, 500]")
     if not listed:
         raise BadArgument("distances", "must have at least one number; got none")
     last = 0.0
     for distance in listed:
-        is_number = isinstance(distance, numbers.Real) and not isinstance(distance, bool)
-        if not is_number or not last < distance < math.inf:
+        if not is_number(distance) or not last < distance < math.inf:
             raise BadArgument("distances", f"must ascend from above 0; got {distance!r}")
         last = float(distance)
     return listed
