@@ -559,7 +559,7 @@ def test_cells_of_large_maps_are_kept_in_a_file(
 def test_too_little_room_for_such_a_file(monkeypatch: pytest.MonkeyPatch) -> None:
     monkeypatch.setattr("rcell.core.kept.free_memory", lambda: 100)
     monkeypatch.setenv("TMPDIR", "/nowhere")
-    with pytest.raises(rcell.WriteFailed, match="stored in /nowhere: No such file .*; set TMPDIR"):
+    with pytest.raises(rcell.WriteFailed, match="stored in /nowhere: No such file .*: set TMPDIR"):
         as_tiles(lambda: rcell.majority(np.ones((40, 30))), (7, 11))
 
 

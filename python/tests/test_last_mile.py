@@ -544,9 +544,8 @@ def test_align_by_whole_cells(raster: Write) -> None:
 def test_align_by_the_nearest_cell() -> None:
     source = rcell.Raster([[1, 2], [3, 0]], (10, 0, 0, 0, -10, 20), UTM, nodata=0)
     finer = rcell.Raster(np.zeros((4, 4), int), (5, 0, 0, 0, -5, 20), UTM)
-    with pytest.raises(
-        rcell.OtherRegion, match='cells of 10 x 10, but `to` has cells of 5 x 5: resample="nearest"'
-    ):
+    told = 'cells of 10 x 10, but `to` has cells of 5 x 5: use resample="nearest"'
+    with pytest.raises(rcell.OtherRegion, match=told):
         rcell.align(source, to=finer)
     found = rcell.align(source, to=finer, resample="nearest")
     assert found.array.tolist() == [
