@@ -52,8 +52,8 @@ legend_of_table <- function(given, name) {
 check_colours <- function(colours, places, name) {
   bad <- which(nzchar(colours) & !grepl(COLOUR, colours))
   if (!length(bad)) return(invisible())
-  text <- sprintf("%s%s is not a colour in the form #rrggbb", places[[bad[[1]]]], colours[[bad[[1]]]])
-  refuse(text, name)
+  text <- "%s%s is not a colour in the form #rrggbb"
+  refuse(sprintf(text, places[[bad[[1]]]], colours[[bad[[1]]]]), name)
 }
 
 # Check that each value is a whole number and occurs once. Messages begin with the place.
