@@ -180,7 +180,7 @@ def test_a_sample_has_its_classes_and_places() -> None:
     assert len(set(zip(rows, cols))) == 40
     assert found["x"].tolist() == (1000 + 25 * (cols + 0.5)).tolist()
     assert found["y"].tolist() == (5000 - 25 * (rows + 0.5)).tolist()
-    with pytest.warns(UserWarning, match="fewer cells than wanted of the class 1"):
+    with pytest.warns(UserWarning, match="some classes have fewer cells than requested: 1"):
         assert len(rcell.sample(placed(land), {1: 10**6}, seed=1)) == (land == 1).sum()
 
 
@@ -212,7 +212,7 @@ def test_each_cell_of_a_class_is_as_likely() -> None:
             {"n": 5, "allocation": "odd"},
             'allocation must be "equal" or "proportional"; got \'odd\'',
         ),
-        ({"n": 5, "seed": 1.5}, "seed must be a whole number or a text; got 1.5"),
+        ({"n": 5, "seed": 1.5}, "seed must be a whole number or a string; got 1.5"),
     ],
 )
 def test_arguments_of_a_sample_are_checked(words: Any, told: str) -> None:

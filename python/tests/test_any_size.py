@@ -726,7 +726,7 @@ def test_of_files_that_overlap_the_later_has_the_cells(raster: Write) -> None:
         (25.0, 0.0, 500_025.0, 0.0, -25.0, 5_500_000.0),
         nodata=0,
     )
-    with pytest.warns(UserWarning, match="first.tif and .*second.tif overlap: the later file has"):
+    with pytest.warns(UserWarning, match="first.tif and .*second.tif overlap: the later file's"):
         assert rcell.grid("", "lc", lc=[first, second]).array.tolist() == [[1, 2, 1, 2]]
     with pytest.warns(UserWarning, match="overlap"):
         assert rcell.grid("", "lc", lc=[second, first]).array.tolist() == [[1, 1, 1, 2]]
@@ -747,7 +747,7 @@ def test_of_files_that_overlap_the_later_has_the_cells(raster: Write) -> None:
         ),
         ({"crs": "EPSG:32633"}, rcell.OtherCrs, "EPSG:32633"),
         ({"nodata": 9}, rcell.BadMap, "the nodata value is 9 in the first and 0 in the second"),
-        ({"dtype": np.int16}, rcell.BadMap, "the type of cells is int16 in the first and uint8"),
+        ({"dtype": np.int16}, rcell.BadMap, "the data type is int16 in the first and uint8"),
     ],
 )
 def test_files_that_differ_are_named(
@@ -763,7 +763,9 @@ def test_files_that_differ_are_named(
 
 
 def test_patterns_without_a_file_and_texts_in_lists(raster: Write, tmp_path: pathlib.Path) -> None:
-    with pytest.raises(rcell.ReadFailed, match=r"cannot open: no\*.tif: no file matches it"):
+    with pytest.raises(
+        rcell.ReadFailed, match=r"cannot open: no\*.tif: no file matches this pattern"
+    ):
         rcell.composition("no*.tif")
     text = rcell.Raster([[1, 2]]).write(tmp_path / "a.txt")
     with pytest.raises(

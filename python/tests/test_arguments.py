@@ -63,7 +63,7 @@ Call = Callable[[], Any]
         (lambda: rcell.composition(LAND, zone_field="a"), "zone_field requires polygons, but zones is not given"),
         (lambda: rcell.composition(LAND, zones=LAND, zone_field="a"), "zone_field requires polygons, but zones is a raster"),
         (lambda: rcell.run("r.stats input=lc", {"2x": LAND}), "maps must have names of .* got '2x': write m_2x"),
-        (lambda: rcell.run("r.stats input=lc", {"a": LAND}, a=LAND), "maps must be given once; got a twice"),
+        (lambda: rcell.run("r.stats input=lc", {"a": LAND}, a=LAND), "maps must have different names; got a twice"),
         (lambda: rcell.reclass(LAND, {1: 2}, other="drop"), 'other must be "keep", "null" or None; got \'drop\''),
         (lambda: rcell.reclass(LAND, 3), "rules must be a dict, a DataFrame or a CSV; got 3"),
         (lambda: rcell.Raster(LAND, labels=[1]), "labels must be a path, a dict"),
@@ -82,8 +82,8 @@ def test_each_argument_is_named_with_its_value(call: Call, told: str) -> None:
     [
         (["a.tif", "b.tif"], "a.tif: cannot open: a.tif: No such file or directory"),
         (xarray.Variable(("y", "x"), LAND), "map: .*Variable"),
-        (np.array([["a"]]), "map: not a map of whole numbers: its cells are of the type <U1"),
-        (3, "map: neither a path nor an array nor a raster, but a int"),
+        (np.array([["a"]]), "map: not a map of whole numbers: its cells are of type <U1"),
+        (3, "map: must be a path, an array or a raster; got an object of type int"),
         ([[1, 2], [3]], "map: not an array with rows of equal length"),
     ],
 )

@@ -55,9 +55,9 @@ def test_a_distance_on_the_limit_is_within() -> None:
         ([1.5], [10], "classes must be whole numbers from .*; got 1.5"),
         ([1], [], "distances must have at least one number; got none"),
         ([1], "10", "distances must be a list of numbers, .*; got '10'"),
-        ([1], [10, 10], "distances must ascend from above 0; got 10"),
-        ([1], [0], "distances must ascend from above 0; got 0"),
-        ([1], ["10"], "distances must ascend from above 0; got '10'"),
+        ([1], [10, 10], "distances must be ascending numbers above 0; got 10"),
+        ([1], [0], "distances must be ascending numbers above 0; got 0"),
+        ([1], ["10"], "distances must be ascending numbers above 0; got '10'"),
         ([1], [1e9], "distances must be at most 255 cells; got 1000000000 m, which is 40000000.0 "),
     ],
 )

@@ -191,7 +191,7 @@ def test_files_that_differ_on_a_worker(raster: Write) -> None:
     pieces.check_files_are(states)
     os.utime(path, (1, 1))
     with pytest.raises(
-        rcell.ReadFailed, match="differs from the file on the machine of the call: .* of 1970"
+        rcell.ReadFailed, match="differs from the file on the caller's machine: .* modified 1970"
     ):
         pieces.check_files_are(states)
     os.unlink(path)

@@ -65,7 +65,7 @@ def test_shares_that_cannot_be_written(tmp_path: pathlib.Path) -> None:
         shares.write(tmp_path / "shares.png")
     with pytest.raises(rcell.BadArgument, match="class must be one of 1, 2, 3, 4, 5; got 77"):
         shares[77]
-    with pytest.raises(rcell.BadMap, match="no class has a share: all cells are null"):
+    with pytest.raises(rcell.BadMap, match="there are no classes: all cells are null"):
         rcell.aggregate(MAPS["null"], 2).shares.write(tmp_path / "shares.tif")
     land = rcell.Raster(MAPS["patchy"]).write(tmp_path / "land.tif")
     with pytest.raises(rcell.Refused):

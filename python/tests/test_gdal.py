@@ -156,12 +156,14 @@ def test_no_transform_and_an_exact_identity_are_told_apart(
 
 def test_places_and_bands_that_are_rejected(made: Made) -> None:
     nan = float("nan")
-    assert "not finite" in refusal(lambda: made(place=(nan, 1, 0, 0, 0, -1)))
-    assert refusal(lambda: made(place=(0, 1, 0.5, 0, 0.5, -1))).startswith("a rotated transform")
+    assert "finite numbers" in refusal(lambda: made(place=(nan, 1, 0, 0, 0, -1)))
+    assert refusal(lambda: made(place=(0, 1, 0.5, 0, 0.5, -1))).startswith(
+        "its transform is rotated"
+    )
     assert "west to east" in refusal(lambda: made(place=(10, -1, 0, 100, 0, -1)))
     assert "must have at most ten digits" in refusal(lambda: made(place=(1e11, 1, 0, 1, 0, -1)))
     assert refusal(lambda: made(bands=2)) == "has 2 bands: choose one, for example band=1"
-    assert refusal(lambda: made(bands=2, band=3)) == "has 2 bands, and no band 3"
+    assert refusal(lambda: made(bands=2, band=3)) == "has 2 bands, but no band 3"
     assert made(bands=2, band=2).band == 2
     assert "type CFloat32" in refusal(lambda: made(kind="CFloat32"))
     scaled = made()

@@ -490,7 +490,7 @@ def test_polygons_that_are_refused(tmp_path: pathlib.Path) -> None:
         [(box(0, 0, 4, 3), {"name": "a"}), (box(0.6, 0.6, 0.9, 0.9), {"name": "tiny"})],
     )
     with pytest.warns(
-        UserWarning, match="1 of 2 polygons contain no centre of a cell: feature 2 .tiny."
+        UserWarning, match="1 of 2 polygons contain no cell centre: feature 2 .tiny."
     ):
         rcell.composition(land(), some, zone_field="name")
     degrees = write_polygons(
@@ -502,7 +502,9 @@ def test_polygons_that_are_refused(tmp_path: pathlib.Path) -> None:
         tmp_path / "lines.gpkg",
         [({"type": "LineString", "coordinates": [(0, 0), (1, 1)]}, {"name": "a"})],
     )
-    with pytest.raises(rcell.Refused, match="not polygons: feature 1 is a LineString"):
+    with pytest.raises(
+        rcell.Refused, match="features must be polygons, but feature 1 is a LineString"
+    ):
         rcell.composition(land(), lines)
     write_polygons(tmp_path / "z.gpkg", [(box(0, 0, 4, 3), {"name": "whole"})], layer="second")
     with pytest.raises(

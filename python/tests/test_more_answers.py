@@ -54,9 +54,9 @@ def test_a_class_without_a_rule_is_an_error_that_names_it() -> None:
     ("rules", "told"),
     [
         ({(1, 5): 1, 3: 2}, "rules must have at most one rule for each class; got two for 3"),
-        ({1.5: 1}, "1.5 is not a class"),
-        ({1: "wood"}, "'wood' is not a class"),
-        ({(5, 1): 1}, "5-1 is not a range"),
+        ({1.5: 1}, "1.5 is not a valid class"),
+        ({1: "wood"}, "'wood' is not a valid class"),
+        ({(5, 1): 1}, "5-1 is not an ascending range"),
         ({}, "rules must have at least one rule"),
     ],
 )
@@ -70,7 +70,7 @@ def test_rules_of_a_file_that_are_refused(tmp_path: pathlib.Path) -> None:
     for text, told in (
         ("value,label\n1,a\n", "line 1: the header must contain value and new"),
         ("value,new\n1,2\n1,3\n", "two for 1"),
-        ("value,new\n1,x\n", "line 2: 'x' is not a class"),
+        ("value,new\n1,x\n", "line 2: 'x' is not a valid class"),
     ):
         path.write_text(text)
         with pytest.raises(rcell.RcellError, match=told):

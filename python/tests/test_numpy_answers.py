@@ -343,10 +343,10 @@ class Refusals(unittest.TestCase):
         for given, told in (
             (
                 np.zeros((2, 2, 2), int),
-                "an array of 3 dimensions (2 x 2 x 2), but a map has two; pass one band of a "
+                "the array has 3 dimensions (2 x 2 x 2), but a map has two: pass one band of a "
                 "raster, for example read(1)",
             ),
-            (np.zeros((0, 2), int), "an array without cells (0 x 2)"),
+            (np.zeros((0, 2), int), "the array has no cells (0 x 2)"),
             (
                 np.array([[1, 2.5]]),
                 "not a map of whole numbers: the cell at row 1, column 2 is 2.5",
@@ -371,14 +371,17 @@ class Refusals(unittest.TestCase):
                 "not a map of whole numbers: the cell at row 1, column 1 is -2147483648, outside "
                 "-2147483647 to 2147483647",
             ),
-            (np.array([["a"]]), "not a map of whole numbers: its cells are of the type <U1"),
-            (np.array([[1j]]), "not a map of whole numbers: its cells are of the type complex128"),
-            (3, "neither a path nor an array nor a raster, but a int"),
-            ((LAND, rcell.Region.of_cells(4, 4)), "an array of 3 x 4 cells, but a region of 4 x 4"),
+            (np.array([["a"]]), "not a map of whole numbers: its cells are of type <U1"),
+            (np.array([[1j]]), "not a map of whole numbers: its cells are of type complex128"),
+            (3, "must be a path, an array or a raster; got an object of type int"),
+            (
+                (LAND, rcell.Region.of_cells(4, 4)),
+                "the array has 3 x 4 cells, but the region has 4 x 4",
+            ),
             (
                 (LAND, (1, 0.5, 0, 0, -1, 0)),
-                "a rotated transform (1.0, 0.5, 0.0, 0.0, -1.0, 0.0): warp the map to a north-up "
-                "grid first",
+                "its transform is rotated, (1.0, 0.5, 0.0, 0.0, -1.0, 0.0): warp the map to a "
+                "north-up grid first",
             ),
         ):
             with self.subTest(told=told), self.assertRaises(rcell.BadMap) as caught:
@@ -457,20 +460,20 @@ class Refusals(unittest.TestCase):
             ),
             (
                 ("r.stats input=lc", {"percent": True}),
-                "percent= needs a table with cells: r.stats -c",
+                "percent= requires a table with counts: use r.stats -c",
             ),
             (
                 ("r.stats -c input=lc", {"pivot": True}),
-                "pivot= needs a table of two maps, but this one has 1",
+                "pivot= requires a table of two maps, but this table has 1",
             ),
             (
                 ("r.out.ascii input=lc", {}),
-                "expected one table, but the script has 0 tables and 1 maps: rcell.run returns "
-                "all outputs",
+                "the script must write one table and no map; got 0 r.stats and 1 r.out.ascii: use "
+                "rcell.run to get all outputs",
             ),
             (
                 ("# nothing", {}),
-                "expected one table, but the script has no r.stats: rcell.run returns all outputs",
+                "the script must write one table and no map; got 0 r.stats and 0 r.out.ascii: use",
             ),
         ):
             with self.subTest(told=told), self.assertRaises(rcell.RcellError) as caught:
@@ -696,10 +699,10 @@ class Programs(unittest.TestCase):
         self.assertEqual(
             ran.stdout.splitlines(),
             [
-                "the program rcell was not found: neither in the environment variable RCELL, nor "
-                "next to this Python, nor on the path",
-                "the program rcell-pipe was not found: neither in the environment variable "
-                "RCELL_PIPE, nor next to this Python, nor on the path",
+                "the program rcell was not found next to Python or on PATH: install it, or set the "
+                "environment variable RCELL to its path",
+                "the program rcell-pipe was not found next to Python or on PATH: install it, or "
+                "set the environment variable RCELL_PIPE to its path",
             ],
             ran.stderr,
         )

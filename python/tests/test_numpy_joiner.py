@@ -152,8 +152,8 @@ class Programs(unittest.TestCase):
             text=True,
         )
         told = (
-            "the program rcell-join was not found: neither in the environment variable "
-            "RCELL_JOIN, nor next to this Python, nor on the path\n"
+            "the program rcell-join was not found next to Python or on PATH: install it, or set "
+            "the environment variable RCELL_JOIN to its path\n"
         )
         self.assertEqual(ran.stdout, told, ran.stderr)
 

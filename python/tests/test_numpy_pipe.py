@@ -201,10 +201,10 @@ class Requests(Asked):
             [protocol.Block(LAND[:4]), protocol.Block(LAND[4:])],
         ):
             with self.subTest(blocks=blocks), self.assertRaisesRegex(
-                ValueError, "rows of the map lc, which has 2"
+                ValueError, "the map lc must have 2 rows"
             ):
                 self.asked(a_map(blocks=blocks))
-        with self.assertRaisesRegex(ValueError, "a mask of 0 bytes"):
+        with self.assertRaisesRegex(ValueError, "the mask must have .* bytes; got 0"):
             self.asked(a_map(is_masked=True))
 
 

@@ -39,8 +39,8 @@ class RegionsOfTheProgram(unittest.TestCase):
             ((1e10, 0, 1, 0, 1, 1), "north must have at most ten digits; got 1e+10"),
             ((float("nan"), 0, 1, 0, 1, 1), "must have at most ten digits"),
             ((float("inf"), 0, 1, 0, 1, 1), "must have at most ten digits"),
-            ((1e-9, 0, 1, 0, 1, 1), "north is not above south once they are rounded"),
-            ((1, 0, 0, 1, 1, 1), "east is not above west"),
+            ((1e-9, 0, 1, 0, 1, 1), "north must exceed south after rounding"),
+            ((1, 0, 0, 1, 1, 1), "east must exceed west"),
             ((1, 0, 1, 0, 0, 1), "got rows = 0, columns = 1"),
         ):
             with self.subTest(words=words), self.assertRaises(BadMap) as caught:

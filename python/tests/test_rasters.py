@@ -90,7 +90,7 @@ def test_without_georeference(raster: Write) -> None:
             {},
             "has 2 bands: choose one, for example rasterio.band(dataset, 1)",
         ),
-        (LAND, {"transform": (25, 1, 0, 0, -25, 0)}, "a rotated transform"),
+        (LAND, {"transform": (25, 1, 0, 0, -25, 0)}, "its transform is rotated"),
         (
             LAND,
             {"transform": (25, 0, 9.99999999e9, 0, -25, 0), "crs": None},
@@ -99,7 +99,7 @@ def test_without_georeference(raster: Write) -> None:
         (
             LAND,
             {"transform": (1e-9, 0, 0, 0, -1e-9, 0)},
-            "north is not above south once they are rounded",
+            "north must exceed south after rounding",
         ),
         (
             LAND + np.float32(0.5),
@@ -116,7 +116,7 @@ def test_without_georeference(raster: Write) -> None:
             {},
             "the cell at row 1, column 2 is -2147483648, outside -2147483647 to 2147483647",
         ),
-        (LAND.astype("complex64"), {}, "its cells are of the type complex64"),
+        (LAND.astype("complex64"), {}, "its cells are of type complex64"),
     ],
 )
 def test_what_is_refused(raster: Write, array: Any, words: Any, told: str) -> None:

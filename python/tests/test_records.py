@@ -96,7 +96,7 @@ def test_a_legend_is_named(folder: pathlib.Path) -> None:
     path = recorded(folder, labels=folder / "legend.csv")
     assert rcell.verify(path) == []
     (folder / "legend.csv").write_text("value,label\n1,a\n2,b\n3,d\n")
-    assert rcell.verify(path)[0] == "legend.csv differs"
+    assert rcell.verify(path)[0] == "legend.csv has changed"
 
 
 def test_a_script_and_a_program_are_named(folder: pathlib.Path) -> None:
@@ -107,8 +107,8 @@ def test_a_script_and_a_program_are_named(folder: pathlib.Path) -> None:
     told["runs"][0]["script"] += "\n"
     beside.write_text(json.dumps(told))
     program, script = rcell.verify(path)
-    assert program.startswith("the program differs: it was rcell ")
-    assert script == "the scripts differ: other lines were run"
+    assert program.startswith("the program differs: rcell ")
+    assert script == "the scripts differ: the call ran other lines"
 
 
 def test_a_map_that_is_gone_is_named(folder: pathlib.Path) -> None:
@@ -177,7 +177,7 @@ def test_a_record_of_r_is_reported_and_verified_there(folder: pathlib.Path) -> N
     told["versions"] = {"R": "4.2.2", "rcell": "1.0.0", "terra": "1.7.3"}
     told["call"]["name"] = "rcell_composition"
     beside.write_text(json.dumps(told))
-    with pytest.raises(rcell.Refused, match="t.csv was recorded by the package for R: verify"):
+    with pytest.raises(rcell.Refused, match="t.csv was recorded with the R package: verify"):
         rcell.verify(path)
     page = pathlib.Path(rcell.report([path], folder / "r.html")).read_text()
     assert "Rscript -e &#x27;rcell::rcell_verify(&quot;t.csv&quot;)&#x27;" in page
@@ -199,7 +199,7 @@ def test_a_record_of_another_call_fails_with_a_line(folder: pathlib.Path) -> Non
 @pytest.mark.parametrize(
     ("words", "named", "told"),
     [
-        ((np.array([[1]]),), {}, "map must be a path, .* to be recorded; got a ndarray"),
+        ((np.array([[1]]),), {}, "map must be a path, .* to be recorded; got an object of type ndarray"),
         (
             ("lc.tif",),
             {"table": "matrix"},

@@ -132,7 +132,7 @@ def test_long_tables_end_with_the_number_of_rows_that_are_left_out(tmp_path: pat
     rcell.record(tmp_path / "t.csv", rcell.composition, tmp_path / "lc.tif", area=None)
     page = page_of(tmp_path / "t.csv")
     assert page.count("<tr>") == 1 + 200 + 1 + 4
-    assert "The table has 300 more rows; they are in t.csv." in page
+    assert "t.csv contains 300 more rows." in page
     assert "and 460 more" in page
 
 
@@ -147,6 +147,8 @@ def test_tables_that_are_refused(table: pathlib.Path) -> None:
     with pytest.raises(rcell.Refused, match="cannot open .*u.csv: No such file"):
         rcell.report([table.parent / "u.csv"], out)
     table.write_text(table.read_text().replace("town", "city"))
-    with pytest.raises(rcell.Refused, match="it has changed since it was written: record it again"):
+    with pytest.raises(
+        rcell.Refused, match="the table has changed since it was written: record it again"
+    ):
         rcell.report([table], out)
     assert not out.exists()

@@ -108,12 +108,12 @@ def test_an_empty_table_says_so(raster: Write, capfdbinary: Any) -> None:
     assert main(["composition", raster(np.zeros_like(LAND), nodata=0)]) == 0
     assert said(capfdbinary) == (
         "class,cells,area_ha,percent\n",
-        "rcell-gis: note: the table is empty: all cells are null or left out\n",
+        "rcell-gis: note: the table is empty: all cells are null or excluded\n",
     )
     with pytest.raises(SystemExit):
         main(["patches", raster(LAND, nodata=0), "--classes", "31;32"])
     assert (
-        "give whole numbers with commas between them, for example 31,32; got 31;32"
+        "must be comma-separated whole numbers, for example 31,32; got 31;32"
         in said(capfdbinary)[1]
     )
 
@@ -268,7 +268,7 @@ def test_maps_are_written_all_or_none(tmp_path: Any, capsys: Any) -> None:
             "MAP: the output file is the input file: choose another name",
         ),
         (["majority", "MAP", "m.tif", "--size", "4"], 2, "--size must be odd, from 3 to 15; got 4"),
-        (["change", "MAP"], 2, "give two maps or more, in the order of their years"),
+        (["change", "MAP"], 2, "two or more maps are required, in the order of their years"),
         (
             ["composition", "MAP", "--labels", "/nowhere.csv"],
             4,

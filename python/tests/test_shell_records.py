@@ -100,7 +100,7 @@ def test_a_report_is_a_page_in_a_file_or_on_standard_output(
         (
             ["within", "MAP", "o.tif", "--classes", "1", "--distances", "20,10"],
             2,
-            "--distances must ascend from above 0; got 10.0",
+            "--distances must be ascending numbers above 0; got 10.0",
         ),
         (
             ["aggregate", "MAP", "o.tif", "--factor", "2", "--shares", "s.png"],
@@ -115,7 +115,7 @@ def test_a_report_is_a_page_in_a_file_or_on_standard_output(
         (
             ["composition", "MAP", "--record"],
             2,
-            "--record needs --out with a name that ends in .csv",
+            "--record requires --out with a name that ends in .csv",
         ),
         (
             ["composition", "MAP", "MAP", "--record", "--out", "t.csv"],

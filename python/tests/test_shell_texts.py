@@ -174,7 +174,7 @@ def test_a_band(raster: Write, capfd: Any) -> None:
     assert main(["composition", path, "--band", "2", "--area", "none"]) == 0
     assert capfd.readouterr().out.splitlines()[1] == "10,1,8.333333333333334"
     assert main(["composition", path, "--band", "3"]) == 1
-    assert "has 2 bands, and no band 3" in capfd.readouterr().err
+    assert "has 2 bands, but no band 3" in capfd.readouterr().err
 
 
 # Tables of several maps, folders of outputs
@@ -310,17 +310,17 @@ def test_an_error_of_a_script_starts_at_most_two_processes(
 
 def test_misspelt_words(capfd: Any) -> None:
     for words, told in (
-        (["compostion", "a.tif"], "no command compostion: did you mean composition?"),
-        (["record", "a.csv"], "no command record: add --record and --out FILE.csv to the"),
+        (["compostion", "a.tif"], "there is no command compostion: did you mean composition?"),
+        (["record", "a.csv"], "there is no command record: add --record and --out FILE.csv to the"),
         (["within", "a.tif"], "; see rcell-gis within --help"),
         (
             ["composition", "a.tif", "--lables", "x"],
-            "--lables is not expected: did you mean --labels?",
+            "unexpected argument --lables: did you mean --labels?",
         ),
-        (["patches", "a.tif", "--min", "2"], "--min is not expected"),
+        (["patches", "a.tif", "--min", "2"], "unexpected argument --min"),
         (
             ["sieve", "a.tif", "--out", "b.tif"],
-            "--out is not expected: name the file to write after MAP, without an option",
+            "unexpected argument --out: name the file to write after MAP, without an option",
         ),
     ):
         with pytest.raises(SystemExit) as ended:

@@ -133,11 +133,11 @@ def test_maps_without_a_cell_have_no_rows() -> None:
     ("count", "years", "told"),
     [
         (1, [2000], "maps must be a list of two or more maps; got 1"),
-        (2, None, "years must ascend, one for each map; got none"),
-        (2, [2010, 2000], "years must ascend, one for each map; got 2010, 2000"),
+        (2, None, "years must be ascending, one for each map; got none"),
+        (2, [2010, 2000], "years must be ascending, one for each map; got 2010, 2000"),
         (2, [2000, 2000], "years must differ; got 2000 twice"),
         (3, [2000, 2010], "years must list one year for each map; got 2 for 3 maps"),
-        (300, range(300), "maps must be at most 240 with 4 classes; got 300"),
+        (300, range(300), "maps must list at most 240 maps for 4 classes; got 300"),
     ],
 )
 def test_years_that_are_refused(count: int, years: Any, told: str) -> None:

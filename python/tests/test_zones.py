@@ -157,7 +157,7 @@ def test_a_polygon_under_a_later_one_is_named_as_the_loser() -> None:
     assert cells(frame, zone_field="zone") == {"over": 16}
     [told] = warned(frame, zone_field="zone")
     assert "1 cells are in more than one polygon, the first at row 1, column 1" in told
-    assert "not to feature 0 (under); each=True processes polygons one after another" in told
+    assert "not to feature 0 (under); each=True processes overlapping polygons separately" in told
 
 
 def test_a_polygon_between_two_others_is_not_without_a_centre() -> None:
@@ -177,7 +177,7 @@ def test_polygons_without_a_centre_are_named() -> None:
         crs="EPSG:32632",
     )
     assert warned(frame, zone_field="zone") == [
-        "zones: 1 of 2 polygons contain no centre of a cell: feature 1 (9)"
+        "zones: 1 of 2 polygons contain no cell centre: feature 1 (9)"
     ]
 
 
@@ -224,7 +224,9 @@ def test_geometries_of_all_kinds(tmp_path: pathlib.Path) -> None:
     path = layer(tmp_path / "c.gpkg", [(curved, 4)], geometry=ogr.wkbCurvePolygon)
     assert cells(path, zone_field="zone") == {4: 12}
     path = layer(tmp_path / "l.gpkg", [("LINESTRING (0 0, 9 9)", 4)], geometry=ogr.wkbUnknown)
-    with pytest.raises(rcell.BadMap, match="not polygons: feature 1 is a LineString"):
+    with pytest.raises(
+        rcell.BadMap, match="features must be polygons, but feature 1 is a LineString"
+    ):
         cells(path)
 
 

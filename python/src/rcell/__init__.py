@@ -17,7 +17,7 @@ from __future__ import annotations
 
 
 def _modules() -> dict[str, str]:
-    """Return the module of each public name, from the stub that type checkers also read."""
+    """Return the module of each public name, as listed in the stub for type checkers."""
     import re
 
     with open(__file__.rpartition(".")[0] + ".pyi", encoding="utf-8") as file:
@@ -26,7 +26,7 @@ def _modules() -> dict[str, str]:
 
 
 def __getattr__(name: str) -> object:
-    """Import a name when it is first used, because parts of the command line run without numpy."""
+    """Import a name on first use, because parts of the command line run without numpy."""
     import importlib
 
     if name == "__all__":

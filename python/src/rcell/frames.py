@@ -1,5 +1,5 @@
 # SPDX-License-Identifier: Apache-2.0 OR GPL-2.0-or-later
-"""Define the calls of the package, which return DataFrames and Rasters."""
+"""Define the package's calls, which return DataFrames and Rasters."""
 
 from __future__ import annotations
 
@@ -76,9 +76,9 @@ Returned = TypeVar("Returned", covariant=True)
 
 
 class Call(Protocol[Words, Returned]):
-    """A call of the package: a function of the core with the parameters that all calls share.
+    """A call of the package: a core function, with additional parameters that all calls share.
 
-    Type checkers need a signature for each set of parameters.
+    Type checkers need a signature for each combination of these parameters.
     """
 
     @overload
@@ -117,16 +117,17 @@ _RETURNS = "\n\n    Returns\n"
 _WORK_WORDS = """
     workers : int or distributed.Client, optional
         The number of tiles of a large map to process at a time, or a client whose cluster
-        processes them. By default, the current Dask client is used, or else one tile per processor.
+        processes them. By default, the current Dask client is used or, without a client, one tile
+        is processed per processor.
     resume : path, optional
-        A folder for the results of tiles of large maps. If a call is interrupted, the same call
-        with this folder continues.
+        A folder that keeps the results of a large map's finished tiles. To continue an interrupted
+        call, repeat it with the same folder.
     compute : bool
         """
 _COMPUTE_WORDS = {
-    "table": "Whether to compute the result now; otherwise, it is a Dask Delayed.",
+    "table": "Whether to compute the result now. If False, the result is a Dask Delayed.",
     "map": (
-        "Whether to compute the map now; otherwise, it is a DataArray of Dask with the map's "
+        "Whether to compute the map now. If False, the result is a lazy DataArray with the map's "
         "chunks."
     ),
     "": "Must be True, because Dask cannot compute this result.",
@@ -180,7 +181,7 @@ def _returning(
     lazy: str = "",
     meanwhile: Callable[[], None] | None = None,
 ) -> Callable[[Callable[Words, Made]], Call[Words, Returned]]:
-    """Return a decorator that converts a function's result, and documents its type as `kind`.
+    """Return a decorator that converts a function's result and documents its type as `kind`.
 
     The decorator adds the parameters `workers` and `resume`, which control the processing of large
     maps, and `compute`, with which Dask can compute the result later. A thread calls `meanwhile`
@@ -212,7 +213,7 @@ def _returning(
 
 
 def _signature_of(make: Callable[..., Any], kind: str) -> inspect.Signature:
-    """Return the signature of a call: its function's parameters and the shared parameters."""
+    """Return the signature of a call: the function's own parameters, and the shared ones."""
     signature = inspect.signature(make)
     own, more = list(signature.parameters.values()), []
     if own[-1].kind is inspect.Parameter.VAR_KEYWORD:
@@ -253,7 +254,7 @@ def _accuracy_of(result: Accuracy) -> Accuracy:
 
 
 def _raster_of(result: Any) -> Raster:
-    """Convert a map of the core to a Raster, with its `Aligned` or `Sieved` account, if any."""
+    """Convert a core map to a Raster, with its `Aligned` or `Sieved` counts, if any."""
     return Raster._of(*result) if isinstance(result, tuple) else Raster._of(result)
 
 
@@ -280,7 +281,7 @@ class Result(Sequence[Any]):
     Parameters
     ----------
     outputs : iterable of DataFrame or Raster
-        The outputs.
+        The outputs, in order.
 
     Examples
     --------

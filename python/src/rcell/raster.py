@@ -1,5 +1,5 @@
 # SPDX-License-Identifier: Apache-2.0 OR GPL-2.0-or-later
-"""Define Raster, a map in memory that calls accept and return."""
+"""Define Raster, the type of map that calls accept and return."""
 
 from __future__ import annotations
 
@@ -35,7 +35,7 @@ _COG = (".cog.tif", ".cog.tiff")
 
 
 class Raster:
-    """A map in memory, with the properties that an array does not store.
+    """A map in memory, with its position, reference system, labels and colours.
 
     If an array is passed to a call without a transform, its cells have size 1. `(array, transform)`
     is a short form of a Raster.
@@ -43,12 +43,13 @@ class Raster:
     Parameters
     ----------
     array : array, masked array, or nested lists of whole numbers, rows x cols
-        Any integer type, bool, or floats that are whole numbers; masked cells and NaN are null.
-    transform : rasterio's Affine, six numbers, or Region, optional
-        The position of the cells; rows from south to north are flipped. By default, cells have size
+        Any integer type, bool, or floats that are whole numbers. Masked cells and NaN are null.
+    transform : rasterio Affine, six numbers, or Region, optional
+        The position of the cells. Rows from south to north are flipped. By default, cells have size
         1, and the bottom left corner is at 0, 0.
     crs : any, optional
-        A reference system of rasterio or pyproj, or its well-known text.
+        A coordinate reference system from rasterio or pyproj, a code such as `EPSG:3035`, or
+        well-known text.
     nodata : float, optional
         The value that marks null.
     labels : path, dict, Series or DataFrame, optional
@@ -85,7 +86,7 @@ class Raster:
         self._set(array_map(name, array, transform, crs, nodata, legend.labels, given_colors), None)
 
     def _set(self, source: ArrayMap, account: Aligned | Sieved | None) -> None:
-        """Copy the attributes of a map of the core."""
+        """Set the attributes from a core map."""
         self._source = source
         self.name = source.name
         self.region = source.region
@@ -98,7 +99,7 @@ class Raster:
 
     @classmethod
     def _of(cls, source: ArrayMap, account: Aligned | Sieved | None = None) -> Raster:
-        """Convert a map of the core to a Raster, with an account of the map's creation."""
+        """Convert a core map to a Raster, with counts of aligned or sieved cells, if any."""
         raster = cls.__new__(cls)
         raster._set(source, account)
         return raster
@@ -192,9 +193,9 @@ class Raster:
         return self.region.bounds
 
     def source(self, name: str) -> ArrayMap:
-        """Return the map in the core's representation, with the given name.
+        """Return the map as the core represents it, with the given name.
 
-        Calls that accept maps use this method.
+        All calls that accept maps use this method.
 
         Parameters
         ----------
@@ -204,7 +205,7 @@ class Raster:
         Returns
         -------
         ArrayMap
-            The cells with their region.
+            The cells and their region.
 
         Examples
         --------
@@ -220,7 +221,7 @@ class Raster:
         Returns
         -------
         list of int
-            The categories, each once.
+            The categories, without duplicates.
 
         Examples
         --------
@@ -237,13 +238,13 @@ class Raster:
         Parameters
         ----------
         path : path
-            The path, which ends in `.tif` or `.tiff` for a GeoTIFF, or in `.txt` for an rcell grid,
-            which GRASS can also read. A GeoTIFF is compressed, has the smallest type with room for
-            the categories and nodata, and contains the transform, the reference system, nodata,
-            labels as category names, and colours as a colour table. An existing file is replaced.
+            The path, which must end in `.tif` or `.tiff` for a GeoTIFF, or in `.txt` for an rcell
+            grid, which GRASS can also read. A GeoTIFF is compressed, has the smallest data type for
+            the categories and nodata, and contains the transform, the reference system, labels as
+            category names, and colours as a colour table. An existing file is replaced.
         cog : bool
-            Whether to write a cloud-optimised GeoTIFF with overviews; always true if the name ends
-            in `.cog.tif`.
+            Whether to write a cloud-optimised GeoTIFF with overviews. This is the default if the
+            name ends in `.cog.tif` or `.cog.tiff`.
 
         Returns
         -------
@@ -253,13 +254,13 @@ class Raster:
         Raises
         ------
         WriteFailed
-            The file cannot be written; an old file is unchanged.
+            The file cannot be written. An existing file is unchanged.
         Refused
             The map was created from this file.
         BadArgument
             The file name extension is not supported.
         MissingLibrary
-            Rasterio is required and not installed.
+            Rasterio is required, but not installed.
 
         Examples
         --------
@@ -310,8 +311,8 @@ class Raster:
         Returns
         -------
         xarray.DataArray
-            An int32 array, y x x. Null is -2147483648, which is stored in the attribute
-            `_FillValue`.
+            An int32 array with the dimensions `y` and `x`. Null is -2147483648, which is stored in
+            the attribute `_FillValue`.
 
         Raises
         ------
@@ -334,10 +335,10 @@ class Raster:
         Parameters
         ----------
         ax : matplotlib.axes.Axes, optional
-            The axes for the map; by default, the axes of a new figure.
+            The axes to draw on. By default, a new figure is created.
         legend : bool
-            Whether to draw a legend of labels or categories next to the map; for more than 30
-            categories, a colour scale is drawn.
+            Whether to draw a legend of labels or categories next to the map. With more than 30
+            categories, a colour scale is drawn instead.
 
         Returns
         -------
@@ -418,7 +419,7 @@ class Raster:
 def _colored(array: Any, categories: list[int], colors: dict[int, str]) -> tuple[Any, Any, Any]:
     """Return the values to draw, their colour map, and their normalisation.
 
-    The values are indices of categories or, for many categories, the categories themselves.
+    The values are indices of categories or, if there are many, the categories themselves.
     """
     matplotlib = need("matplotlib", "plot", "to draw a map")
     colors_of = need("matplotlib.colors", "plot", "to draw a map")

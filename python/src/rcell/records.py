@@ -1,5 +1,5 @@
 # SPDX-License-Identifier: Apache-2.0 OR GPL-2.0-or-later
-"""Record how a table was created, and verify it later."""
+"""Record how a table was created and verify it later."""
 
 from __future__ import annotations
 
@@ -26,7 +26,7 @@ def record(
     table: Optional[str] = None,
     **named: Any,
 ) -> Any:
-    """Run a call, and write its table to a CSV with a record of its inputs.
+    """Run a call and write its table to a CSV with a record of its inputs.
 
     The record is written next to the CSV as `PATH.json`. It contains the call, each script that was
     run, the versions, and SHA-256 checksums of the cells of each map, the program and the CSV. The
@@ -43,7 +43,7 @@ def record(
         Paths are recorded relative to the CSV.
     table : str, optional
         The table to write if the call returns several tables, for example `summary` of
-        `rcell.change`; by default, the first table.
+        `rcell.change`. By default, this is the first table.
 
     Returns
     -------
@@ -55,7 +55,7 @@ def record(
     BadArgument
         The call is not from this package, or an argument cannot be recorded.
     Refused
-        See the call; also raised if the CSV is one of its input files.
+        The CSV is an input file of the call. See the call for other reasons.
     WriteFailed
         The CSV or the record cannot be written.
 
@@ -79,13 +79,13 @@ def record(
 
 
 def verify(path: str | os.PathLike[str]) -> list[str]:
-    """Run the call of a recorded table again, and return the differences.
+    """Run the call of a recorded table again and return the differences.
 
     Parameters
     ----------
     path : path
-        The CSV that `record` wrote. Its record `PATH.json`, next to it, contains the paths of
-        inputs relative to the CSV.
+        The CSV that `record` wrote, next to its record `PATH.json`. Input paths in the record are
+        relative to the CSV.
 
     Returns
     -------

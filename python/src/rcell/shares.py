@@ -67,8 +67,8 @@ class Shares:
         Parameters
         ----------
         path : path
-            The path, which must end in `.tif` or `.tiff`. The description of each band is the label
-            of its class.
+            The path, which must end in `.tif` or `.tiff`. The description of each band is its
+            class's label or number.
 
         Returns
         -------
@@ -78,11 +78,13 @@ class Shares:
         Raises
         ------
         WriteFailed
-            The file cannot be written; an old file is unchanged.
+            The file cannot be written. An existing file is unchanged.
         BadArgument
-            The file name extension is not supported, or there are no classes.
+            The file name extension is not supported.
+        BadMap
+            There are no classes, because all cells are null.
         MissingLibrary
-            Rasterio is required and not installed.
+            Rasterio is not installed.
 
         Examples
         --------
@@ -102,12 +104,9 @@ class Shares:
         return text
 
     def _write(self, path: str) -> None:
-        """Compress the file in memory and write it.
-
-        The library itself does not report a full disk.
-        """
+        """Compress the file in memory, and write it with Python, which reports a full disk."""
         if not self.classes:
-            raise BadMap("shares", "no class has a share: all cells are null")
+            raise BadMap("shares", "there are no classes: all cells are null")
         rasterio = need("rasterio", "gis", "to write a GeoTIFF")
         like, layers = self._shares.blocks, self.percent
         profile = profile_of(*like.region.shape, like.transform, like.crs, "float64", math.nan)

@@ -1,8 +1,8 @@
 # SPDX-License-Identifier: Apache-2.0 OR GPL-2.0-or-later
 """Run the command line of rcell-gis.
 
-Each command imports only the modules that it needs, so text grids are converted and explained
-without numpy.
+Each command imports only the modules that it needs. Text grids can therefore be converted, and
+scripts explained, without numpy.
 """
 
 from __future__ import annotations
@@ -42,8 +42,8 @@ __all__ = ["emit", "main", "script_of"]
 NAME = "rcell-gis"
 DESCRIPTION = "Count the cells of rasters with rcell, and write tables and maps."
 EPILOG = """\
-MAP is any raster that GDAL reads, or an rcell grid. ZONES may also be polygons: a cell belongs to
-the polygon that contains its centre. A legend is a CSV with the columns value and label, or a QGIS
+MAP is any raster that GDAL can read, or an rcell grid. ZONES may also be polygons: a cell belongs
+to the polygon that contains its centre. LEGEND is a CSV with the columns value and label, or a QGIS
 style (.qml). `rcell-gis COMMAND --help` lists the options of a command.
 Exit status: 0 success; 1 invalid input; 2 invalid command line or missing library; 3 out of memory;
 4 a file could not be read or written."""
@@ -61,21 +61,21 @@ _WITHOUT_WORK = ("convert", "explain", "report")
 _SYNOPSIS = 30  # the width of the help's first column
 BAD_INPUT, COMMAND_LINE, MEMORY, FILES, INTERRUPTED = 1, 2, 3, 4, 130
 LONGEST_NAME = 255  # the longest file name in bytes
-# The options that other tools have for the file to write.
+# Options for the output file that other tools have.
 OUT_OPTIONS = ("--out", "--output", "-o")
 OUT_IS_LAST = "name the file to write after MAP, without an option"
-RECORD_IS_AN_OPTION = "add --record and --out FILE.csv to the command that makes the table"
+RECORD_IS_AN_OPTION = "add --record and --out FILE.csv to the command that writes the table"
 
 
 class _Parser(argparse.ArgumentParser):
-    """A parser that reports errors on one line."""
+    """An argument parser that reports errors on one line."""
 
     def __init__(self, **words: Any) -> None:
         formatter = argparse.RawDescriptionHelpFormatter
         super().__init__(allow_abbrev=False, formatter_class=formatter, **words)
 
     def error(self, message: str) -> NoReturn:
-        """Print a one-line message, and exit with status 2."""
+        """Print a one-line message and exit with status 2."""
         sys.stderr.write(f"{self.prog}: {message}; see {self.prog} --help\n")
         sys.exit(COMMAND_LINE)
 
@@ -97,7 +97,7 @@ class Command(NamedTuple):
 
 
 def _pairs(words: Sequence[str]) -> dict[str, str]:
-    """Parse arguments of the form NAME=PATH, and return a dict of paths by name."""
+    """Parse arguments of the form NAME=PATH and return a dict of paths by name."""
     paths: dict[str, str] = {}
     for word in words:
         name, equals, path = word.partition("=")
@@ -115,7 +115,7 @@ def _parsed(words: list[str]) -> argparse.Namespace:
     if words and not words[0].startswith("-") and words[0] not in commands:
         close = [f"did you mean {name}?" for name in near(words[0], commands)]
         close = [RECORD_IS_AN_OPTION] if words[0] == "record" else close
-        parser.error(": ".join([f"no command {words[0]}", *close]))
+        parser.error(": ".join([f"there is no command {words[0]}", *close]))
     settings, rest = parser.parse_known_args(_joined(words))
     if settings.command is None:
         parser.error("a command is missing")
@@ -126,12 +126,12 @@ def _parsed(words: list[str]) -> argparse.Namespace:
         close = [f"did you mean {name}?" for name in near(unknown, known)]
         if unknown in OUT_OPTIONS and any(action.metavar == "OUT" for action in parser._actions):
             close = [OUT_IS_LAST]
-        parser.error(": ".join([f"{rest[0]} is not expected", *close]))
+        parser.error(": ".join([f"unexpected argument {rest[0]}", *close]))
     return settings
 
 
 def _joined(words: list[str]) -> list[str]:
-    """Join options with values like `-1,2`, which argparse would treat as options."""
+    """Join options with values such as `-1,2`, which argparse would treat as options."""
     joined: list[str] = []
     for word in words:
         if joined and re.match(r"-\d", word) and re.match(r"--\w[^=]*$", joined[-1]):
@@ -142,7 +142,7 @@ def _joined(words: list[str]) -> list[str]:
 
 
 def _line(synopsis: str, does: str) -> str:
-    """Return the help line of a command, with a long synopsis on a separate line."""
+    """Return the help text of a command, with a long synopsis on a separate line."""
     gap = f"\n  {'':<{_SYNOPSIS}}" if len(synopsis) > _SYNOPSIS else ""
     return f"  {synopsis:<{_SYNOPSIS}}{gap} {does}"
 
@@ -152,7 +152,7 @@ def _sentence(does: str) -> str:
 
 
 def _parser() -> tuple[_Parser, dict[str, _Parser]]:
-    """Create the parser of the command line, and the parsers of the commands."""
+    """Create the command line's parser, and the parser of each command."""
     lines = (_line(f"{name} {each.synopsis}", each.does) for name, each in COMMANDS.items())
     text = "\n".join([DESCRIPTION, "", *lines])
     parser = _Parser(prog=NAME, description=text, epilog=EPILOG, usage=f"{NAME} COMMAND ..")
@@ -177,13 +177,13 @@ def _parser() -> tuple[_Parser, dict[str, _Parser]]:
 
 
 def _call(words: argparse.Namespace) -> Callable[..., Any]:
-    """Return the function that a command calls, which records the call on request."""
+    """Return the function that a command calls, with recording if it is requested."""
     rcell = importlib.import_module("rcell")
     call: Callable[..., Any] = getattr(rcell, words.command).__wrapped__
     if not words.__dict__.get("record"):
         return call
     if words.format not in (None, "csv") or not (words.out or "").lower().endswith(".csv"):
-        raise Refused("--record needs --out with a name that ends in .csv", status=COMMAND_LINE)
+        raise Refused("--record requires --out with a name that ends in .csv", status=COMMAND_LINE)
     if words.command in MANY and len(words.maps) > 1:
         raise Refused(f"--record accepts one map; got {len(words.maps)}", status=COMMAND_LINE)
     make = importlib.import_module("rcell.core.record").make
@@ -250,7 +250,9 @@ def _cross(words: argparse.Namespace) -> None:
 def _change(words: argparse.Namespace) -> None:
     """Write a table of change between maps."""
     if len(words.maps) < 2:
-        raise Refused("give two maps or more, in the order of their years", status=COMMAND_LINE)
+        raise Refused(
+            "two or more maps are required, in the order of their years", status=COMMAND_LINE
+        )
     names = ["before", "after"]
     if len(words.maps) > 2:
         names = [f"map_{number}" for number in range(1, len(words.maps) + 1)]
@@ -276,7 +278,7 @@ def _sample(words: argparse.Namespace) -> None:
 
 
 def _to_map(words: argparse.Namespace) -> None:
-    """Write the map that a call returns, and print the call's account of the map, if any."""
+    """Write the map that a call returns, and print its counts of cells or patches, if any."""
     words.map_paths = {"map": words.map, **({"to": words.to} if words.command == "align" else {})}
 
     def make_maps() -> list[Any]:
@@ -294,7 +296,7 @@ def _aggregate(words: argparse.Namespace) -> None:
     """Write a coarser map and, if requested, the shares of its classes."""
     words.map_paths = {"map": words.map}
     if words.shares and not words.shares.lower().endswith((".tif", ".tiff")):
-        rule = f"{words.shares}: the name of shares must end in .tif or .tiff"
+        rule = f"{words.shares}: the name of the shares must end in .tif or .tiff"
         raise Refused(rule, status=COMMAND_LINE)
 
     def make_maps() -> list[Any]:
@@ -306,7 +308,7 @@ def _aggregate(words: argparse.Namespace) -> None:
 
 
 def _trajectories(words: argparse.Namespace) -> None:
-    """Write a table of trajectories, and the requested maps."""
+    """Write a table of trajectories and the requested maps."""
     words.map_paths = {f"map_{number}": path for number, path in enumerate(words.maps, 1)}
     paths, results = _pairs(words.outs), []
     known = importlib.import_module("rcell.core.trajectories").MAPS
@@ -345,7 +347,7 @@ def _run(words: argparse.Namespace) -> None:
 
 
 def _outputs(words: argparse.Namespace, wanted: Sequence[str] = ()) -> list[Any]:
-    """Run a script, and return the outputs, followed by the requested maps."""
+    """Run a script and return the outputs, followed by the requested maps."""
     maps = {name: _map(words, path, name) for name, path in words.map_paths.items()}
     scripts = importlib.import_module("rcell.core.scripts")
     run = scripts.Run(script_of(words.script), maps, {}, words.crs)
@@ -361,7 +363,7 @@ def _outputs(words: argparse.Namespace, wanted: Sequence[str] = ()) -> list[Any]
 def _run_each(words: argparse.Namespace) -> None:
     """Write each table and map of a script to a file in a new folder.
 
-    The folder gets its name when all files are complete.
+    The folder is given its name when all files are complete.
     """
     folder = os.path.abspath(words.each)
     if os.path.lexists(folder):
@@ -391,7 +393,7 @@ def _run_each(words: argparse.Namespace) -> None:
                     file.write(table_text(form, table.columns, table.rows))
             else:
                 write_map(output, path, ending)
-        os.mkdir(folder)  # fails if another process has created it meanwhile
+        os.mkdir(folder)  # fails if another process has created it in the meantime
         room.rename(folder)
         os.chmod(folder, 0o777 & ~_mask())
 
@@ -469,7 +471,7 @@ def _write_table(
     ending = os.path.splitext(out or "")[1].lower()
     text = table_text(words.format or ENDINGS[ending], columns, rows)
     if not rows:
-        _tell("note: the table is empty: all cells are null or left out")
+        _tell("note: the table is empty: all cells are null or excluded")
     if out is None:
         emit(text)
         return
@@ -482,7 +484,7 @@ def _write_table(
 
 @contextlib.contextmanager
 def _writing_a_table(path: Optional[str]) -> Iterator[None]:
-    """Raise Refused if the block reads the table's file, or the file has an unknown extension."""
+    """Raise Refused if the block reads the table's file, or if its extension is unknown."""
     if path is None:
         yield
         return
@@ -494,7 +496,7 @@ def _writing_a_table(path: Optional[str]) -> Iterator[None]:
 
 
 def emit(text: str) -> None:
-    """Write to standard output without buffering, so that Python does not retry at exit."""
+    """Write to standard output without a buffer, which Python would flush again at exit."""
     sys.stdout.flush()
     printable = _printable(text) if os.isatty(1) else text
     with file_errors("-"), Output("-") as output:
@@ -502,7 +504,7 @@ def emit(text: str) -> None:
 
 
 def script_of(word: str) -> str:
-    """Return a script's text from a file, from standard input, or from the argument itself."""
+    """Return the text of a script, which is a file, standard input or the argument itself."""
     if word != "-" and not os.path.exists(word) and word.startswith("r."):
         return word
     try:
@@ -532,7 +534,7 @@ _TABLE = "band crs format out record"
 COMMANDS = {
     "composition": Command(
         "MAP...",
-        "count the cells, area and percentage of each class, in total or by zone",
+        "list the cells, area and percentage of each class, in total or by zone",
         "maps",
         f"{_ZONES} each_zone labels area include_null {_TABLE}",
         _of_each,
@@ -574,21 +576,21 @@ COMMANDS = {
     ),
     "metrics": Command(
         "MAP...",
-        "compute landscape metrics of classes, patches or the full map",
+        "compute landscape metrics of classes, patches or landscapes",
         "maps",
         f"level connectivity {_ZONES} each_zone labels area {_TABLE}",
         _of_each,
     ),
     "trajectories": Command(
         "MAP MAP... --years ..",
-        "count the sequences of classes over years, and map when classes changed",
+        "count sequences of classes over years, and map when classes changed",
         "maps",
         f"years of_trajectories maps_of_years labels area {_TABLE}",
         _trajectories,
     ),
     "patches": Command(
         "MAP...",
-        "list the patches of a map: connected cells of one class",
+        "list the patches of a map: groups of connected cells of one class",
         "maps",
         f"connectivity classes min_cells core_depth summary {_ZONES} each_zone labels area "
         f"{_TABLE}",
@@ -610,7 +612,7 @@ COMMANDS = {
     ),
     "majority": Command(
         "MAP OUT",
-        "write a map with the most frequent class of the square around each cell",
+        "write a map with the most frequent class in the square around each cell",
         "map target",
         "size fill band crs",
         _to_map,
@@ -639,14 +641,14 @@ COMMANDS = {
     ),
     "within": Command(
         "MAP OUT --classes .. --distances ..",
-        "write a map of the cells within distances of classes (buffers)",
+        "write a map of the cells within given distances of classes (buffers)",
         "map target",
         "of_classes distances band crs",
         _to_map,
     ),
     "aggregate": Command(
         "MAP OUT --factor N",
-        "write a coarser map with the most frequent class of each block, and the share of each "
+        "write a coarser map with the most frequent class in each block, and the share of each "
         "class",
         "map target",
         "factor min_percent shares band crs",
@@ -654,7 +656,7 @@ COMMANDS = {
     ),
     "align": Command(
         "MAP OUT --to OTHER",
-        "write a map on the grid of another map, and count used and lost cells",
+        "write a map on the grid of another map, and count the cells used and lost",
         "map target",
         "to resample band crs format",
         _to_map,
@@ -668,28 +670,28 @@ COMMANDS = {
     ),
     "convert": Command(
         "IN OUT",
-        "convert any raster that GDAL reads to .tif, .asc, .txt (an rcell grid) or a picture",
+        "convert any raster that GDAL can read to .tif, .asc, .txt (an rcell grid) or a picture",
         "map target",
         "band like crs",
         _convert,
     ),
     "report": Command(
         "FILE.csv... --out FILE.html",
-        "write an HTML page with recorded tables, pictures of their maps, and verify commands",
+        "write an HTML page of recorded tables, with pictures of maps and commands to verify them",
         "tables",
         "page title",
         _report,
     ),
     "verify": Command(
         "FILE.csv...",
-        "run the recorded calls of tables again, and print the differences",
+        "repeat the calls of recorded tables, and print the differences",
         "tables",
         "",
         _verify,
     ),
     "explain": Command(
         "SCRIPT NAME=GRID...",
-        "run rcell; if it fails, mark the place in the line and propose a correction",
+        "run rcell; if it fails, mark the error in its line and suggest a correction",
         "script named",
         "",
         _explain,
@@ -701,7 +703,7 @@ COMMANDS = {
 
 
 def main(words: Optional[Sequence[str]] = None) -> int:
-    """Run a command line, and return the exit status.
+    """Run a command line and return the exit status.
 
     Examples
     --------
@@ -726,7 +728,7 @@ def main(words: Optional[Sequence[str]] = None) -> int:
 def _end_on_interrupt(*_: Any) -> None:
     """Exit immediately if there is nothing to clean up, otherwise raise KeyboardInterrupt.
 
-    Libraries turn an interrupt during their import into other errors.
+    Some libraries turn an interrupt during their import into another error.
     """
     if not has_work():
         os._exit(INTERRUPTED)
@@ -780,7 +782,7 @@ def _working(settings: argparse.Namespace) -> contextlib.AbstractContextManager[
 
 
 def _run_command(settings: argparse.Namespace) -> int:
-    """Run a command or, with `--dry-run`, print the command's plan."""
+    """Run a command or, with `--dry-run`, print its plan."""
     if not settings.__dict__.get("dry_run"):
         return settings.run(settings) or 0
     dry_run = importlib.import_module("rcell.core.tiling").DryRun
@@ -802,7 +804,7 @@ def _tell(text: str) -> None:
 
 
 def _printable(text: str) -> str:
-    """Escape control characters that a terminal would interpret."""
+    """Escape the control characters that a terminal would interpret."""
     return re.sub(r"[\0-\x08\x0b-\x1f\x7f-\x9f]", lambda match: f"\\x{ord(match[0]):02x}", text)
 
 

@@ -1,5 +1,5 @@
 # SPDX-License-Identifier: Apache-2.0 OR GPL-2.0-or-later
-"""Write the maps of `rcell-gis`, either all of them or none."""
+"""Write the maps of an `rcell-gis` command, either all of them or none."""
 
 from __future__ import annotations
 
@@ -21,12 +21,13 @@ _COMMAND_LINE = 2
 def write_maps(targets: Sequence[str], make: Callable[[], list[Any]]) -> None:
     """Write either all maps or none.
 
-    Raises Refused if a file is an input or has an unknown format."""
+    Raises Refused if a target is an input file or has an unknown format.
+    """
     for path in targets:
         if not path.lower().endswith(MAPS):
             rule = (
                 f"{path}: the name of a map must end in .tif, .tiff, .txt, .asc, "
-                f"{', '.join(PICTURES)}"
+                f"{', '.join(PICTURES[:-1])} or {PICTURES[-1]}"
             )
             raise Refused(rule, status=_COMMAND_LINE)
     with writing(*targets):
@@ -50,7 +51,7 @@ def map_ending(path: str) -> str:
 def write_map(raster: Any, path: str, ending: str) -> None:
     """Write a map in the format of `ending`.
 
-    `path` may have another ending, because links have been resolved.
+    `path` may end differently, because links have been resolved.
     """
     if ending in (".txt", ".asc"):
         converting = importlib.import_module("rcell.core.converting")

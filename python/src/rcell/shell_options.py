@@ -1,5 +1,5 @@
 # SPDX-License-Identifier: Apache-2.0 OR GPL-2.0-or-later
-"""Define the options of `rcell-gis`, by the names of their values."""
+"""Define the options of `rcell-gis`."""
 
 from __future__ import annotations
 
@@ -10,30 +10,30 @@ __all__ = ["NOTES", "OPTIONS"]
 
 FORMATS = ("csv", "tsv", "markdown", "json")
 
-# Texts that follow the options in the help of a command.
+# Notes that follow the options in a command's help.
 NOTES = {
     "accuracy": """\
---areas map adds each class's mapped_ha, the area on the map, area_ha, its estimate from the sample,
-and area_se_ha, the standard error of the estimate (Olofsson et al. 2014). A sample that was drawn
-class by class, for example with `sample`, requires --areas. Without it, only the user's accuracies
-and their errors are correct. --table summary contains the overall accuracy.""",
+--areas map adds three columns: mapped_ha, the area on the map; area_ha, the estimate from the
+sample; and area_se_ha, the standard error of the estimate (Olofsson et al. 2014). A sample that was
+drawn class by class, for example with `sample`, requires --areas. Without it, only the user's
+accuracies and their standard errors are correct. --table summary contains the overall
+accuracy.""",
     "metrics": """\
-The columns by class are cells, area_ha, percent, patches, patches_km2, largest_patch_percent,
+The columns for classes are cells, area_ha, percent, patches, patches_km2, largest_patch_percent,
 mean_patch_ha, area_weighted_mean_patch_ha, effective_mesh_ha, edge_m, edge_density_m_ha,
-mean_shape_index, aggregation_index, cohesion and interspersion_index. The landscape consists of all
-cells of the map or zone that are not null. Borders of zones and sides next to null are not
-edges.""",
+mean_shape_index, aggregation_index, cohesion and interspersion_index. A landscape consists of all
+non-null cells of the map or zone. Zone borders and cell sides next to null cells are not edges.""",
     "sieve": """\
 The smallest patch is merged first, into the neighbour with the longest common border. In a tie, the
 neighbour whose first cell comes first is used. patches_below counts the remaining small patches,
 which touch no other class.""",
     "verify": """\
 To let others verify a table, give them FILE.csv, FILE.csv.json and the files that the record names.
-Their paths are relative to FILE.csv.""",
+Paths in the record are relative to FILE.csv.""",
     "within": """\
 OUT is 0 in the classes, 1 up to the first distance, 2 from there up to the second distance, and
-null beyond the last. Rings also cover cells that are null in MAP. Distances are between cell
-centres. `composition MAP --zones OUT` lists the classes in each ring.""",
+null beyond the last. Rings also cover cells that are null in MAP. Distances are measured between
+cell centres. `composition MAP --zones OUT` lists the classes in each ring.""",
 }
 
 
@@ -41,7 +41,7 @@ def _wholes(text: str) -> list[int]:
     try:
         return [int(word) for word in text.split(",")]
     except ValueError:
-        rule = f"give whole numbers with commas between them, for example 31,32; got {text}"
+        rule = f"must be comma-separated whole numbers, for example 31,32; got {text}"
         raise argparse.ArgumentTypeError(rule) from None
 
 
@@ -49,7 +49,7 @@ def _distances(text: str) -> list[float]:
     try:
         return [float(word) for word in text.split(",")]
     except ValueError:
-        rule = f"give numbers with commas between them, for example 100,500; got {text}"
+        rule = f"must be comma-separated numbers, for example 100,500; got {text}"
         raise argparse.ArgumentTypeError(rule) from None
 
 
@@ -57,21 +57,22 @@ def _shares(text: str) -> list[float]:
     try:
         return [float(word) for word in text.split(",")]
     except ValueError:
-        rule = (
-            f"give numbers from 0 to 1 with commas between them, for example 0.25,0.5; got {text}"
-        )
+        rule = f"must be comma-separated numbers from 0 to 1, for example 0.25,0.5; got {text}"
         raise argparse.ArgumentTypeError(rule) from None
 
 
 OPTIONS: dict[str, tuple[str, dict[str, Any]]] = {
-    "map": ("map", {"metavar": "MAP", "help": "a raster that GDAL reads, or an rcell grid"}),
-    "maps": ("maps", {"metavar": "MAP", "nargs": "+", "help": "rasters that GDAL reads, or grids"}),
+    "map": ("map", {"metavar": "MAP", "help": "a raster that GDAL can read, or an rcell grid"}),
+    "maps": (
+        "maps",
+        {"metavar": "MAP", "nargs": "+", "help": "rasters that GDAL can read, or rcell grids"},
+    ),
     "named": (
         "maps",
         {
             "metavar": "NAME=MAP",
             "nargs": "+",
-            "help": "maps, with their names in the table or script",
+            "help": "maps, each with its name in the table or script",
         },
     ),
     "target": (
@@ -80,7 +81,10 @@ OPTIONS: dict[str, tuple[str, dict[str, Any]]] = {
     ),
     "script": (
         "script",
-        {"metavar": "SCRIPT", "help": 'a file, `-`, or a line, for example "r.stats -c input=lc"'},
+        {
+            "metavar": "SCRIPT",
+            "help": 'a file, `-` for standard input, or a line such as "r.stats -c input=lc"',
+        },
     ),
     "reference": (
         "reference",
@@ -98,16 +102,19 @@ OPTIONS: dict[str, tuple[str, dict[str, Any]]] = {
     "zone_labels": ("--zone-labels", {"metavar": "LEGEND", "help": "the labels of the zones"}),
     "layer": (
         "--layer",
-        {"metavar": "NAME", "help": "the layer of polygons, if there are several"},
+        {"metavar": "NAME", "help": "the layer to read, if the vector file has several"},
     ),
     "each_zone": (
         "--each",
         {
             "action": "store_true",
-            "help": "process polygons one after another, because they overlap",
+            "help": "process overlapping polygons separately",
         },
     ),
-    "band": ("--band", {"type": int, "metavar": "N", "help": "the band, if there are several"}),
+    "band": (
+        "--band",
+        {"type": int, "metavar": "N", "help": "the band to read, if the raster has several"},
+    ),
     "labels": ("--labels", {"metavar": "LEGEND", "help": "the labels of the classes"}),
     "legends": (
         "--labels",
@@ -129,15 +136,19 @@ OPTIONS: dict[str, tuple[str, dict[str, Any]]] = {
     ),
     "connectivity": (
         "--connectivity",
-        {"type": int, "choices": [4, 8], "help": "4: by edges (default); 8: also by corners"},
+        {
+            "type": int,
+            "choices": [4, 8],
+            "help": "how cells connect: 4 by edges (default), 8 also by corners",
+        },
     ),
     "classes": (
         "--classes",
-        {"type": _wholes, "metavar": "CLASS,..", "help": "list only patches of these classes"},
+        {"type": _wholes, "metavar": "CLASS,..", "help": "select only patches of these classes"},
     ),
     "min_cells": (
         "--min-cells",
-        {"type": int, "metavar": "N", "help": "list only patches with at least N cells"},
+        {"type": int, "metavar": "N", "help": "select only patches with at least N cells"},
     ),
     "of_classes": (
         "--classes",
@@ -154,16 +165,16 @@ OPTIONS: dict[str, tuple[str, dict[str, Any]]] = {
             "type": _distances,
             "required": True,
             "metavar": "METRES,..",
-            "help": "the distances in metres, ascending",
+            "help": "the distances in metres, in ascending order",
         },
     ),
     "smallest": (
         "--min-cells",
-        {"type": int, "metavar": "N", "help": "the smallest number of cells in a patch"},
+        {"type": int, "metavar": "N", "help": "the minimum number of cells in a patch"},
     ),
     "min_ha": (
         "--min-ha",
-        {"type": float, "metavar": "HA", "help": "the smallest area of a patch in hectares"},
+        {"type": float, "metavar": "HA", "help": "the minimum area of a patch in hectares"},
     ),
     "drop": ("--drop", {"action": "store_true", "help": "set small patches to null"}),
     "summary": (
@@ -184,19 +195,22 @@ OPTIONS: dict[str, tuple[str, dict[str, Any]]] = {
         {
             "type": float,
             "metavar": "P",
-            "help": "the percentage of a block's cells that must not be null",
+            "help": "the minimum percentage of a block's cells that must not be null",
         },
     ),
     "shares": (
         "--shares",
-        {"metavar": "FILE", "help": "a GeoTIFF with a band of percentages for each class"},
+        {
+            "metavar": "FILE",
+            "help": "also write a GeoTIFF with a band of percentages for each class",
+        },
     ),
     "of_trajectories": (
         "--table",
         {
             "choices": ["table", "changes", "intervals"],
             "default": "table",
-            "help": "a row for each sequence of classes, number of changes, or interval",
+            "help": "one row per sequence of classes, per number of changes, or per interval",
         },
     ),
     "maps_of_years": (
@@ -206,7 +220,7 @@ OPTIONS: dict[str, tuple[str, dict[str, Any]]] = {
             "metavar": "NAME=FILE",
             "action": "append",
             "default": [],
-            "help": "changes, first_change or last_change, and the file for this map",
+            "help": "write a map (changes, first_change or last_change) to a file; may be repeated",
         },
     ),
     "core_depth": (
@@ -223,7 +237,7 @@ OPTIONS: dict[str, tuple[str, dict[str, Any]]] = {
         {
             "choices": ["table", "matrix", "summary"],
             "default": "table",
-            "help": "a row for each change, a matrix, or gains and losses by class",
+            "help": "one row per change, a matrix, or gains and losses by class",
         },
     ),
     "areas": (
@@ -231,8 +245,8 @@ OPTIONS: dict[str, tuple[str, dict[str, Any]]] = {
         {
             "metavar": "AREAS",
             "help": (
-                "class areas for a sample by class: map, or a CSV with the columns value "
-                "and area"
+                "the class areas, if the sample was drawn class by class: map, or a CSV with the "
+                "columns value and area"
             ),
         },
     ),
@@ -241,7 +255,7 @@ OPTIONS: dict[str, tuple[str, dict[str, Any]]] = {
         {
             "required": True,
             "metavar": "N",
-            "help": "the cells in total, or of each class, for example 11:50,31:100",
+            "help": "the number of cells in total or by class, for example 500 or 11:50,31:100",
         },
     ),
     "seed": (
@@ -249,7 +263,7 @@ OPTIONS: dict[str, tuple[str, dict[str, Any]]] = {
         {
             "required": True,
             "metavar": "SEED",
-            "help": "a number or a text that determines the draw",
+            "help": "a number or string that determines the draw",
         },
     ),
     "allocation": (
@@ -263,7 +277,7 @@ OPTIONS: dict[str, tuple[str, dict[str, Any]]] = {
         "--level",
         {
             "choices": ["class", "landscape", "patch"],
-            "help": "the objects to measure; default: class",
+            "help": "what to measure; default: class",
         },
     ),
     "field": ("--field", {"metavar": "FIELD", "help": "the field with the class of each point"}),
@@ -272,7 +286,7 @@ OPTIONS: dict[str, tuple[str, dict[str, Any]]] = {
         {
             "choices": ["classes", "matrix", "summary"],
             "default": "classes",
-            "help": "a row for each class, the confusion matrix, or one row for all classes",
+            "help": "one row per class, the confusion matrix, or one row for all classes",
         },
     ),
     "quantiles": (
@@ -281,11 +295,19 @@ OPTIONS: dict[str, tuple[str, dict[str, Any]]] = {
     ),
     "scale": (
         "--scale",
-        {"type": int, "metavar": "N", "help": "round decimals to 1/N, for example 100"},
+        {
+            "type": int,
+            "metavar": "N",
+            "help": "round decimals to multiples of 1/N, for example N = 100",
+        },
     ),
     "size": (
         "--size",
-        {"type": int, "metavar": "N", "help": "the side of the square in cells: odd, 3 to 15"},
+        {
+            "type": int,
+            "metavar": "N",
+            "help": "the side of the square in cells, odd, from 3 to 15; default: 3",
+        },
     ),
     "fill": ("--fill", {"action": "store_true", "help": "also give null cells a class"}),
     "rules": (
@@ -296,12 +318,12 @@ OPTIONS: dict[str, tuple[str, dict[str, Any]]] = {
         "--other",
         {"choices": ["keep", "null"], "help": "keep classes without a rule, or set them to null"},
     ),
-    "to": ("--to", {"required": True, "metavar": "OTHER", "help": "the map with the new grid"}),
+    "to": ("--to", {"required": True, "metavar": "OTHER", "help": "the map whose grid is used"}),
     "resample": (
         "--resample",
         {
             "choices": ["nearest"],
-            "help": "use the nearest cell if the grids are less than one cell apart",
+            "help": "use the nearest cells if the grids do not match by whole cells",
         },
     ),
     "like": (
@@ -318,11 +340,17 @@ OPTIONS: dict[str, tuple[str, dict[str, Any]]] = {
     ),
     "resume": (
         "--resume",
-        {"metavar": "DIR", "help": "keep the results of finished tiles there, and reuse them"},
+        {
+            "metavar": "DIR",
+            "help": "keep the results of finished tiles in this folder, and reuse them",
+        },
     ),
     "dry_run": (
         "--dry-run",
-        {"action": "store_true", "help": "print the plan (tiles, memory, reading) and run nothing"},
+        {
+            "action": "store_true",
+            "help": "print the plan (tiles, memory, reads) without running it",
+        },
     ),
     "outs": (
         "--out",
@@ -331,7 +359,7 @@ OPTIONS: dict[str, tuple[str, dict[str, Any]]] = {
             "metavar": "NAME=FILE",
             "action": "append",
             "default": [],
-            "help": "a map and its file; may be repeated",
+            "help": "write a map of the script to a file; may be repeated",
         },
     ),
     "each": (
@@ -347,7 +375,10 @@ OPTIONS: dict[str, tuple[str, dict[str, Any]]] = {
     ),
     "format": (
         "--format",
-        {"choices": FORMATS, "help": "default: from the ending of the file, or csv"},
+        {
+            "choices": FORMATS,
+            "help": "the table format; default: from the file name extension, or csv",
+        },
     ),
     "out": ("--out", {"metavar": "FILE", "help": "write to a file instead of standard output"}),
 }

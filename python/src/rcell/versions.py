@@ -1,5 +1,5 @@
 # SPDX-License-Identifier: Apache-2.0 OR GPL-2.0-or-later
-"""Show the versions of everything on which a run depends."""
+"""Show the versions of the programs and libraries that runs depend on."""
 
 from __future__ import annotations
 
@@ -27,7 +27,7 @@ _LIBRARIES = (
 
 
 def show_versions() -> None:
-    """Print the versions of the package, Python and the libraries, and the programs' paths.
+    """Print the versions of the package, Python and libraries, and the paths of the programs.
 
     Examples
     --------

@@ -1,7 +1,7 @@
 # SPDX-License-Identifier: Apache-2.0 OR GPL-2.0-or-later
-"""Add the accessor `.rcell` to the DataArrays and Datasets of xarray.
+"""Add the accessor `.rcell` to xarray's DataArrays and Datasets.
 
-A DataArray's name, or `map` for a DataArray without a name, is the name of the map. The variables
+A DataArray is a map with the array's name, or `map` if the array has no usable name. The variables
 of a Dataset are maps. Dask arrays are computed window by window with the current client. Maps
 computed from Dask arrays stay in Dask. With `compute=False`, tables also stay in Dask.
 """
@@ -38,7 +38,7 @@ _NAME = re.compile(r"[A-Za-z_][A-Za-z0-9_.]{0,63}")
 
 
 def _work_of(named: dict[str, Any]) -> dict[str, Any]:
-    """Remove and return the keywords for processing large maps, which are not names of maps."""
+    """Remove and return the keywords that control processing and are not names of maps."""
     return {word: named.pop(word) for word in ("workers", "resume", "compute") if word in named}
 
 
@@ -77,7 +77,7 @@ class Accessor:
         crs: Any = None,
         **more: MapLike,
     ) -> pandas.DataFrame:
-        """Run a script with one r.stats and return its table; see `rcell.table`.
+        """Run a script that contains one r.stats, and return the table; see `rcell.table`.
 
         Parameters
         ----------
@@ -87,9 +87,9 @@ class Accessor:
         percent : bool
             Add a column of percentages.
         crs : any, optional
-            The coordinate reference system to assume for maps that have none.
+            The coordinate reference system to assume for maps that do not have one.
         **more : DataArray or path
-            Further maps by name; also `workers` and `resume`, as in `rcell.table`.
+            Further maps by name; also `workers`, `resume` and `compute`, as in `rcell.table`.
 
         Returns
         -------
@@ -111,24 +111,23 @@ class Accessor:
         return frames.table(script, maps, area=area, percent=percent, crs=crs, **work)
 
     def grid(self, script: str, *, crs: Any = None, **more: MapLike) -> Any:
-        """Evaluate an expression and return its map.
+        """Evaluate an expression and return the resulting map.
 
         Parameters
         ----------
         script : str
-            An assignment `NAME = EXPRESSION`, or r.mapcalc and r.reclass statements, of which the
-            last one creates the map.
+            An assignment `NAME = EXPRESSION`, or a script whose last statement creates the map.
         crs : any, optional
-            The coordinate reference system to assume for maps that have none.
+            The coordinate reference system to assume for maps that do not have one.
         **more : DataArray or path
-            Further maps by name; also `workers` and `resume`, as in `rcell.grid`.
+            Further maps by name; also `workers`, `resume` and `compute`, as in `rcell.grid`.
 
         Returns
         -------
         DataArray
             An int32 array with the dimensions and coordinates of the first map. Null is
             -2147483648, which is stored in the attribute `_FillValue`. If all maps are Dask arrays,
-            the result is a Dask array with the chunks of the first map, unless `compute` is True.
+            the result is a Dask array with the first map's chunks, unless `compute` is True.
 
         Examples
         --------
@@ -143,13 +142,13 @@ class Accessor:
         text = script if is_script else f"r.mapcalc {script.strip()}"
         plan = planned(text, maps)
         if not plan or not plan[-1].made:
-            raise BadArgument("script", f"must make a map in its last line; got {script!r}")
+            raise BadArgument("script", f"must create a map in its last statement; got {script!r}")
         return self._made(frames.grid, text, plan[-1].made, maps, maps=maps, crs=crs, **work)
 
     def _made(
         self, call: Any, *words: Any, maps: Any = None, is_local: bool = True, **options: Any
     ) -> Any:
-        """Return a call's map as a DataArray, in Dask if all input maps are Dask arrays."""
+        """Return a call's map as a DataArray, which stays in Dask if all input maps are in Dask."""
         all_maps = (self._maps if maps is None else maps).values()
         work = {word for word in ("workers", "resume") if options.get(word) is not None}
         stays = is_local and not work and all(map(is_lazy, all_maps))
@@ -161,8 +160,8 @@ class Accessor:
         names = list(self._maps)
         if len(names) != 1:
             first = names[0] if names else "name"
-            problem = f"{len(names)} maps ({', '.join(names)}), but one is needed"
-            raise BadMap("dataset", f"{problem}: select it, for example dataset[{first!r}]")
+            problem = f"must have one map; got {len(names)} ({', '.join(names)})"
+            raise BadMap("dataset", f"{problem}: select one, for example dataset[{first!r}]")
         return self._maps[names[0]]
 
     def _like(self, raster: Raster) -> Any:
@@ -205,7 +204,7 @@ def _with_account(accessor: Accessor, raster: Raster) -> Any:
 
 
 class _Method(NamedTuple):
-    """The settings of a method: its maps, the conversion of its result, and an example."""
+    """The settings of a method: its maps, the conversion of the result, and an example."""
 
     example: str
     result: str
@@ -321,7 +320,7 @@ def _method_of(name: str, how: _Method) -> Callable[..., Any]:
 
 
 def _doc_of(name: str, how: _Method, doc: str, first: str) -> str:
-    """Convert the docstring of a call to the docstring of a method, without the first map."""
+    """Convert a call's docstring to a method's docstring, without the first map's parameter."""
     head, *rest = _SECTION.split(doc)
     sections = dict(zip(rest[::2], rest[1::2]))
     section = re.sub(

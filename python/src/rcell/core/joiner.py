@@ -62,7 +62,8 @@ def _probe(path: str) -> None:
         is_known = ended[:2] == (0, b"1 1 2 1\n")
     except TimeoutError:
         raise WrongProgram(
-            f"{path} did not end within {PROBE_SECONDS} seconds: it is not the program rcell-join"
+            f"{path} did not end a test run within {PROBE_SECONDS} seconds: check that it is "
+            "rcell-join"
         ) from None
     if not is_known:
         raise WrongProgram(f"{path} is not a supported version of the program rcell-join")

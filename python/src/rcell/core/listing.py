@@ -80,7 +80,7 @@ def printed_grid(
     seconds: Optional[float] = None,
     watch: Optional[Callable[[], None]] = None,
 ) -> Iterator[PrintedGrid]:
-    """Print a text grid with rcell, and yield the printed grid.
+    """Print a text grid with rcell and yield the printed grid.
 
     The parameters and errors are the same as for `printing.printed`.
     """

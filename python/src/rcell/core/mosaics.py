@@ -41,7 +41,7 @@ def open_pattern(name: str, pattern: str) -> Source:
     """Open the files that match a pattern as one map, in alphabetical order."""
     paths = sorted(glob.glob(pattern, recursive=True))
     if not paths:
-        raise ReadFailed(name, f"cannot open: {pattern}: no file matches it")
+        raise ReadFailed(name, f"cannot open: {pattern}: no file matches this pattern")
     return open_files(name, paths)
 
 
@@ -111,7 +111,7 @@ def _shift_of(name: str, first: Any, source: Any) -> tuple[int, int]:
         other = Shift.between(source.transform, first.transform, first.region.shape)
         raise OtherRegion(name, f"{both} differ: {other.misfit(first.name)}")
     for what, its, own in (
-        ("type of cells", source.dtype, first.dtype),
+        ("data type", source.dtype, first.dtype),
         ("nodata value", source.nodata, first.nodata),
     ):
         if its != own:
@@ -141,10 +141,10 @@ def _warn_of_overlaps(mosaic: MosaicMap) -> None:
     pairs = mosaic.overlaps
     if pairs:
         later, earlier = (mosaic.parts[index].source.name for index in pairs[0])
-        more = f", and {len(pairs) - 1:,} more pairs of files" if len(pairs) > 1 else ""
+        more = f", and so do {len(pairs) - 1:,} more pairs of files" if len(pairs) > 1 else ""
         warn(
-            f"{mosaic.name}: {earlier} and {later} overlap{more}: the later file has the cells, "
-            "unless they are null there"
+            f"{mosaic.name}: {earlier} and {later} overlap{more}: the later file's cells are used "
+            "unless they are null"
         )
 
 

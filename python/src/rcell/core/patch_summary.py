@@ -85,7 +85,7 @@ class _Summary:
         self._complete: dict[int, dict[int, Numbers]] = {}
 
     def add(self, tile: int, table: Integers, waiting: Integers) -> None:
-        """Add a tile's table, and set aside the patches that may continue in other tiles.
+        """Add a tile's table and set aside the patches that may continue in other tiles.
 
         The table's columns are class, patch, row (only in degrees) and cells. `waiting` lists the
         numbers of these patches.

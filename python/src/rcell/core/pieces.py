@@ -151,15 +151,13 @@ def check_files_are(states: Mapping[str, State]) -> None:
         if own is None:
             raise ReadFailed(path, "cannot open: No such file")
         if own != state:
-            difference = f"{_state_text(own)} here, but {_state_text(state)} there"
-            raise ReadFailed(
-                path, f"differs from the file on the machine of the call: {difference}"
-            )
+            difference = f"{_state_text(own)} here, and {_state_text(state)} there"
+            raise ReadFailed(path, f"differs from the file on the caller's machine: {difference}")
 
 
 def _state_text(state: State) -> str:
     size, changed = state
-    return f"{size:,} bytes of {_time(changed)}"
+    return f"{size:,} bytes, modified {_time(changed)}"
 
 
 def _time(nanoseconds: int) -> str:

@@ -1,5 +1,5 @@
 # SPDX-License-Identifier: Apache-2.0 OR GPL-2.0-or-later
-"""Find the map cells that contain a layer's points, and read the class of each point."""
+"""Find the map cells that contain a layer's points and read the class of each point."""
 
 from __future__ import annotations
 
@@ -147,12 +147,18 @@ def _points(layer: Layer, field: str) -> Iterator[Optional[tuple[float, float, i
             yield None
             continue
         if feature.kind not in _KINDS:
-            raise BadMap(layer.name, f"not points: feature {feature.id} is a {feature.kind}")
+            raise BadMap(
+                layer.name, f"features must be points, but feature {feature.id} is a {feature.kind}"
+            )
         west, south, east, north = layer.bounds(feature.geometry)
         if (west, south) != (east, north):
-            raise BadMap(layer.name, f"not points: feature {feature.id} has several points")
+            raise BadMap(
+                layer.name, f"features must be single points, but feature {feature.id} has several"
+            )
         code = whole_number(value)
         if code is None or abs(code) > MAX_CATEGORY:
-            problem = f"the class of feature {feature.id} is {value!r}, which is not a whole number"
+            problem = (
+                f"classes must be whole numbers, but the class of feature {feature.id} is {value!r}"
+            )
             raise BadMap(layer.name, problem)
         yield west, south, code

@@ -38,7 +38,7 @@ def is_text_grid(start: bytes) -> bool:
 
 @contextlib.contextmanager
 def spooled(pieces: Iterable[bytes]) -> Iterator[str]:
-    """Write text to a temporary file, and yield the file's path until the block ends.
+    """Write text to a temporary file and yield the file's path until the block ends.
 
     The file is needed because the programs accept only paths.
 
@@ -66,7 +66,7 @@ def printed(
     seconds: Optional[float] = None,
     watch: Optional[Callable[[], None]] = None,
 ) -> Iterator[Iterator[bytes]]:
-    """Print a text grid with rcell, and yield an iterator over the pieces of the output.
+    """Print a text grid with rcell and yield an iterator over the pieces of the output.
 
     The output is complete only if no error is raised.
 

@@ -211,7 +211,7 @@ class Started:
         return filled
 
     def _has_output(self) -> bool:
-        """Wait for standard output, and return False once both streams have ended.
+        """Wait for standard output and return False once both streams have ended.
 
         Standard error is collected for the program's message.
         """
@@ -247,7 +247,7 @@ class Started:
         return left
 
     def end(self) -> tuple[int, bytes]:
-        """Wait until the program ends, and return its exit status and message."""
+        """Wait until the program ends and return its exit status and message."""
         try:
             return self._process.wait(self._seconds_left()), self._message
         except subprocess.TimeoutExpired:

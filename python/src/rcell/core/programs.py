@@ -87,11 +87,8 @@ def find_beside(
         is_beside = "RCELL" in os.environ and os.path.isfile(beside)
         path = beside if is_beside else next(candidates(name), "")
     if not path:
-        places = (
-            f"neither in the environment variable {variable}, nor next to this Python, nor on "
-            "the path"
-        )
-        raise MissingProgram(f"the program {name} was not found: {places}")
+        cure = f"install it, or set the environment variable {variable} to its path"
+        raise MissingProgram(f"the program {name} was not found next to Python or on PATH: {cure}")
     return known_after(probe, os.path.abspath(path))
 
 
@@ -112,7 +109,7 @@ def known_after(probe: Callable[[str], None], path: str) -> str:
 
 _UNKNOWN = "{} is not a supported version of the program {}"
 _NOT_STARTED = "the program {} cannot be executed: {}"
-_ENDLESS = "{} did not end within {} seconds: it is not the program {}"
+_ENDLESS = "{} did not end a test run within {} seconds: check that it is {}"
 _PROBE_GRID = b"north: 1\nsouth: 0\neast: 3\nwest: 0\nrows: 1\ncols: 3\nnull: ***\n007 *** 012 "
 _PRINTED = b"north: 1\nsouth: 0\neast: 3\nwest: 0\nrows: 1\ncols: 3\n7 * 12\n"
 

@@ -501,7 +501,7 @@ class _Response:
         )
 
     def frames(self) -> tuple[list[_AnyFrame], Rejected]:
-        """Read the complete response, and return the frames and the final status."""
+        """Read the complete response and return the frames and the final status."""
         frames: list[_AnyFrame] = []
         kinds: dict[bytes, Callable[[], _AnyFrame]] = {
             b"TABL": self.table,
@@ -529,7 +529,7 @@ def run(
     seconds: Optional[float] = None,
     watch: Optional[Callable[[], None]] = None,
 ) -> list[Frame]:
-    """Run a script over maps, and return the frames of its outputs and questions.
+    """Run a script over maps and return the frames of its outputs and questions.
 
     The outputs' frames come first, in the order of the script, followed by the questions' frames.
 
@@ -576,7 +576,7 @@ def text(
     seconds: Optional[float] = None,
     watch: Optional[Callable[[], None]] = None,
 ) -> Iterator[bytes]:
-    """Run a script over maps, and yield piece by piece the text that rcell would print.
+    """Run a script over maps and yield, piece by piece, the text that rcell would print.
 
     The text is complete only if no error is raised. The parameters and errors are the same as for
     `run`.
@@ -657,7 +657,7 @@ def _answered(
     seconds: Optional[float],
     watch: Optional[Callable[[], None]],
 ) -> list[_AnyFrame]:
-    """Send a request to the program, and return the frames of the response."""
+    """Send a request to the program and return the frames of the response."""
     with asked([program], sent, seconds, watch) as process:
         return _check(_response(process.pieces(), process.fill), *process.end())
 

@@ -129,7 +129,7 @@ def _check_all(entries: list[list[int]], listed: Sequence[Rule]) -> None:
             lost.append(old)
     if lost:
         problem = f"no rule for the class{'es' if len(lost) > 1 else ''} {first_of(lost)}"
-        cure = f"add rules, or {option('other', 'keep')} or {option('other', 'null')}"
+        cure = f"add rules, or use {option('other', 'keep')} or {option('other', 'null')}"
         raise Refused(f"{problem}: {cure}", "map")
 
 
@@ -142,7 +142,9 @@ def _rules_of(crosswalk: Any) -> Iterator[Rule]:
         for value, new in crosswalk.items():
             yield _rule("", value, new, "")
     else:
-        raise BadArgument("rules", f"must be a dict, a DataFrame or a CSV; got {crosswalk!r}")
+        raise BadArgument(
+            "rules", f"must be a dict, a DataFrame or the path of a CSV; got {crosswalk!r}"
+        )
 
 
 def _rule(place: str, value: Any, new: Any, label: Any) -> Rule:
@@ -153,7 +155,7 @@ def _rule(place: str, value: Any, new: Any, label: Any) -> Rule:
         low, high = match.groups()
     first, last = _class_of(place, low), _class_of(place, high)
     if last < first:
-        raise BadArgument("rules", f"{place}{first}-{last} is not a range of classes")
+        raise BadArgument("rules", f"{place}{first}-{last} is not an ascending range")
     is_null = is_missing(new) or (isinstance(new, str) and not new.strip())
     text = "" if is_missing(label) else str(label).strip()
     return Rule(first, last, None if is_null else _class_of(place, new), text)
@@ -162,5 +164,5 @@ def _rule(place: str, value: Any, new: Any, label: Any) -> Rule:
 def _class_of(place: str, value: Any) -> int:
     code = whole_number(value)
     if code is None or abs(code) > MAX_CATEGORY:
-        raise BadArgument("rules", f"{place}{value!r} is not a class")
+        raise BadArgument("rules", f"{place}{value!r} is not a valid class")
     return code

@@ -111,7 +111,7 @@ def make(
     named: Mapping[str, Any],
     part: Optional[str] = None,
 ) -> RecordedCall:
-    """Run a call, and record it for a table that will be written to `path`.
+    """Run a call and record it for a table that will be written to `path`.
 
     Raises
     ------
@@ -149,7 +149,7 @@ def _is_default(known: Optional[inspect.Parameter], argument: Any) -> bool:
 def _recorded(
     recorded_call: Mapping[str, Any], call: Callable[..., Any], folder: str
 ) -> RecordedCall:
-    """Run a call, and record its scripts and maps."""
+    """Run a call and record its scripts and maps."""
     before, runs = host().started, []
 
     def started(script: str, maps: Mapping[str, Source]) -> None:
@@ -244,12 +244,10 @@ def _is_record(record: Any) -> bool:
 
 
 def differences(path: str, version: str) -> Iterator[str]:
-    """Repeat a recorded call, and yield a line for each difference from the record."""
+    """Repeat a recorded call and yield a line for each difference from the record."""
     record, folder = read_record(path), os.path.dirname(os.path.abspath(path))
     if is_of_r(record):
-        text = (
-            f'{path} was recorded by the package for R: verify it there with rcell_verify("{path}")'
-        )
+        text = f'{path} was recorded with the R package: verify it in R with rcell_verify("{path}")'
         raise Refused(text, "record")
     call, table = call_named(record["call"]["name"]), _bytes_of(path)
     if _sum(table) != record["table"]["sha256"]:
@@ -257,8 +255,8 @@ def differences(path: str, version: str) -> Iterator[str]:
     yield from _other_texts([record["call"]["words"], record["call"]["named"]], folder)
     if _sum_of_program() != record["program"]:
         yield (
-            f"the program differs: it was rcell {record['versions']['rcell']}, but this is "
-            f"{version}"
+            f"the program differs: rcell {record['versions']['rcell']} wrote the table, but this "
+            f"is rcell {version}"
         )
     try:
         repeated = _recorded(record["call"], call, folder)
@@ -281,7 +279,7 @@ def _other_runs(
                 maps[f"the cells of {title} differ"] = None
     yield from maps
     if [run["script"] for run in runs] != [run["script"] for run in recorded_runs]:
-        yield "the scripts differ: other lines were run"
+        yield "the scripts differ: the call ran other lines"
 
 
 def _other_lines(recorded: bytes, returned: bytes) -> Iterator[str]:
@@ -293,9 +291,9 @@ def _other_lines(recorded: bytes, returned: bytes) -> Iterator[str]:
         (number, line, other), *rest = different
         noun = "line" if len(rest) == 1 else "lines"
         more = f" and in {len(rest)} more {noun}" if rest else ""
-        yield f"the table differs in line {number}{more}: `{line}`, but its call returns `{other}`"
+        yield f"the table differs in line {number}{more}: `{line}`, but the call returns `{other}`"
     elif recorded != returned:
-        yield f"the table has {len(lines) - 1} lines, but its call returns {len(others) - 1}"
+        yield f"the table has {len(lines) - 1} lines, but the call returns {len(others) - 1}"
 
 
 def _other_texts(arguments: Any, folder: str) -> Iterator[str]:
@@ -303,7 +301,7 @@ def _other_texts(arguments: Any, folder: str) -> Iterator[str]:
     for file in files_in(arguments):
         path = os.path.join(folder, file["path"])
         if "sha256" in file and os.path.exists(path) and file_sum(path) != file["sha256"]:
-            yield f"{file['path']} differs"
+            yield f"{file['path']} has changed"
 
 
 def files_in(argument: Any) -> Iterator[Mapping[str, Any]]:
@@ -347,8 +345,8 @@ def _plain(title: str, argument: Any, folder: str) -> Any:
         return {**path, "sha256": file_sum(file)} if file.lower().endswith(_TEXTS) else path
     if argument is None or isinstance(argument, (bool, int, float)):
         return argument
-    kind = type(argument).__name__
-    raise BadArgument(title, f"must be a path, a number or a text to be recorded; got a {kind}")
+    rule = "must be a path, a number or a string to be recorded"
+    raise BadArgument(title, f"{rule}; got an object of type {type(argument).__name__}")
 
 
 def _is_pattern(path: str) -> bool:

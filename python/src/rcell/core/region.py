@@ -67,7 +67,7 @@ def six_numbers(name: str, transform: Any) -> Transform:
         a, b, c, d, e, f = (float(number) for number in tuple(transform)[:6])
     except (TypeError, ValueError):
         raise BadMap(
-            name, f"a transform must be an Affine or six numbers; got {transform!r}"
+            name, f"its transform must be an Affine or six numbers; got {transform!r}"
         ) from None
     return a, b, c, d, e, f
 
@@ -76,15 +76,14 @@ def check_upright(name: str, transform: Transform) -> None:
     """Raise BadMap unless rows run from north to south and columns from west to east."""
     a, b, _, d, e, _ = transform
     if not all(map(math.isfinite, transform)):
-        raise BadMap(name, f"a transform with a number that is not finite: {transform}")
+        raise BadMap(name, f"its transform must have finite numbers; got {transform}")
     if b or d:
         raise BadMap(
-            name, f"a rotated transform {transform}: warp the map to a north-up grid first"
+            name, f"its transform is rotated, {transform}: warp the map to a north-up grid first"
         )
     if a <= 0 or e >= 0:
-        raise BadMap(
-            name, f"a transform {transform} whose rows are not from north to south, west to east"
-        )
+        rule = "its transform must have rows from north to south and columns from west to east"
+        raise BadMap(name, f"{rule}; got {transform}")
 
 
 def edges_of_transform(
@@ -145,7 +144,7 @@ class Region:
             low, high = ("south", "north") if north <= south else ("west", "east")
             raise BadMap(
                 "region",
-                f"{high} is not above {low} once they are rounded to {DECIMALS} decimals: {self}",
+                f"{high} must exceed {low} after rounding to {DECIMALS} decimals; got {self}",
             )
 
     def _check_sizes(self) -> None:

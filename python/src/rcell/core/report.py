@@ -112,7 +112,7 @@ def _section_of(path: str) -> str:
     """Return the HTML section for a recorded table."""
     record, name = read_record(path), os.path.basename(path)
     if file_sum(path) != record["table"]["sha256"]:
-        raise Refused("it has changed since it was written: record it again", path)
+        raise Refused("the table has changed since it was written: record it again", path)
     call = record["call"]
     definition = DEFINITIONS.get(call["name"].removeprefix("rcell_"), "")
     verify = f"rcell-gis verify {shlex.quote(name)}"
@@ -241,7 +241,7 @@ def _picture_of(record: Mapping[str, Any], folder: str) -> Iterator[str]:
     }
     picture = base64.b64encode(_png(cells, colours)).decode()
     name = _text(os.path.basename(first["path"]))
-    every = f", one of {step} rows and columns" if step > 1 else ""
+    every = f", 1 of every {step} rows and columns" if step > 1 else ""
     yield f'<figure>\n<img alt="{name}" src="data:image/png;base64,{picture}">'
     entries = "".join(
         f'<span><i style="background: {colours[code]}"></i>{_text(labels.get(code, code))}</span>'

@@ -6,44 +6,44 @@ from __future__ import annotations
 __all__ = ["DEFINITIONS", "PAGE", "WORDS"]
 
 _AREAS = (
-    "The area is the number of cells times the area of a cell. In degrees, each row of cells has "
-    "the area of its part of the ellipsoid. Percentages refer to the area (or, without areas, to "
-    "the cells) that is not null."
+    "The area is the number of cells times the area of a cell. In degrees, the area of a cell is "
+    "computed for each row, on the ellipsoid. Percentages refer to the area that is not null or, "
+    "without areas, to the cells that are not null."
 )
 DEFINITIONS = {
     "composition": f"The number of cells of each class, in total or by zone. {_AREAS}",
     "cross": f"The number of cells of each combination of the classes of several maps. {_AREAS}",
     "change": (
-        "The change of the cells that are null in neither year. A class gains the cells that "
-        "changed into it and loses the cells that changed out of it. Net change is gain minus "
-        "loss, swap is twice the smaller of the two, and persistence counts unchanged cells. "
+        "The changes in the cells that are null in neither year. A class gains the cells that "
+        "changed to it and loses the cells that changed from it. Net change is gain minus loss, "
+        "swap is twice the smaller of the two, and persistence counts unchanged cells. "
         f"{_AREAS}"
     ),
     "trajectories": (
-        "Each sequence of classes of the cells that are null in no year. A change is dated to the "
-        "first year with the new class. The uniform percentage is the annual change if all years "
-        f"changed at the same rate. {_AREAS}"
+        "The sequences of classes in the cells that are not null in any year. A change is dated to "
+        "the first year with the new class. The uniform percentage is the average annual change "
+        f"over all years. {_AREAS}"
     ),
     "patches": (
         "The patches of the map: cells of one class that are connected by edges or, with "
-        "connectivity 8, also by corners. The perimeter includes all sides to other patches, to "
-        "null and along the edge of the map. A cell is in the core if all cells within the core "
-        "depth, across edges, are in its patch."
+        "connectivity 8, also by corners. The perimeter includes cell sides next to other patches, "
+        "next to null cells and along the map's edge. A cell is in the core if all cells within "
+        "the core depth, counted in steps across edges, are in its patch."
     ),
     "zonal": (
         "Statistics of the values in each zone. The variance is the population variance. Quantiles "
         "between two values are interpolated."
     ),
-    "adjacency": "The number of sides that the cells of two classes share. Each side counts once.",
+    "adjacency": "The number of cell sides that two classes share. Each side counts once.",
     "dominant": (
         "The most frequent and the rarest class of each zone, by number of cells. In a tie, the "
         f"smallest class is used. {_AREAS}"
     ),
     "accuracy": (
         "The map is compared with a reference. With areas, the classes are strata, and all "
-        "estimates and their standard errors follow equations 1 to 11 of Olofsson et al. 2014. "
+        "estimates and their standard errors follow equations 1 to 11 of Olofsson et al. (2014). "
         "User's accuracy is the share of a map class that is correct. Producer's accuracy is the "
-        "share of a reference class that the map contains."
+        "share of a reference class that is mapped correctly."
     ),
     "metrics": (
         "Landscape metrics as defined by FRAGSTATS 4, without a border. Each zone is a separate "
@@ -51,16 +51,16 @@ DEFINITIONS = {
     ),
     "sample": (
         "A stratified random sample without replacement. The same map, size and seed draw the same "
-        "cells in each package."
+        "cells in every package."
     ),
 }
 
 WORDS = {
     "call": "Call",
     "made": "Inputs",
-    "rows": "The table has {0} more rows; they are in {1}.",
+    "rows": "{1} contains {0} more rows.",
     "rounded": "Numbers are rounded here. The CSV contains all digits.",
-    "verify": "To verify this table, run in the folder of {0}:",
+    "verify": "To verify this table, run this command in the folder that contains {0}:",
     "changed": "No picture: the cells of {0} have changed since the table was written.",
     "absent": "No picture: {0} cannot be read.",
 }

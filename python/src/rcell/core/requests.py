@@ -87,7 +87,7 @@ class Map:
             if len(cells) % row_bytes:
                 break
         if rows != self.rows:
-            raise ValueError(f"{rows} rows of the map {self.name}, which has {self.rows}")
+            raise ValueError(f"the map {self.name} must have {self.rows} rows; got {rows}")
 
     def _head(self) -> bytes:
         flags = (self.nodata is not None) + 2 * self.is_masked
@@ -116,7 +116,7 @@ def _interleaved(cells: memoryview, mask: memoryview, row_bytes: int, cols: int)
     """Yield the rows of a map, each followed by the row's mask."""
     rows = len(cells) // row_bytes
     if len(mask) != rows * cols:
-        raise ValueError(f"a mask of {len(mask)} bytes for {rows} rows of {cols} cells")
+        raise ValueError(f"the mask must have {rows * cols} bytes; got {len(mask)}")
     step = max(1, PIECE_BYTES // (row_bytes + cols))
     for first in range(0, rows, step):
         places = range(first, min(first + step, rows))

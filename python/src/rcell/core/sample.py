@@ -90,7 +90,7 @@ def sample(
     2      3      2    2    2  1.5  0.5
     """
     if isinstance(seed, bool) or not isinstance(seed, (numbers.Integral, str)):
-        raise BadArgument("seed", f"must be a whole number or a text; got {seed!r}")
+        raise BadArgument("seed", f"must be a whole number or a string; got {seed!r}")
     requested = _requested(n, allocation)
     maps = Maps({"map": map}, crs)
     entries = maps.tables("r.mapcalc row = row()\nr.stats -c -n input=map,row")[0]
@@ -140,7 +140,7 @@ def _columns(maps: Maps, picked: Sequence[tuple[int, int, int]]) -> Integers:
 
 
 def drawn(key: str, size: int, count: int) -> list[int]:
-    """Draw distinct numbers from 0 to `size - 1` with Floyd's algorithm, and return them sorted.
+    """Draw distinct numbers from 0 to `size - 1` with Floyd's algorithm and return them sorted.
 
     Random numbers are the first 48 bits of the SHA-256 hash of `KEY:COUNTER`. The counter starts
     at 1 and increases by 1 with each hash. Numbers that would bias the draw are rejected.
@@ -210,4 +210,4 @@ def _warn_of_few(classes: list[int], sizes: list[int], wanted: list[int]) -> Non
         if size < count
     ]
     if few:
-        warn(f"fewer cells than wanted of the class {first_of(few)}")
+        warn(f"some classes have fewer cells than requested: {first_of(few)}")

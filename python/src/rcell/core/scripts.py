@@ -69,7 +69,7 @@ class Stats:
     def matrix(self, measure: Optional[Measure] = None, percent: bool = False) -> Matrix:
         """Return the table of two maps as a matrix of percentages, areas or cells."""
         if len(self.maps) != 2:
-            problem = f"pivot= needs a table of two maps, but this one has {len(self.maps)}"
+            problem = f"pivot= requires a table of two maps, but this table has {len(self.maps)}"
             raise Refused(problem, "script", self.line)
         values = self._percent() if percent else self._counted("pivot=")
         if measure is not None and not percent:
@@ -86,7 +86,9 @@ class Stats:
 
     def _counted(self, option: str) -> NDArray[np.int64]:
         if self.cells is None:
-            raise Refused(f"{option} needs a table with cells: r.stats -c", "script", self.line)
+            raise Refused(
+                f"{option} requires a table with counts: use r.stats -c", "script", self.line
+            )
         return self.cells
 
 
@@ -116,7 +118,7 @@ class Run:
         return {statement.made: statement for statement in plan if statement.made}
 
     def outputs(self, wanted: Sequence[str] = ()) -> list[Union[Stats, ArrayMap]]:
-        """Run the script, and return the outputs, followed by the requested maps."""
+        """Run the script and return the outputs, followed by the requested maps."""
         for name in wanted:
             if name not in self.sources and name not in self.made:
                 known = ", ".join([*self.sources, *self.made])
@@ -128,7 +130,7 @@ class Run:
         ]
 
     def maps(self, names: Sequence[str]) -> list[ArrayMap]:
-        """Run the script, and return the named maps, which the script creates or reads."""
+        """Run the script and return the named maps, which the script creates or reads."""
         outputs = self.outputs(names)
         return [output for output in outputs[-len(names) :] if isinstance(output, ArrayMap)]
 
@@ -280,9 +282,9 @@ def table(
     outputs = ran.outputs()
     if len(outputs) != 1 or not isinstance(outputs[0], Stats):
         tables = sum(isinstance(output, Stats) for output in outputs)
-        outcome = f"{tables} tables and {len(outputs) - tables} maps" if outputs else "no r.stats"
-        problem = f"expected one table, but the script has {outcome}: rcell.run returns all outputs"
-        raise Refused(problem, "script")
+        outcome = f"{tables} r.stats and {len(outputs) - tables} r.out.ascii"
+        rule = f"the script must write one table and no map; got {outcome}"
+        raise Refused(f"{rule}: use rcell.run to get all outputs", "script")
     stats = outputs[0]
     return stats.matrix(measure, percent) if pivot else stats.table(measure, percent)
 

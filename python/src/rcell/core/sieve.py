@@ -215,7 +215,7 @@ class _Merging:
         self._parts: dict[int, list[int]] = {}
 
     def run(self, fewest: int) -> Integers:
-        """Merge patches below `fewest` cells, and return the final class of each patch."""
+        """Merge patches below `fewest` cells and return the final class of each patch."""
         classes, cells, into = self._classes, self._cells, self._into
         waiting: defaultdict[int, list[int]] = defaultdict(list)
         for patch in np.flatnonzero(np.array(cells) < fewest).tolist():
@@ -256,7 +256,7 @@ class _Merging:
         return shared
 
     def _join(self, joined: list[int], fewest: int) -> int:
-        """Merge patches, and return the number of the merged patch.
+        """Merge patches and return the number of the merged patch.
 
         The parts are stored only while the merged patch is small.
         """

@@ -219,19 +219,19 @@ def check_computed(name: str, cells: Cells, dtype: np.dtype[Any], shape: tuple[i
     >>> check_computed("m", cells, np.dtype(np.uint16), (1, 1))  # doctest: +ELLIPSIS
     Traceback (most recent call last):
       ...
-    rcell.BadMap: m: its cells are of the type int16, but Dask expected uint16: ...
+    rcell.BadMap: m: its cells are of type int16, but Dask expected uint16: ...
     """
     if (is_converted(cells.dtype), type_of(cells.dtype)) != (is_converted(dtype), type_of(dtype)):
         problem = (
-            f"its cells are of the type {cells.dtype}, but Dask expected {dtype}: state it, for "
+            f"its cells are of type {cells.dtype}, but Dask expected {dtype}: state the type, for "
             f"example map_blocks(.., dtype='{cells.dtype}')"
         )
         raise BadMap(name, problem)
     if cells.shape != shape:
         raise BadMap(
             name,
-            f"a part of {' x '.join(map(str, shape))} cells has the shape {cells.shape}: state "
-            "the chunks, for example map_blocks(.., chunks=..)",
+            f"a part of {' x '.join(map(str, shape))} cells has the shape {cells.shape} instead: "
+            "state the chunks, for example map_blocks(.., chunks=..)",
         )
 
 
@@ -243,7 +243,7 @@ def checked(
     first_row: int = 0,
     first_col: int = 0,
 ) -> Block:
-    """Convert cells to a block of the type that is sent to the program, and check their values.
+    """Check cells, and convert them to a block of the type that is sent to the program.
 
     Parameters
     ----------
@@ -285,7 +285,7 @@ def checked(
     whole = np.where(is_null, exact.dtype.type(0), exact)
     if scale is None and cells.dtype == np.float32 and np.abs(whole).max() > _EXACT_FLOAT32:
         warn(
-            f"{name}: floats of 32 bits are not exact beyond {_EXACT_FLOAT32}, but the map has "
+            f"{name}: 32-bit floats are not exact beyond {_EXACT_FLOAT32}, but the map contains "
             "larger values"
         )
     return Block(np.where(is_null, np.int32(NULL), whole.astype(np.int32)), None)
@@ -336,11 +336,11 @@ def _bad_cell(name: str, row: int, col: int, value: float, scale: int | None) ->
     number = f"{value:.15g}" if isinstance(value, float) else str(value)
     if scale is not None:
         problem = (
-            f"{option('scale', scale)} does not fit: the cell at row {row}, column {col} is "
+            f"{option('scale', scale)} is too large: the cell at row {row}, column {col} is "
             f"{number}"
         )
         return BadMap(
-            name, f"{problem}, and {scale} times that is beyond {MAX_CATEGORY}", row, col, value
+            name, f"{problem}, and {scale} times that exceeds {MAX_CATEGORY}", row, col, value
         )
     beyond = (
         ", outside -2147483647 to 2147483647"
@@ -458,7 +458,7 @@ class ArrayMap:
             rows, cols = self.array.shape
             raise BadMap(
                 self.name,
-                f"an array of {rows} x {cols} cells, but a region of {self.region.rows} x "
+                f"the array has {rows} x {cols} cells, but the region has {self.region.rows} x "
                 f"{self.region.cols}",
             )
 
@@ -505,16 +505,16 @@ class ArrayMap:
 def check_array(name: str, array: Any) -> None:
     """Raise BadMap unless an array has numbers in two dimensions, and at least one cell."""
     if array.dtype.kind not in "iufb":
-        raise BadMap(name, f"not a map of whole numbers: its cells are of the type {array.dtype}")
+        raise BadMap(name, f"not a map of whole numbers: its cells are of type {array.dtype}")
     if array.ndim != 2:
         shape = " x ".join(map(str, array.shape)) or "one number"
         raise BadMap(
             name,
-            f"an array of {array.ndim} dimensions ({shape}), but a map has two; pass one band of "
+            f"the array has {array.ndim} dimensions ({shape}), but a map has two: pass one band of "
             "a raster, for example read(1)",
         )
     if array.size == 0:
-        raise BadMap(name, f"an array without cells ({array.shape[0]} x {array.shape[1]})")
+        raise BadMap(name, f"the array has no cells ({array.shape[0]} x {array.shape[1]})")
 
 
 def array_map(
@@ -638,7 +638,8 @@ def source_of(name: str, map: Any) -> Source:
         return array_map(name, *map)
     if isinstance(map, (np.ndarray, list)):
         return array_map(name, map)
-    raise BadMap(name, f"neither a path nor an array nor a raster, but a {type(map).__name__}")
+    kind = type(map).__name__
+    raise BadMap(name, f"must be a path, an array or a raster; got an object of type {kind}")
 
 
 def _are_paths(map: Any) -> bool:
@@ -660,8 +661,8 @@ def check_names(names: Iterable[str]) -> None:
             better = re.sub(r"[^A-Za-z0-9_.]", "_", str(name))[:64]
             better = better if _NAME.fullmatch(better) else f"m_{better[:60]}"
             rule = (
-                "must have names of 1 to 64 letters, digits, _ and ., a letter or _ first; got "
-                f"{name!r}: write {better}"
+                "must have names of 1 to 64 letters, digits, _ and ., beginning with a letter or "
+                f"_; got {name!r}: write {better}"
             )
             raise BadArgument("maps", rule)
 
@@ -677,14 +678,14 @@ def named_once(maps: Any, named: Mapping[str, Any]) -> dict[str, Any]:
         maps = variables_of(maps)
     twice = set(maps or {}) & set(named)
     if twice:
-        raise BadArgument("maps", f"must be given once; got {min(twice)} twice")
+        raise BadArgument("maps", f"must have different names; got {min(twice)} twice")
     return {**(maps or {}), **named}
 
 
 def sources_of(
     maps: Mapping[str, Any], crs: Any = None, written: Mapping[str, Any] | None = None
 ) -> tuple[dict[str, Source], Any]:
-    """Convert a call's maps to sources, and return the sources and their reference system.
+    """Convert a call's maps to sources and return the sources and their reference system.
 
     Parameters
     ----------

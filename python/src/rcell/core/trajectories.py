@@ -119,7 +119,7 @@ def trajectories(
     steps = checked_years(dates, len(listed))
     if steps is None or steps != sorted(steps):
         outcome = "none" if steps is None else ", ".join(map(str, steps))
-        raise BadArgument("years", f"must ascend, one for each map; got {outcome}")
+        raise BadArgument("years", f"must be ascending, one for each map; got {outcome}")
     series = Maps({f"map_{number}": map for number, map in enumerate(listed, 1)}, crs)
     measure = series.measure(area)
     counts = _counts(series, measure)
@@ -217,7 +217,8 @@ def _counts(series: Maps, measure: Measure) -> Counts:
     if len(packs) + len(rows) > MOST_MAPS:
         most = size * (MOST_MAPS - len(rows))
         raise BadArgument(
-            "maps", f"must be at most {most} with {classes.size} classes; got {len(names)}"
+            "maps",
+            f"must list at most {most} maps for {classes.size} classes; got {len(names)}",
         )
     lines = list(_packing(packs, classes.tolist(), base))
     lines += ["r.mapcalc row = row()"] if rows else []

@@ -101,7 +101,7 @@ def _ascending(distances: Any) -> list[float]:
     last = 0.0
     for distance in listed:
         if not is_number(distance) or not last < distance < math.inf:
-            raise BadArgument("distances", f"must ascend from above 0; got {distance!r}")
+            raise BadArgument("distances", f"must be ascending numbers above 0; got {distance!r}")
         last = float(distance)
     return listed
 

@@ -158,7 +158,10 @@ def _with_a_zone(layer: Layer, field: Optional[str]) -> list[Feature]:
         if not feature.kind or feature.geometry is None:
             continue
         if feature.kind not in _KINDS:
-            raise BadMap(layer.name, f"not polygons: feature {feature.id} is a {feature.kind}")
+            raise BadMap(
+                layer.name,
+                f"features must be polygons, but feature {feature.id} is a {feature.kind}",
+            )
         value = feature.id if field is None else feature.value
         if not is_missing(value) and not (isinstance(value, str) and not value):
             features.append(replace(feature, value=value))
@@ -210,7 +213,7 @@ def _name(feature: Feature, zone: int, labels: Mapping[int, str]) -> str:
 
 
 class _Losses:
-    """Counts the cells in several polygons, and collects the features that lose cells."""
+    """Counts the cells in several polygons and collects the features that lose cells."""
 
     def __init__(self) -> None:
         self.cells = 0
@@ -276,7 +279,7 @@ class _Grid:
         return ArrayMap(name, cells, like.region, None, 0, {}, like.crs, like.transform)
 
     def _over_blocks(self, burn: Callable[[Rectangle], NDArray[np.bool_]]) -> None:
-        """Burn features into all blocks, and record which features contain a cell centre."""
+        """Burn features into all blocks and record which features contain a cell centre."""
         places = rectangles_of(self.like.region.shape, (_BLOCK, _BLOCK))
         if len(places) == 1:
             self._has_centre |= burn(places[0])
@@ -318,7 +321,7 @@ class _Grid:
             f"{self.layer.name}: {losses.cells:,} cells are in more than one polygon, the first "
             f"at row {row + 1}, column {col + 1}: "
             f"they belong to the later polygon, and not to {first_of(losers, _SHOWN)}; "
-            f"{option('each', True)} processes polygons one after another"
+            f"{option('each', True)} processes overlapping polygons separately"
         )
 
     def check_centres(self) -> None:
@@ -327,7 +330,7 @@ class _Grid:
         if len(without) == len(self.features):
             raise BadMap(self.layer.name, "no polygon contains the centre of a cell")
         if without:
-            message = f"{len(without)} of {len(self.features)} polygons contain no centre of a cell"
+            message = f"{len(without)} of {len(self.features)} polygons contain no cell centre"
             warn(f"{self.layer.name}: {message}: {first_of(without, _SHOWN)}")
 
 

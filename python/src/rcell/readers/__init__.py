@@ -1,5 +1,5 @@
 # SPDX-License-Identifier: Apache-2.0 OR GPL-2.0-or-later
-"""Read rasters, polygons and reference systems with other libraries.
+"""Read rasters, vector files and reference systems with other libraries.
 
 The libraries are rasterio, fiona and pyproj, or GDAL's own Python bindings.
 """
@@ -26,14 +26,14 @@ _LAYER = "|layername="
 
 
 def open_raster(name: str, path: str, band: int | None = None) -> Source:
-    """Open a band of a file as a map, with rasterio or with GDAL's Python bindings.
+    """Open a band of a raster as a map, with rasterio or GDAL's Python bindings.
 
-    If `band` is None, the file must have only one band.
+    If `band` is None, the raster must have only one band.
 
     Raises
     ------
     ReadFailed
-        The file cannot be opened.
+        The raster cannot be opened.
     BadMap
         The band cannot be a map.
     MissingLibrary
@@ -44,16 +44,16 @@ def open_raster(name: str, path: str, band: int | None = None) -> Source:
 
 
 def open_features(name: str, source: Any, layer: Optional[str] = None) -> Optional[Layer]:
-    """Open polygons or points as a layer, or return None for another object.
+    """Open polygons or points as a layer, or return None for other objects.
 
     Parameters
     ----------
     name : str
         The name in messages.
     source : path, GeoDataFrame, GeoSeries, GeoJSON as a dict, or Layer
-        Paths may name a layer: `FILE|layername=NAME`.
+        A path may include the name of a layer: `FILE|layername=NAME`.
     layer : str, optional
-        The layer in a file.
+        The layer to read, if the file has several.
 
     Raises
     ------
@@ -88,7 +88,7 @@ def open_features(name: str, source: Any, layer: Optional[str] = None) -> Option
 
 
 def crs_of(text: str) -> Crs:
-    """Parse the text of a reference system, with pyproj or else with osr.
+    """Parse the text of a reference system, with pyproj or GDAL's osr.
 
     Raises
     ------
@@ -104,7 +104,7 @@ def crs_of(text: str) -> Crs:
 def _reader(library: str, other: str, extra: str, purpose: str) -> Any:
     """Return the reader for a library or, if the library is missing, for GDAL's Python bindings.
 
-    The QGIS plugin contains only readers for GDAL's bindings.
+    The QGIS plugin contains only the readers for GDAL's bindings.
     """
     reason = ""
     for name, needed in ((library, library), (other, "osgeo")):

@@ -1,5 +1,5 @@
 # SPDX-License-Identifier: Apache-2.0 OR GPL-2.0-or-later
-"""Use the bands of a raster as maps."""
+"""Use the bands of a raster as separate maps."""
 
 from __future__ import annotations
 
@@ -18,10 +18,10 @@ def bands(raster: Any, /, **numbers: int) -> dict[str, Any]:
 
     Parameters
     ----------
-    raster : path, open dataset of rasterio, or DataArray of three dimensions
+    raster : path, open rasterio dataset, or DataArray with three dimensions
     **numbers : int
-        The number of each band, from 1, by the name of its map. In a DataArray, bands are counted
-        along the dimension that is neither rows nor columns.
+        The number of each map's band, counted from 1, by map name. In a DataArray, bands are
+        counted along the dimension that is neither rows nor columns.
 
     Returns
     -------
@@ -31,7 +31,7 @@ def bands(raster: Any, /, **numbers: int) -> dict[str, Any]:
     Raises
     ------
     BadMap
-        The raster has no band with this number.
+        The raster has no band with one of the numbers.
     ReadFailed
         The raster cannot be opened.
 

@@ -1,5 +1,5 @@
 # SPDX-License-Identifier: Apache-2.0 OR GPL-2.0-or-later
-"""Read polygons from files with fiona."""
+"""Read vector files with fiona."""
 
 from __future__ import annotations
 
@@ -17,7 +17,7 @@ __all__ = ["open_layer"]
 
 
 def open_layer(name: str, path: str, layer: Optional[str] = None) -> Polygons:
-    """Open a layer of a vector file.
+    """Read a layer of a vector file into memory.
 
     Raises
     ------

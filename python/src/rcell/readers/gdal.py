@@ -1,5 +1,5 @@
 # SPDX-License-Identifier: Apache-2.0 OR GPL-2.0-or-later
-"""Open rasters as maps with GDAL's Python bindings, and read them in blocks of rows."""
+"""Open rasters as maps with GDAL's Python bindings and read them in blocks of rows."""
 
 from __future__ import annotations
 
@@ -41,7 +41,7 @@ Ranges = Sequence[tuple[float, float]]
 
 
 def open_dataset(name: str, path: str) -> Any:
-    """Open a dataset.
+    """Open a dataset with GDAL.
 
     Raises
     ------
@@ -77,9 +77,9 @@ def open_raster(
     ----------
     name, path, band
     null_ranges : sequence of pairs of float
-        Additional ranges of null values, each given by its first and its last value.
+        Additional ranges of null values, each given by its first and last value.
     uses_nodata : bool
-        Whether the file's nodata value is null.
+        Whether cells with the file's nodata value are null.
     uses_style : bool
         Whether labels may be read from a QGIS style next to the raster.
 
@@ -112,7 +112,7 @@ def _map_of(
     layer = dataset.GetRasterBand(_only_band(name, dataset) if band is None else band)
     if layer is None:
         count = dataset.RasterCount
-        raise BadMap(name, f"has {count} band{'' if count == 1 else 's'}, and no band {band}")
+        raise BadMap(name, f"has {count} band{'' if count == 1 else 's'}, but no band {band}")
     _check_values(name, layer)
     transform, is_upside_down = _upright(name, dataset)
     rows, cols = dataset.RasterYSize, dataset.RasterXSize
@@ -162,7 +162,7 @@ class RasterMap:
     block_shape : tuple of two ints
     files : tuple of str
     style_path : str
-        The path of the raster next to which a QGIS style may exist, or empty to ignore styles.
+        The path of the raster next to which a QGIS style may exist, or empty if styles are ignored.
     legend : Legend, optional
         Labels and colours that replace the file's own.
     """
@@ -303,7 +303,7 @@ def _within(cells: Cells, low: float, high: float) -> Mask:
 
 
 def _alphas(dataset: Any) -> list[int]:
-    """Return the bands that mark transparent cells."""
+    """Return the alpha bands, which mark transparent cells."""
     bands = range(1, dataset.RasterCount + 1)
     return [
         band
@@ -313,7 +313,7 @@ def _alphas(dataset: Any) -> list[int]:
 
 
 def _only_band(name: str, dataset: Any) -> int:
-    """Return the only band that is not an alpha band, or raise BadMap."""
+    """Return the only band that is not an alpha band, or raise BadMap if there are several."""
     alphas = _alphas(dataset)
     bands = [band for band in range(1, dataset.RasterCount + 1) if band not in alphas]
     if len(bands) != 1:
@@ -331,7 +331,7 @@ def _check_values(name: str, band: Any) -> None:
         )
     if gdal.DataTypeIsComplex(band.DataType):
         kind = gdal.GetDataTypeName(band.DataType)
-        raise BadMap(name, f"not a map of whole numbers: its cells are of the type {kind}")
+        raise BadMap(name, f"not a map of whole numbers: its cells are of type {kind}")
 
 
 def _dtype_of(band: Any) -> np.dtype[Any]:
@@ -342,7 +342,7 @@ def _dtype_of(band: Any) -> np.dtype[Any]:
 
 
 def _upright(name: str, dataset: Any) -> tuple[Transform, bool]:
-    """Return the transform for rows from north to south, and whether the file reverses the rows.
+    """Return the transform for rows from north to south, and whether the file's rows are reversed.
 
     Without a transform, cells have size 1 and the bottom left corner is at 0, 0.
     """
@@ -350,7 +350,7 @@ def _upright(name: str, dataset: Any) -> tuple[Transform, bool]:
     geotransform = dataset.GetGeoTransform(can_return_null=True)
     if geotransform is None:
         if dataset.GetGCPCount():
-            raise BadMap(name, "has ground control points and no transform: warp it first")
+            raise BadMap(name, "has ground control points but no transform: warp it first")
         return (1.0, 0.0, 0.0, 0.0, -1.0, float(rows)), False
     west, width, b, north, d, height = geotransform
     is_upside_down = height > 0 and not b and not d

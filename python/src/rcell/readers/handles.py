@@ -1,5 +1,5 @@
 # SPDX-License-Identifier: Apache-2.0 OR GPL-2.0-or-later
-"""Keep rasters open per thread, because a thread may read only its own GDAL datasets."""
+"""Keep open rasters by thread, because a thread may read only its own GDAL datasets."""
 
 from __future__ import annotations
 
@@ -9,7 +9,7 @@ from typing import Any
 
 __all__ = ["begin_call", "of_this_thread"]
 
-# Limits the open files of a map with many files.
+# Limits the number of open files for a map with many files.
 MOST_OPEN = 64
 
 _here = threading.local()
@@ -19,7 +19,7 @@ _one_at_a_time = threading.Lock()
 def of_this_thread(path: str, open_path: Callable[[], Any]) -> Any:
     """Return this thread's open dataset for a path, opening it if necessary.
 
-    If too many datasets are open, the dataset that was unused for longest is closed.
+    If too many datasets are open, the least recently used dataset is closed.
 
     Examples
     --------
@@ -29,7 +29,7 @@ def of_this_thread(path: str, open_path: Callable[[], Any]) -> Any:
     handles: dict[str, Any] = _here.__dict__.setdefault("handles", {})
     dataset = handles.pop(path, None)
     if dataset is None:
-        # Opening a raster may silence a warning, which Python does for all threads at once.
+        # Opening a raster may suppress a warning, which Python does for all threads at once.
         with _one_at_a_time:
             dataset = open_path()
         while len(handles) >= MOST_OPEN:

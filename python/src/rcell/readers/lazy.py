@@ -1,5 +1,5 @@
 # SPDX-License-Identifier: Apache-2.0 OR GPL-2.0-or-later
-"""Build results that Dask computes later, as graphs of the work on chunks."""
+"""Build lazy results, as Dask graphs of the work on chunks."""
 
 from __future__ import annotations
 
@@ -38,14 +38,12 @@ _NOTHING: Integers = np.empty(0, np.int64)
 
 
 def lazy_map(make: Callable[[], Any]) -> Any:
-    """Return the map of a call as a DataArray that Dask computes.
-
-    The DataArray has the chunks of the first Dask map.
+    """Return the map of a call as a lazy DataArray with the chunks of the first Dask map.
 
     Parameters
     ----------
     make : callable
-        A function that returns a map of the core.
+        A function that makes the call and returns a core map.
 
     Raises
     ------
@@ -74,7 +72,7 @@ def lazy_map(make: Callable[[], Any]) -> Any:
 def lazy_table(name: str, words: Sequence[Any], named: Mapping[str, Any]) -> Any:
     """Return a Dask Delayed for the result of a call that depends on tables.
 
-    The call runs twice: now, until it requests its tables, and again when the tables are computed.
+    The call runs twice: now, until it requests its tables, and again once these are computed.
     """
     requested: list[Output] = []
 
@@ -91,7 +89,7 @@ def lazy_table(name: str, words: Sequence[Any], named: Mapping[str, Any]) -> Any
     hollow_words = [_hollow(word) for word in words]
     hollow_named = {key: _hollow(word) for key, word in named.items()}
     outputs = [replace(output, values=_NOTHING) for output in requested]
-    dask = need("dask", "xarray", "for results that Dask computes")
+    dask = need("dask", "xarray", "to compute results later")
     hidden = _Hidden((name, hollow_words, hollow_named, outputs))
     return dask.delayed(_answered)(hidden, [output.values for output in requested])
 
@@ -101,14 +99,14 @@ class _TablesRequested(Exception):
 
 
 class _Hidden:
-    """Hides arrays from Dask, so that Dask does not compute them."""
+    """Hides Dask arrays from Dask, so that Dask does not compute them."""
 
     def __init__(self, content: Any) -> None:
         self.content = content
 
 
 def _hollow(argument: Any) -> Any:
-    """Replace a Dask argument's cells with zeros.
+    """Replace the cells of a Dask argument with zeros.
 
     Only the argument's position, type and labels are still needed.
     """
@@ -120,7 +118,7 @@ def _hollow(argument: Any) -> Any:
         return argument.map(_hollow, keep_attrs=True)
     if not is_lazy(argument):
         return argument
-    zeros = need("dask.array", "xarray", "for arrays of Dask").zeros
+    zeros = need("dask.array", "xarray", "to use Dask arrays").zeros
     hollow = argument.copy(data=zeros(argument.shape, argument.dtype, chunks=argument.chunks))
     hollow.encoding = argument.encoding
     return hollow
@@ -151,11 +149,14 @@ def _graph_of(script: str, maps: Mapping[str, Source], wanted: Sequence[str]) ->
     lines = "\n".join([script, *(f"r.out.ascii input={name}" for name in wanted)])
     plan = planned(lines, maps)
     if any("1" in statement.options for statement in plan):
-        raise BadArgument("compute", "must be True: r.stats -1 lists cells, which takes one run")
+        raise BadArgument(
+            "compute", "must be True: r.stats -1 lists cells, which requires a single run"
+        )
     for source in maps.values():
         if not hasattr(source, "window"):
             raise BadMap(
-                source.name, "cannot be read in parts: convert it, or leave out compute=False"
+                source.name,
+                "cannot be read in parts: convert it to a GeoTIFF, or omit compute=False",
             )
     graph = _Graph(dict(maps), _chunks_of(plan, maps))
     for clump in (statement for statement in plan if statement.command == "r.clump"):
@@ -179,20 +180,20 @@ def _chunks_of(plan: Sequence[Statement], maps: Mapping[str, Any]) -> Any:
 
 
 class _Known:
-    """A map that the graph computes, held as a Dask array."""
+    """A map that the graph computes, as a Dask array."""
 
     def __init__(self, name: str, array: Any, nodata: int) -> None:
         self._name, self._array, self._nodata = name, array, nodata
 
     def sent(self, outer: Rectangle) -> Chunks:
-        """Return the chunks with the cells of a window."""
+        """Return the Dask chunks that contain a window."""
         top, left, rows, cols = outer
         cells = self._array[top : top + rows, left : left + cols]
         return Chunks(self._name, self._array.dtype, self._nodata, False, cells)
 
 
 class _Graph:
-    """The Dask graph of the work on chunks.
+    """The Dask graph that processes a map chunk by chunk.
 
     Parameters
     ----------
@@ -209,11 +210,11 @@ class _Graph:
             for top, rows in zip(tops, chunks[0])
             for left, cols in zip(lefts, chunks[1])
         ]
-        self._delayed = need("dask", "xarray", "for results that Dask computes").delayed
-        self._dask = need("dask.array", "xarray", "for arrays of Dask")
+        self._delayed = need("dask", "xarray", "to compute results later").delayed
+        self._dask = need("dask.array", "xarray", "to use Dask arrays")
 
     def outputs(self, plan: Sequence[Statement]) -> list[Output]:
-        """Return the outputs of a plan, whose clump maps must already be known."""
+        """Return the outputs of a plan, whose clump maps must have been added."""
         statements = outputs_in(plan)
         script = self._script(plan, statements)
         results = outputs_of([is_counted(statement) for statement in statements])
@@ -230,7 +231,7 @@ class _Graph:
         return outputs
 
     def add_clumps(self, plan: Sequence[Statement], clump: Statement) -> None:
-        """Add the map of an `r.clump` statement to the known maps."""
+        """Add the map of an `r.clump` statement to the maps of the graph."""
         script, diagonal = self._script(plan, [clump]), is_diagonal(clump)
         tiles = self._run(script, partial(script.clump_text, clump), clumps_of(diagonal))
         whole = self._delayed(_joined)(tiles, diagonal)
@@ -248,7 +249,7 @@ class _Graph:
     def _run(
         self, script: TileScript, text: Callable[[Rectangle, Rectangle, Any], str], results: Any
     ) -> list[Any]:
-        """Return the delayed work on each chunk."""
+        """Return the delayed result of a script for each chunk."""
         maps = {name: source for name, source in self._maps.items() if name in script.reads}
         maps = maps or dict([next(iter(self._maps.items()))])
         run = self._delayed(run_on_worker)
@@ -273,7 +274,7 @@ class _Graph:
 
 
 def _added(statement: Statement, index: int, tiles: Sequence[TileDone]) -> Integers:
-    """Add up the tables of all chunks, and return the table of the full map."""
+    """Add up the tables of all chunks and return the table of the full map."""
     total = TableSum(len(statement.inputs), is_counted(statement))
     for tile in tiles:
         total.add(tile.results[index])
@@ -289,8 +290,8 @@ def _cells_of(index: int, tile: TileDone) -> Integers:
 def _joined(tiles: Sequence[TileDone], diagonal: bool) -> Joined:
     whole = join([tile.results[0].tobytes() for tile in tiles], diagonal)
     if whole.clumps > MAX_CATEGORY:
-        problem = f"{whole.clumps:,} patches, and lazy maps number up to {MAX_CATEGORY:,}"
-        raise BadMap("map", f"{problem}: leave out compute=False")
+        problem = f"a lazy map can have at most {MAX_CATEGORY:,} patches; got {whole.clumps:,}"
+        raise BadMap("map", f"{problem}: omit compute=False")
     return whole
 
 

@@ -1,5 +1,5 @@
 # SPDX-License-Identifier: Apache-2.0 OR GPL-2.0-or-later
-"""Read polygons with GDAL's Python bindings."""
+"""Read vector files with GDAL's Python bindings."""
 
 from __future__ import annotations
 
@@ -28,7 +28,7 @@ _INTEGERS = (ogr.OFTInteger, ogr.OFTInteger64)
 def open_layer(name: str, path: str, layer: Optional[str] = None) -> OgrLayer:
     """Open a layer of a vector file.
 
-    Without a layer name, the file must have only one layer.
+    If `layer` is None, the file must have only one layer.
 
     Raises
     ------
@@ -61,7 +61,7 @@ def open_layer(name: str, path: str, layer: Optional[str] = None) -> OgrLayer:
 
 @dataclass(frozen=True)
 class OgrLayer:
-    """A layer of a vector file, for `core.zones`."""
+    """A layer of a vector file, in the form that `core.zones` expects."""
 
     name: str
     source: Any
@@ -123,7 +123,7 @@ def _value_of(feature: Any, place: int) -> Any:
 def feature_of(name: str, number: Any, value: Any, wkb: bytes) -> Feature:
     """Convert a well-known binary geometry to a feature, with curves as lines.
 
-    An empty geometry is allowed.
+    The bytes may be empty, and so may the geometry.
 
     Raises
     ------

@@ -20,7 +20,7 @@ __all__ = ["OsrCrs", "crs_of", "quiet"]
 
 @contextlib.contextmanager
 def quiet() -> Iterator[None]:
-    """Silence GDAL's messages on standard error in this thread, without changing its exceptions."""
+    """Silence GDAL's messages on standard error in this thread, but not its exceptions."""
     gdal.PushErrorHandler("CPLQuietErrorHandler")
     try:
         yield

@@ -1,5 +1,5 @@
 # SPDX-License-Identifier: Apache-2.0 OR GPL-2.0-or-later
-"""Convert GeoDataFrames, GeoSeries and GeoJSON to layers, which rasterio burns."""
+"""Convert GeoDataFrames, GeoSeries and GeoJSON to layers, which are rasterised with rasterio."""
 
 from __future__ import annotations
 
@@ -25,7 +25,7 @@ _PURPOSE = "to read polygons"
 
 @dataclass(frozen=True)
 class Polygons:
-    """Features in memory.
+    """A layer of features in memory.
 
     Attributes
     ----------
@@ -33,7 +33,8 @@ class Polygons:
     crs : any
     fields : tuple of str
     records : sequence of tuples
-        The id, the properties by field, and the geometry as GeoJSON or shapely object, or None.
+        For each feature, the id, the properties by field, and the geometry, which is GeoJSON, a
+        shapely object, or None.
     """
 
     name: str
@@ -60,7 +61,7 @@ class Polygons:
 
     def bounds(self, geometry: Any) -> tuple[float, float, float, float]:
         """Return the west, south, east and north bounds of a geometry."""
-        # rasterio cannot compute bounds of points, nor of fiona's geometries.
+        # rasterio cannot compute the bounds of points or of fiona's geometries.
         is_shape = hasattr(geometry, "bounds")
         corners = () if is_shape else zip(*_places(geometry["coordinates"]))
         x, y = (geometry.bounds[::2], geometry.bounds[1::2]) if is_shape else corners

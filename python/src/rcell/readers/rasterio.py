@@ -1,5 +1,5 @@
 # SPDX-License-Identifier: Apache-2.0 OR GPL-2.0-or-later
-"""Open rasters as maps with rasterio, and read them window by window."""
+"""Open rasters as maps with rasterio and read them window by window."""
 
 from __future__ import annotations
 
@@ -61,7 +61,7 @@ def open_raster(name: str, source: Any, band: int | None = None) -> RasterMap:
         The name of the map, for messages.
     source : path, rasterio.DatasetReader or rasterio.Band
     band : int, optional
-        The number of the band; by default, the raster must have only one.
+        The number of the band. By default, the raster must have only one band.
 
     Raises
     ------
@@ -103,7 +103,7 @@ def read_errors(name: str, problem: str) -> Iterator[None]:
 
 
 def open_dataset(name: str, path: str) -> Any:
-    """Open a dataset with rasterio, without the warning about a missing georeference.
+    """Open a dataset with rasterio, without the warning about missing georeferencing.
 
     Raises
     ------
@@ -119,7 +119,7 @@ def open_dataset(name: str, path: str) -> Any:
 
 @dataclass(frozen=True)
 class Layer:
-    """A band of a raster, and the rules that make its cells null.
+    """A band of a raster, and the criteria for null cells.
 
     Attributes
     ----------
@@ -144,7 +144,7 @@ class Layer:
         check_scale(name, dataset, band)
         dtype, nodata = dataset.dtypes[band - 1], dataset.nodatavals[band - 1]
         if dtype.startswith("complex") or dtype not in np.sctypeDict:
-            raise BadMap(name, f"not a map of whole numbers: its cells are of the type {dtype}")
+            raise BadMap(name, f"not a map of whole numbers: its cells are of type {dtype}")
         if np.dtype(dtype).kind in "iu" and np.dtype(dtype).itemsize == 8:
             dtype, nodata = _of_64_bits(dataset, band)
         flags = dataset.mask_flag_enums[band - 1]
@@ -182,7 +182,7 @@ class Layer:
 
 
 def _described(dataset: Any) -> ElementTree.Element:
-    """Return GDAL's VRT description of a raster, with details that rasterio lacks."""
+    """Return GDAL's VRT description of a raster, which contains details that rasterio lacks."""
     with need("rasterio.io", "gis", _PURPOSE).MemoryFile(ext=".vrt") as memory:
         need("rasterio.shutil", "gis", _PURPOSE).copy(dataset, memory.name, driver="VRT")
         return ElementTree.fromstring(memory.read())
@@ -216,7 +216,7 @@ class RasterMap:
     name : str
     dataset : rasterio.DatasetReader
         The caller's dataset, or a dataset that stays open as long as this map exists, because
-        opening takes milliseconds. None in another process.
+        opening it takes milliseconds. None in other processes.
     layer : Layer
     region : Region
     transform : tuple of six float
@@ -228,7 +228,7 @@ class RasterMap:
     files : tuple of str
         The files that GDAL lists.
     labels_path : str
-        The path for reading labels, or another name that GDAL can open.
+        The path for reading labels, which may be any name that GDAL can open.
     thread : int
         The thread that opened the dataset.
     """
@@ -256,7 +256,7 @@ class RasterMap:
         band = only_band(name, dataset, enums) if band is None else band
         if band not in dataset.indexes:
             count = dataset.count
-            raise BadMap(name, f"has {count} band{'' if count == 1 else 's'}, and no band {band}")
+            raise BadMap(name, f"has {count} band{'' if count == 1 else 's'}, but no band {band}")
         transform, is_upside_down = upright(name, dataset)
         region = in_region(name, Region.from_transform, transform, dataset.height, dataset.width)
         opened(*dataset.files)
@@ -358,10 +358,10 @@ class RasterMap:
 
 
 def alphas(dataset: Any, enums: Any) -> list[int]:
-    """Return the alpha bands.
+    """Return the alpha bands, which mark transparent cells.
 
-    `colorinterp` is read only once, because rasterio then examines all bands, of which a broken
-    file may have 65,535.
+    `colorinterp` is read only once, because rasterio examines all bands each time, and a broken
+    file may have 65,535 bands.
     """
     return [
         band
@@ -392,7 +392,7 @@ def check_scale(name: str, dataset: Any, band: int) -> None:
 
 
 def upright(name: str, dataset: Any) -> tuple[Transform, bool]:
-    """Return the transform for rows from north to south, and whether the file reverses the rows.
+    """Return the transform for rows from north to south, and whether the file's rows are reversed.
 
     Without a transform, cells have size 1 and the bottom left corner is at 0, 0.
 
@@ -404,7 +404,7 @@ def upright(name: str, dataset: Any) -> tuple[Transform, bool]:
     a, b, c, d, e, f = transform = six_numbers(name, dataset.transform)
     if transform == _IDENTITY and _described(dataset).find("GeoTransform") is None:
         if dataset.gcps[0]:
-            raise BadMap(name, "has ground control points and no transform: warp it first")
+            raise BadMap(name, "has ground control points but no transform: warp it first")
         return (1.0, 0.0, 0.0, 0.0, -1.0, float(dataset.height)), False
     is_upside_down = e > 0 and not b and not d
     turned = (a, b, c, d, -e, f + e * dataset.height) if is_upside_down else (a, b, c, d, e, f)

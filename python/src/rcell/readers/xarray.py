@@ -1,5 +1,5 @@
 # SPDX-License-Identifier: Apache-2.0 OR GPL-2.0-or-later
-"""Convert DataArrays of xarray to maps, and maps to DataArrays."""
+"""Convert xarray DataArrays to maps, and maps to DataArrays."""
 
 from __future__ import annotations
 
@@ -81,7 +81,7 @@ _TOLERANCE = 1e-4
 class DataArrayMap:
     """A two-dimensional DataArray as a map.
 
-    Blocks of a Dask array are computed one at a time.
+    The blocks of a Dask array are computed one at a time.
     """
 
     name: str
@@ -111,7 +111,7 @@ class DataArrayMap:
 
     @property
     def is_masked(self) -> bool:
-        """Whether the map's blocks have masks, which any Dask chunk may have."""
+        """Whether the map's blocks have masks, which is always true for Dask arrays."""
         return not is_converted(self.array.dtype) and (
             is_lazy(self.array) or isinstance(self.array.data, np.ma.MaskedArray)
         )
@@ -126,14 +126,14 @@ class DataArrayMap:
 
     @property
     def block_shape(self) -> tuple[int, int]:
-        """The rows and columns of a Dask chunk."""
+        """The number of rows and columns in the largest Dask chunk."""
         chunks = self.array.chunks
         return (max(chunks[0]), max(chunks[1])) if chunks else (1, 1)
 
     def window(self, row: int, col: int, rows: int, cols: int) -> Block:
-        """Return a window of cells, computing only the Dask chunks that contain it.
+        """Return a window of cells, computing only the Dask chunks that contain the window.
 
-        Rows and columns are counted from the north-west.
+        Rows and columns are counted from the north-west corner.
         """
         part = self._part(row, col, rows, cols)
         cells = part.cells.compute() if is_lazy(self.array) else part.cells
@@ -149,7 +149,7 @@ class DataArrayMap:
 
 
 class Flat(NamedTuple):
-    """A DataArray with rows first, from north to south, and with the properties of its cells."""
+    """A DataArray whose rows run from north to south, and its properties as a map."""
 
     array: Any
     transform: Transform | None
@@ -159,18 +159,18 @@ class Flat(NamedTuple):
 
 
 def flat_of(name: str, array: Any) -> Flat:
-    """Return the properties of a DataArray as a map, without reading cells.
+    """Return a DataArray in the form of a map, without reading its cells.
 
     Parameters
     ----------
     name : str
     array : xarray.DataArray
-        An array with two dimensions (further dimensions must have one element), which are
-        identified by their names or CF axes, or else are rows and columns in this order. Its
-        coordinates are cell centres, or are missing. Null is NaN, and the value of `_FillValue`,
-        `missing_value` or `nodata` in its attributes or its encoding. The reference system is read
-        from the coordinate that `grid_mapping` names, or from `spatial_ref`, and labels from CF's
-        `flag_values` and `flag_meanings`.
+        An array with two dimensions and, possibly, others of length 1. The dimensions are
+        identified by their names or CF axes; otherwise, they are rows and columns in this order.
+        The coordinates, if any, are cell centres. Null cells contain NaN, or the value of
+        `_FillValue`, `missing_value` or `nodata` in the attributes or the encoding. The reference
+        system is read from the coordinate that `grid_mapping` names, or from `spatial_ref`, and the
+        labels from CF's `flag_values` and `flag_meanings`.
 
     Raises
     ------
@@ -178,17 +178,20 @@ def flat_of(name: str, array: Any) -> Flat:
         The array cannot be a map, or its coordinates are not evenly spaced.
     """
     if not hasattr(array, "coords"):
-        raise BadMap(name, f"a {type(array).__name__} without coordinates: pass a DataArray")
+        raise BadMap(
+            name,
+            f"must have coordinates, as a DataArray does; got a {type(array).__name__}",
+        )
     if not hasattr(array, "ndim"):
         raise BadMap(
             name,
-            f"a {type(array).__name__} of several variables: pass it as the only map, or pass "
+            f"must be a DataArray; got a {type(array).__name__}: pass it as the only map, or pass "
             f"one variable, for example dataset[{next(iter(array), 'name')!r}]",
         )
     if any(size != size for size in array.shape):
         raise BadMap(
             name,
-            "Dask does not know the sizes of its chunks: call .data.compute_chunk_sizes() first",
+            "the sizes of its Dask chunks are unknown: call .data.compute_chunk_sizes() first",
         )
     _check_scale(name, array)
     flat = _flat(name, array)
@@ -217,7 +220,7 @@ def source_of_data_array(name: str, array: Any) -> DataArrayMap:
 
 
 def open_zarr(name: str, path: str) -> DataArrayMap:
-    """Open the only map in a Zarr store with its stored values.
+    """Open the only map in a Zarr store, with its values as stored.
 
     By default, xarray would convert integers with a nodata value to floats.
     """
@@ -228,7 +231,9 @@ def open_zarr(name: str, path: str) -> DataArrayMap:
     except (OSError, ValueError, KeyError) as error:
         raise ReadFailed(name, f"cannot open: {path}: {error}") from None
     if len(maps) != 1:
-        problem = f"the store has {len(maps)} maps ({', '.join(maps)}): pass one of them"
+        problem = (
+            f"the store must have one map; got {len(maps)} ({', '.join(maps)}): pass one of them"
+        )
         raise BadMap(
             name, f"{problem}, for example xarray.open_zarr(path, mask_and_scale=False)[name]"
         )
@@ -236,7 +241,7 @@ def open_zarr(name: str, path: str) -> DataArrayMap:
 
 
 def variables_of(dataset: Any) -> dict[str, Any]:
-    """Return the maps in a Dataset by name: all variables except grid mappings."""
+    """Return a Dataset's maps by name: the variables with rows and columns, except grid mappings."""
     if not hasattr(dataset, "data_vars"):
         raise BadMap(
             "maps", "the DataArray has no usable name: pass it by keyword, for example lc=array"
@@ -259,7 +264,7 @@ def layers_of(array: Any) -> list[Any]:
     if getattr(array, "ndim", 0) != 3:
         raise BadMap(
             "raster",
-            "bands must be of a DataArray of three dimensions; got "
+            "must be a DataArray with three dimensions; got "
             f"{getattr(array, 'ndim', 'several variables')}",
         )
     axes = [_axis_of(array, dim) for dim in array.dims]
@@ -268,7 +273,7 @@ def layers_of(array: Any) -> list[Any]:
 
 
 def series_of(array: Any) -> tuple[list[Any], list[int]]:
-    """Return the maps of a DataArray along its dimension `time`, and their years."""
+    """Return the maps along a DataArray's dimension `time`, and their years."""
     times = array["time"].values
     years = times
     if np.issubdtype(times.dtype, np.datetime64):
@@ -282,11 +287,11 @@ def is_lazy(array: Any) -> bool:
 
 
 def _flat(name: str, array: Any) -> Any:
-    """Return an array with rows first, identified by dimension names or else by position."""
+    """Return a two-dimensional array with rows first, identified by name, size or position."""
     axes = [_axis_of(array, dim) for dim in array.dims]
     if axes.count("X") > 1 or axes.count("Y") > 1:
         listed = ", ".join(map(str, array.dims))
-        raise BadMap(name, f"a DataArray with two dimensions along one axis: {listed}")
+        raise BadMap(name, f"its dimensions must be along different axes; got {listed}")
     dim_of = dict(zip(axes, array.dims))
     dims = [dim_of.get("Y"), dim_of.get("X")]
     if None in dims:
@@ -295,7 +300,7 @@ def _flat(name: str, array: Any) -> Any:
     long = [dim for dim in others if array.sizes[dim] != 1]
     if len(dims) != 2 or long:
         sizes = ", ".join(f"{dim} {array.sizes[dim]}" for dim in array.dims)
-        problem = f"a DataArray of {array.ndim} dimensions ({sizes}), but a map has two"
+        problem = f"the DataArray has {array.ndim} dimensions ({sizes}), but a map has two"
         example = long[0] if long else "band"
         raise BadMap(name, f"{problem}: select one, for example .isel({example}=0)")
     return array.isel({dim: 0 for dim in others}).transpose(*dims)
@@ -309,7 +314,7 @@ def _axis_of(array: Any, dim: Any) -> str | None:
 
 
 def _by_place(array: Any, named: list[Any]) -> list[Any]:
-    """Return the two dimensions with more than one element, or else the last two.
+    """Return the two dimensions with several elements or, if there are not two, the last two.
 
     A dimension whose axis is known determines the order.
     """
@@ -337,7 +342,7 @@ def _check_scale(name: str, array: Any) -> None:
 
 
 def _transform_of(name: str, array: Any) -> Transform | None:
-    """Return the transform that the coordinates define, or None if there are no coordinates."""
+    """Return the transform that the coordinates define, or None without coordinates."""
     y, x = array.dims
     if y not in array.coords or x not in array.coords:
         return None
@@ -352,7 +357,7 @@ def _transform_of(name: str, array: Any) -> Transform | None:
 
 
 def _stated_transform(name: str, array: Any) -> Transform | None:
-    """Return the transform that rioxarray stored, which is outdated if the array was cut later."""
+    """Return the transform that rioxarray stored, which is outdated if the array was cut since."""
     reference = array.coords.get("spatial_ref")
     text = None if reference is None else reference.attrs.get("GeoTransform")
     if not text:
@@ -377,7 +382,7 @@ def _spacing(name: str, coordinate: Any, stated: tuple[float, float] | None) -> 
     if count == 1:
         raise BadMap(
             name,
-            f"one cell along {coordinate.name}: its size is unknown; give "
+            f"has only one cell along {coordinate.name}, so the cell size is unknown: pass "
             "rcell.Raster(array.values, region)",
         )
     step = (centres[-1] - centres[0]) / (count - 1)
@@ -397,7 +402,7 @@ def _crs_of(array: Any) -> Any:
 
 
 def _nodata_of(name: str, array: Any) -> float | None:
-    """Return the number that marks null, in addition to NaN.
+    """Return the value that marks null, in addition to NaN.
 
     If xarray has scaled the cells, only NaN is null.
     """
@@ -410,12 +415,12 @@ def _nodata_of(name: str, array: Any) -> float | None:
             if attributes.get(key) is not None:
                 values += np.asarray(attributes[key]).reshape(-1).tolist()
     if not all(isinstance(value, numbers.Real) for value in values):
-        raise BadMap(name, f"a nodata value that is not a number: {', '.join(map(repr, values))}")
+        raise BadMap(name, f"its nodata values must be numbers; got {', '.join(map(repr, values))}")
     distinct = {value for value in values if value == value}
     if len(distinct) > 1:
         raise BadMap(
             name,
-            f"several nodata values: {', '.join(map(str, sorted(distinct)))}; keep one of "
+            f"must have one nodata value; got {', '.join(map(str, sorted(distinct)))}: keep one of "
             "_FillValue, missing_value and nodata",
         )
     return next(iter(distinct), None)
@@ -457,7 +462,7 @@ def data_array(
     null : int
         The value of null cells, stored as `_FillValue`.
     like : xarray.DataArray, optional
-        A map with the same rows and columns, from which dimensions and coordinates are copied.
+        A map of the same shape, from which dimensions and coordinates are copied.
     """
     xarray = need("xarray", "xarray", "to return a DataArray")
     attributes: dict[str, Any] = {"_FillValue": cells.dtype.type(null)}
