@@ -242,13 +242,13 @@ placed_points <- function(points, source) {
   again <- duplicated(corners[, "geom"])
   if (any(again)) {
     feature <- points$ids[[corners[again, "geom"][[1]]]]
-    bad_map("reference", sprintf("not points: feature %.0f has several points", feature))
+    bad_map("reference", sprintf("features must be single points, but feature %.0f has several", feature))
   }
   texts <- points$values$texts
   numbers <- ifelse(is.na(points$values$numbers), whole_numbers(texts), points$values$numbers)
   bad <- which(is.na(numbers) | numbers != trunc(numbers) | abs(numbers) > CATEGORY_LIMIT)
   if (length(bad)) {
-    text <- "the class of feature %.0f is %s, which is not a whole number"
+    text <- "classes must be whole numbers, but the class of feature %.0f is %s"
     bad_map("reference", sprintf(text, points$ids[[bad[[1]]]], texts[[bad[[1]]]]))
   }
   template <- template_of(source)

@@ -47,7 +47,7 @@ no_script <- function() {
 no_table <- function(outputs) {
   grids <- vapply(outputs, function(output) sprintf("r.out.ascii in line %d", output$line), "")
   content <- if (length(grids)) paste(grids, collapse = ", ") else "no r.stats"
-  text <- "expected a table, but the script has %s: rcell_run returns all outputs"
+  text <- "the script must write a table; got %s: use rcell_run to get all outputs"
   refuse(sprintf(text, content), "script")
 }
 

@@ -75,7 +75,7 @@ all_cells <- function(source) {
 }
 
 warn_of_floats <- function(name) {
-  text <- "%s: floats of 32 bits are not exact beyond 16777216, but the map has larger values"
+  text <- "%s: 32-bit floats are not exact beyond 16777216, but the map contains larger values"
   warning(sprintf(text, name), call. = FALSE)
   FALSE
 }
@@ -123,7 +123,7 @@ whole_cells <- function(source, cells, first_row) {
     reason <- if (abs(value) > CATEGORY_LIMIT) beyond else source$remedy
     text <- paste0("not a map of whole numbers: ", place, reason)
   } else {
-    text <- "scale= does not fit: %s, and %.0f times that is beyond %.0f"
+    text <- "scale= is too large: %s, and %.0f times that exceeds %.0f"
     text <- sprintf(text, place, source$scale, CATEGORY_LIMIT)
   }
   bad_map(source$name, text, row, column, value)

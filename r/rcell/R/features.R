@@ -174,7 +174,7 @@ check_kinds <- function(role, ids, kinds) {
   wrong <- which(!(kinds %in% role$kinds))
   if (!length(wrong)) return(invisible())
   kind <- kinds[[wrong[[1]]]]
-  text <- sprintf("not %s: feature %.0f is a %s", role$are, ids[[wrong[[1]]]], kind)
+  text <- sprintf("features must be %s, but feature %.0f is a %s", role$are, ids[[wrong[[1]]]], kind)
   if (kind %in% CURVED_KINDS) {
     text <- paste0(
       text, ", but terra does not read curves: convert the layer first, with ogr2ogr -nlt ",
@@ -189,7 +189,7 @@ features_of_vector <- function(role, vector, field) {
   kind <- geomtype(vector)
   is_kept <- has_geometry(vector)
   if (any(is_kept) && kind != role$are) {
-    bad_map(role$name, sprintf("not %s, but %s", role$are, kind))
+    bad_map(role$name, sprintf("features must be %s; got %s", role$are, kind))
   }
   values <- NULL
   if (!is.null(field)) {

@@ -23,7 +23,7 @@ named_maps <- function(dots, maps) {
     )
   }
   twice <- names(named)[duplicated(names(named))]
-  if (length(twice)) refuse(sprintf("the map %s is given twice", twice[[1]]), status = 2L)
+  if (length(twice)) refuse(sprintf("maps must have different names; got %s twice", twice[[1]]), status = 2L)
   check_names(names(named))
   for (name in names(dots)) check_spelling(name, dots[[name]])
   named
@@ -60,7 +60,8 @@ check_names <- function(names) {
   plain <- substr(gsub("[^A-Za-z0-9_.]", "_", bad[[1]], useBytes = TRUE), 1L, 63L)
   better <- if (is_name(plain)) plain else paste0("m", plain)
   text <- paste0(
-    "'%s' is not a name for a map: 1 to 64 letters, digits, _ and ., a letter or _ first; write %s"
+    "maps must have names of 1 to 64 letters, digits, _ and ., beginning with a letter or _; ",
+    "got '%s': write %s"
   )
   refuse(sprintf(text, bad[[1]], better), status = 2L)
 }
@@ -75,7 +76,7 @@ source_of <- function(name, map) {
     bad_map(name, "a matrix of integer64: convert it with matrix(as.integer(x), nrow(x))")
   }
   if (is.matrix(map) && (is.numeric(map) || is.logical(map))) return(matrix_source(name, map))
-  text <- "neither a path nor a SpatRaster nor a matrix of numbers, but a %s"
+  text <- "must be a path, a SpatRaster or a matrix of numbers; got an object of class %s"
   bad_map(name, sprintf(text, class(map)[[1]]))
 }
 

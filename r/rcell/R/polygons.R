@@ -114,7 +114,7 @@ check_centres <- function(polygons, without) {
     bad_map("zones", "no polygon contains the centre of a cell")
   }
   if (!length(without)) return(invisible())
-  text <- "zones: %d of %d polygons contain no centre of a cell: %s"
+  text <- "zones: %d of %d polygons contain no cell centre: %s"
   names <- feature_names(polygons, without)
   warning(sprintf(text, length(without), length(polygons$ids), names), call. = FALSE)
 }
@@ -123,7 +123,7 @@ warn_of_losers <- function(polygons, losers, is_contested, columns) {
   text <- paste(
     "zones: %d cells are in more than one polygon, the first at row %d, column %d:",
     "they belong to the later polygon, and not to %s;",
-    "each = TRUE processes polygons one after another"
+    "each = TRUE processes overlapping polygons separately"
   )
   row <- (is_contested[[1]] - 1L) %/% columns + 1L
   column <- (is_contested[[1]] - 1L) %% columns + 1L

@@ -6,7 +6,7 @@
 # numbers.
 INEXACT_FLOAT <- 2^53
 COMPLEX_TYPES <- c("CInt16", "CInt32", "CFloat32", "CFloat64")
-ROTATED <- "a rotated transform: warp the map to a north-up grid first (terra: rectify)"
+ROTATED <- "its transform is rotated: warp the map to a north-up grid first (terra: rectify)"
 
 raster_source <- function(name, raster, is_opened_here = FALSE) {
   # S4 methods would wrap errors of their arguments in their own errors.
@@ -115,12 +115,12 @@ check_file <- function(name, raster, facts, band) {
   }
   if (facts$is_rotated) bad_map(name, ROTATED)
   if (facts$has_points_alone) {
-    bad_map(name, "has ground control points and no transform: warp it first")
+    bad_map(name, "has ground control points but no transform: warp it first")
   }
   lines <- if (band <= length(facts$bands)) facts$bands[[band]] else character()
   type <- sub("^.*Type=([A-Za-z0-9]+).*$", "\\1", lines[1])
   if (type %in% COMPLEX_TYPES) {
-    bad_map(name, sprintf("not a map of whole numbers: its cells are of the type %s", type))
+    bad_map(name, sprintf("not a map of whole numbers: its cells are of type %s", type))
   }
   if (type %in% c("Int64", "UInt64")) check_wide_null(name, lines)
   if (any(grepl("PIXELTYPE=SIGNEDBYTE", lines, fixed = TRUE)) && "INT1U" %in% datatype(raster)) {

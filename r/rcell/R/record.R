@@ -52,7 +52,7 @@ rcell_verify <- function(path) {
     other_files(list(call$words, call$named), folder)
   )
   if (sum_of(program_path()) != record$program) {
-    text <- "the program differs: it was rcell %s, but this is %s"
+    text <- "the program differs: rcell %s wrote the table, but this is rcell %s"
     told <- c(told, sprintf(text, record$versions$rcell, packageVersion("rcell")))
   }
   arguments <- lapply(c(call$words, call$named), placed_argument, folder)
@@ -202,7 +202,7 @@ plain_argument <- function(name, value, folder) {
   if (is.null(value)) return(NULL)
   if (!(is.numeric(value) || is.logical(value) || is.character(value) || is.list(value)) ||
     is.object(value) || !is.null(dim(value))) {
-    text <- "arguments must be paths, numbers or texts to be recorded; got a %s"
+    text <- "arguments must be paths, numbers or strings to be recorded; got an object of class %s"
     refuse(sprintf(text, class(value)[[1]]), status = 2L)
   }
   if (is.null(names(value)) && !is.list(value) && length(value) == 1L) return(value)
@@ -253,7 +253,7 @@ other_files <- function(told, folder) {
   if (!is.list(told)) return(NULL)
   if (is.null(told$sha256)) return(unlist(lapply(unname(told), other_files, folder)))
   path <- file.path(folder, told$path)
-  if (file.exists(path) && sum_of(path) != told$sha256) sprintf("%s differs", told$path)
+  if (file.exists(path) && sum_of(path) != told$sha256) sprintf("%s has changed", told$path)
 }
 
 other_runs <- function(now, then) {
@@ -267,7 +267,7 @@ other_runs <- function(now, then) {
   scripts <- lapply(list(now, then), function(runs) lapply(runs, `[[`, "script"))
   c(
     if (length(maps)) sprintf("the cells of %s differ", unique(maps)),
-    if (!identical(scripts[[1]], scripts[[2]])) "the scripts differ: other lines were run"
+    if (!identical(scripts[[1]], scripts[[2]])) "the scripts differ: the call ran other lines"
   )
 }
 
@@ -279,12 +279,12 @@ other_lines <- function(kept, now) {
   count <- min(lengths(lines))
   different <- which(lines[[1]][seq_len(count)] != lines[[2]][seq_len(count)])
   if (!length(different)) {
-    text <- "the table has %d lines, but its call returns %d"
+    text <- "the table has %d lines, but the call returns %d"
     return(sprintf(text, length(lines[[1]]), length(lines[[2]])))
   }
   first <- different[[1]]
   rest <- length(different) - 1L
   more <- if (rest) sprintf(" and in %d more %s", rest, if (rest == 1L) "line" else "lines") else ""
-  text <- "the table differs in line %d%s: `%s`, but its call returns `%s`"
+  text <- "the table differs in line %d%s: `%s`, but the call returns `%s`"
   sprintf(text, first, more, lines[[1]][[first]], lines[[2]][[first]])
 }

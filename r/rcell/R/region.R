@@ -16,11 +16,11 @@ region_of <- function(name, raster) {
   edges <- as.vector(ext(raster))[c("ymax", "ymin", "xmax", "xmin")]
   spelled <- paste(EDGES, format(edges, digits = 15, trim = TRUE), collapse = ", ")
   if (any(!is.finite(edges))) {
-    text <- sprintf("a transform with a number that is not finite: its edges are %s", spelled)
+    text <- sprintf("its transform must have finite numbers; its edges are %s", spelled)
     bad_map(name, text)
   }
   if (edges[[3]] < edges[[4]]) {
-    text <- sprintf("a transform whose columns are from east to west: its edges are %s", spelled)
+    text <- sprintf("its transform must have columns from west to east; its edges are %s", spelled)
     bad_map(name, text)
   }
   if (any(abs(edges) >= EDGE_LIMIT)) {
@@ -45,7 +45,7 @@ check_region <- function(name, region) {
   is_flat <- c(numbers[[1]] <= numbers[[2]], numbers[[3]] <= numbers[[4]])
   if (any(is_flat)) {
     sides <- if (is_flat[[1]]) c("north", "south") else c("east", "west")
-    text <- "%s is not above %s once they are rounded to %d decimals: %s"
+    text <- "%s must exceed %s after rounding to %d decimals; got %s"
     bad_map(name, sprintf(text, sides[[1]], sides[[2]], DECIMALS, region_text(region)))
   }
 }

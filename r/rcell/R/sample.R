@@ -11,7 +11,7 @@ NUMBERS_OF_A_HASH <- 2^48
 
 rcell_sample <- function(x, n, seed, allocation = "equal", labels = NULL, crs = NULL) {
   is_seed <- is_whole(seed) || (is.character(seed) && length(seed) == 1L && !is.na(seed))
-  check_argument(is_seed, seed, "seed= must be a whole number or a text")
+  check_argument(is_seed, seed, "seed= must be a whole number or a string")
   check_numbers(n, allocation)
   sources <- sources_of(list(map = x), crs)
   labels <- labels_from(labels, sources$map$labels)
@@ -82,7 +82,7 @@ warn_of_few <- function(class, sizes, wanted) {
   few <- which(sizes < wanted)
   if (!length(few)) return(invisible())
   listed <- shortened(sprintf("%d (%.0f of %.0f)", class[few], sizes[few], wanted[few]))
-  warning(sprintf("fewer cells than wanted of the class %s", listed), call. = FALSE)
+  warning(sprintf("some classes have fewer cells than requested: %s", listed), call. = FALSE)
 }
 
 # Return the columns of cells that are identified by class, row, and position among the cells of

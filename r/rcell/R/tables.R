@@ -5,11 +5,11 @@
 finished <- function(table, answer, statement, area, percent, wide) {
   needs <- c(if (!is.null(area)) "area=", if (percent) "percent=", if (wide) "wide=")
   if (length(needs) && !("c" %in% statement$flags)) {
-    text <- sprintf("%s needs a table with cells: r.stats -c", needs[[1]])
+    text <- sprintf("%s requires a table with counts: use r.stats -c", needs[[1]])
     refuse(text, "script", statement$line)
   }
   if (wide && length(statement$maps) != 2L) {
-    text <- "wide= needs a table of two maps, but this one has %d"
+    text <- "wide= requires a table of two maps, but this table has %d"
     refuse(sprintf(text, length(statement$maps)), "script", statement$line)
   }
   if (!is.null(area)) table[[area_title(area)]] <- areas_of(table$cells, answer$source, area)

@@ -12,7 +12,7 @@ rcell_trajectories <- function(maps, years = NULL, area, labels = NULL, include_
   check_argument(is_list, maps, "maps= must be a list of two or more maps")
   check_years(years, length(maps))
   is_ascending <- !is.null(years) && !is.unsorted(years)
-  check_argument(is_ascending, years, "years= must ascend, one for each map")
+  check_argument(is_ascending, years, "years= must be ascending, one for each map")
   names(maps) <- sprintf("map_%d", seq_along(maps))
   sources <- sources_of(maps, crs)
   area <- unit_of(choice, sources[[1]])
@@ -94,7 +94,7 @@ count_sequences <- function(sources, area) {
   base <- max(length(classes), 2)
   size <- sum(cumprod(rep(base, 32)) <= CATEGORY_LIMIT)
   packs <- unname(split(names, (seq_along(names) - 1L) %/% size))
-  rule <- "maps= must be at most %d maps with %d classes"
+  rule <- "maps= must list at most %d maps for %d classes"
   check_argument(length(packs) <= limit, length(names), rule, size * limit, length(classes))
   ranks <- unlist(lapply(names, function(name) rank_lines(name, classes, 1)))
   packed <- sprintf("pack_%d", seq_along(packs))

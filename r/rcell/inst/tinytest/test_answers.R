@@ -89,7 +89,7 @@ shapes <- vect(c("POLYGON ((500000 5400000, 500450 5400000, 500450 5401200, 5000
 shapes$number <- c(20, 10, 30)
 shapes$name <- c("West", "East", "Dot")
 burnt <- rasterize(shapes[1:2], land, field = "number")
-expect_warning(found <- rcell_composition(land, zones = shapes, zone_field = "number"), "1 of 3 polygons contain no centre of a cell: feature 3 [(]30[)]")
+expect_warning(found <- rcell_composition(land, zones = shapes, zone_field = "number"), "1 of 3 polygons contain no cell centre: feature 3 [(]30[)]")
 same(found, rcell_composition(land, zones = burnt))
 expect_identical(unique(suppressWarnings(rcell_composition(land, zones = shapes, zone_field = "name"))[c("zone", "zone_label")])$zone_label, c("West", "East"))
 file <- file.path(room, "zones.gpkg")

@@ -47,7 +47,7 @@ expect_identical(counts(rast(three)[[2]]), expected)
 # Complex cells are rejected because terra drops their imaginary part.
 writeBin(as.numeric(1:8), file("complex.raw"), size = 4)
 complex <- write_vrt("complex.vrt", band("complex.raw", type = "CFloat32", bytes = 8))
-expect_identical(refusal(counts(complex))$text, "not a map of whole numbers: its cells are of the type CFloat32")
+expect_identical(refusal(counts(complex))$text, "not a map of whole numbers: its cells are of type CFloat32")
 expect_inherits(refusal(counts(rast(complex))), "rcell_bad_map")
 
 # terra reads 64-bit integers as doubles, so a null value beyond 2^53 may hide other numbers.
@@ -61,12 +61,12 @@ expect_inherits(refusal(counts(wide("wide.vrt", "18446744073709551615", "UInt64"
 
 # Invalid transforms are rejected.
 for (transform in c("nan, 1, 0, 0, 0, -1", "0, inf, 0, 0, 0, -1", "0, 1, 0, 0, 0, nan")) {
-  expect_true(grepl("^a transform with a number that is not finite", refusal(counts(write_vrt("nan.vrt", transform = transform)))$text), info = transform)
+  expect_true(grepl("^its transform must have finite numbers", refusal(counts(write_vrt("nan.vrt", transform = transform)))$text), info = transform)
 }
 mirrored <- write_vrt("mirrored.vrt", transform = "10, -1, 0, 100, 0, -1")
-expect_true(grepl("^a transform whose columns are from east to west", refusal(counts(mirrored))$text))
+expect_true(grepl("^its transform must have columns from west to east", refusal(counts(mirrored))$text))
 turned <- write_vrt("turned.vrt", transform = "10, 1, 0.5, 100, 0.5, -1")
-expect_true(grepl("^a rotated transform", refusal(counts(suppressWarnings(rast(turned))))$text))
+expect_true(grepl("^its transform is rotated", refusal(counts(suppressWarnings(rast(turned))))$text))
 
 # Maps with different reference systems are rejected, and a map without one needs crs=.
 gauss <- write_vrt("gauss.vrt", crs = "EPSG:31467")
@@ -152,7 +152,7 @@ options(rcell.python = "")
 for (name in c("a=b", "a-b", "1a", strrep("x", 65))) {
   found <- refusal(rcell_run("r.stats input=a", maps = structure(list(plain), names = name)))
   expect_identical(found[c("source", "line", "status")], list(source = "arguments", line = 0L, status = 2L), info = name)
-  expect_true(grepl("is not a name for a map: 1 to 64 letters", found$text, fixed = TRUE), info = name)
+  expect_true(grepl("must have names of 1 to 64 letters", found$text, fixed = TRUE), info = name)
 }
 
 # A label keeps a leading Unicode blank.

@@ -109,7 +109,7 @@ expect_inherits(refusal(suppressWarnings(counts(file("half.tif")))), "rcell_read
 writeLines(c("<VRTDataset rasterXSize=\"5\" rasterYSize=\"4\"><GeoTransform>5, 1, 0.5, 9, 0.5, -1</GeoTransform>",
   "<VRTRasterBand dataType=\"Int32\" band=\"1\"><SimpleSource><SourceFilename relativeToVRT=\"1\">a b.tif</SourceFilename>",
   "<SourceBand>1</SourceBand></SimpleSource></VRTRasterBand></VRTDataset>"), file("turned.vrt"))
-expect_true(grepl("^a rotated transform", refusal(counts(file("turned.vrt")))$text))
+expect_true(grepl("^its transform is rotated", refusal(counts(file("turned.vrt")))$text))
 
 # Edges are compared as texts with eight decimals.
 placed <- function(west, east = 9) rast(matrix(1, 2, 2), extent = ext(west, east, 47, 48), crs = "EPSG:4326")
@@ -123,7 +123,7 @@ thirds <- rast(nrows = 60, ncols = 60, xmin = 1 / 3, xmax = 1 / 3 + 0.5, ymin = 
 expect_identical(as.vector(ext(rcell_grid("", "x", x = thirds))), as.vector(ext(thirds)))
 expect_identical(counts(rast(matrix(1), extent = ext(500000, 600000, 5e6, 6e6)))$cells, 1L)
 expect_true(grepl("^an edge of more", refusal(counts(rast(matrix(1), extent = ext(0, 1e10, 0, 1), crs = "EPSG:32632")))$text))
-expect_true(grepl("^east is not above west", refusal(counts(rast(matrix(1), extent = ext(0, 1e-9, 0, 1), crs = "EPSG:32632")))$text))
+expect_true(grepl("^east must exceed west", refusal(counts(rast(matrix(1), extent = ext(0, 1e-9, 0, 1), crs = "EPSG:32632")))$text))
 expect_inherits(refusal(counts(rast(nrows = 1, ncols = 65536, vals = 1))), "rcell_bad_map")
 
 # rcell grids are passed to rcell unchanged.

@@ -37,11 +37,11 @@ expect_identical(refusal(rcell_run("r.reclass input=lc output=k\n1 = 1\nr.stats 
 # Map names.
 expect_identical(refusal(rcell_run("r.stats input=lc"))$status, 2L)
 expect_identical(refusal(rcell_run("r.stats input=lc", lc))$status, 2L)
-expect_identical(refusal(rcell_run("r.stats input=lc", lc = lc, maps = list(lc = lc)))$text, "the map lc is given twice")
+expect_identical(refusal(rcell_run("r.stats input=lc", lc = lc, maps = list(lc = lc)))$text, "maps must have different names; got lc twice")
 expect_identical(refusal(rcell_grid("", "lend", lc = lc))$text, "no map lend: the only map is lc")
 expect_identical(refusal(rcell_run("r.stats input=lc", maps = list("land-use" = lc)))$source, "arguments")
 expect_identical(refusal(rcell_run(NA, lc = lc))$text, "the script is not text")
-expect_true(grepl("^neither a path nor a SpatRaster", refusal(rcell_run("", lc = 1:3))$text))
+expect_true(grepl("^must be a path, a SpatRaster", refusal(rcell_run("", lc = 1:3))$text))
 expect_true(grepl("^a matrix of integer64", refusal(rcell_run("", lc = structure(matrix(0, 1, 2), class = "integer64")))$text))
 expect_identical(refusal(rcell_patches(lc, 6))$text, "connectivity= must be 4 or 8; got 6")
 expect_identical(refusal(rcell_patches(lc, classes = 3e9))$text, "classes= must be whole numbers from -2147483647 to 2147483647; got 3e+09")

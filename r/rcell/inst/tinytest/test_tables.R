@@ -49,7 +49,7 @@ expect_identical(rownames(rcell_table("r.stats -cnl input=lc,zone", lc = rcell_g
   zone = zone, wide = TRUE)), c("built \u00fcp, mostly", "water"))
 
 # Invalid arguments.
-expect_identical(refusal(rcell_table("r.stats input=lc", lc = lc, area = "ha"))$text, "area= needs a table with cells: r.stats -c")
+expect_identical(refusal(rcell_table("r.stats input=lc", lc = lc, area = "ha"))$text, "area= requires a table with counts: use r.stats -c")
 expect_identical(refusal(rcell_table("r.stats -c input=lc", lc = lc, area = "acre"))$text, "area= must be one of m2, ha, km2; got \"acre\"")
 expect_identical(refusal(rcell_table("r.stats -c input=lc", lc = lc, wide = TRUE))$line, 1L)
 expect_inherits(refusal(rcell_table("r.out.ascii input=lc", lc = lc)), "rcell_refused")
@@ -82,10 +82,10 @@ for (count in c(2, 3, 20)) {
   expect_identical(as.integer(table(values(found$maps$changes))), found$changes$cells)
 }
 years <- function(...) refusal(rcell_trajectories(series, ...))$text
-expect_identical(years(20:1), "years= must ascend, one for each map; got 20, 19, 18, 17, 16 and 15 more")
+expect_identical(years(20:1), "years= must be ascending, one for each map; got 20, 19, 18, 17, 16 and 15 more")
 expect_identical(refusal(rcell_trajectories(series[1], 2000))$text, "maps= must be a list of two or more maps; got a list")
 many <- rep(list(matrix(1:30, 5)), 100)
-expect_identical(refusal(rcell_trajectories(many, 1:100))$text, "maps= must be at most 96 maps with 30 classes; got 100")
+expect_identical(refusal(rcell_trajectories(many, 1:100))$text, "maps= must list at most 96 maps for 30 classes; got 100")
 
 expect_identical(leftovers(), character())
 

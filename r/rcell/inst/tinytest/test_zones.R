@@ -63,7 +63,7 @@ stack <- polygons(c(box(0, 4), box(0, 4), box(2, 8), box(0.1, 0.2)), name = c("a
 hidden <- polygons(rep(box(0, 4), 3), name = c("a", "b", "c"))
 expect_warning(rcell_composition(land, zones = hidden), "and not to features 1, 2")
 expect_warning(rcell_composition(land, zones = stack), "16 cells are in more than one polygon, the first at row 1, column 1: they belong to the later polygon, and not to feature 1")
-expect_warning(rcell_composition(land, zones = stack), "zones: 1 of 4 polygons contain no centre of a cell: feature 4")
+expect_warning(rcell_composition(land, zones = stack), "zones: 1 of 4 polygons contain no cell centre: feature 4")
 expect_warning(rcell_composition(land, zones = stack, zone_field = "name"), "and not to feature 1 [(]a[)]")
 expect_identical(cells_of(zones = stack, zone_field = "name"), c(b = 8L, c = 24L))
 
@@ -83,7 +83,7 @@ expect_equal(found$sum, 0.12 + 0.5 + 1.25 + 2.5 * 28)
 expect_equal(found$variance, mean((c(0.12, 0.5, 1.25, rep(2.5, 28)) - found$mean)^2))
 fault <- function(...) refusal(rcell_zonal(slope, land, ...))$text
 expect_identical(fault(), "not a map of whole numbers: the cell at row 1, column 1 is 0.125; scale = 100 rounds to 1/100")
-expect_identical(fault(scale = 2e9), "scale= does not fit: the cell at row 1, column 3 is 1.25, and 2000000000 times that is beyond 2147483647")
+expect_identical(fault(scale = 2e9), "scale= is too large: the cell at row 1, column 3 is 1.25, and 2000000000 times that exceeds 2147483647")
 expect_identical(fault(scale = 0.5), "scale= must be a whole number from 1 to 2147483647; got 0.5")
 
 # terra reads a missing number as 0. A SpatVector whose file contains missing numbers is an error; if its file is
@@ -103,7 +103,7 @@ if (!anyNA(vect(lacking)$number)) {
 }
 
 # Files that are not layers of polygons.
-expect_identical(refusal(rcell_composition(land, zones = vect("POINT (1 1)", crs = "EPSG:32632")))$text, "not polygons, but points")
+expect_identical(refusal(rcell_composition(land, zones = vect("POINT (1 1)", crs = "EPSG:32632")))$text, "features must be polygons; got points")
 expect_identical(refusal(rcell_composition(land, zones = file("none.gpkg")))$text,
   sprintf("cannot open: %s: No such file or directory", file("none.gpkg")))
 writeLines("north", file("text.md"))
