@@ -1,5 +1,5 @@
 # SPDX-License-Identifier: Apache-2.0 OR GPL-2.0-or-later
-"""rcell for QGIS: toolbox algorithms that use the proved program."""
+"""rcell for QGIS: toolbox algorithms that run the proved program."""
 
 from __future__ import annotations
 

@@ -1,5 +1,5 @@
 # SPDX-License-Identifier: Apache-2.0 OR GPL-2.0-or-later
-"""Connect the core to QGIS: find programs, and report the progress of a run."""
+"""Connect the core to QGIS: find the programs, and report the progress of runs."""
 
 from __future__ import annotations
 
@@ -30,19 +30,19 @@ _PROGRAMS = {
 
 
 class Cancelled(RcellError):
-    """Raised if the user cancels the run, after the program has been stopped."""
+    """Raised if the user cancels a run, which stops the program."""
 
     def __str__(self) -> str:
         return "cancelled"
 
 
 def host_of(setting: str, feedback: Any) -> Host:
-    """Return the host for a run, with QGIS feedback.
+    """Return the host for a run, which reports to QGIS.
 
     Parameters
     ----------
     setting : str
-        The program's path in the settings, or an empty string.
+        The path of the program in the settings, or an empty string.
     feedback : QgsProcessingFeedback
     """
     warned: set[str] = set()
@@ -96,9 +96,9 @@ def find_program(setting: str = "", name: str = "rcell-pipe") -> str:
 
     Only patches of large maps need rcell-join, and only text grids need rcell.
 
-    The program is looked for in this order: the setting, the variable RCELL_PIPE (RCELL_JOIN,
-    RCELL), next to the program that RCELL names, in the plugin, and on the path. The setting may
-    name rcell-pipe or rcell; the other programs must be next to it.
+    These places are searched in order: the setting, the variable RCELL_PIPE (or RCELL_JOIN, or
+    RCELL), the folder of the program that RCELL names, the plugin, and PATH. The setting may name
+    rcell-pipe or rcell. The other programs must be next to it.
 
     Raises
     ------
@@ -118,16 +118,14 @@ def find_program(setting: str = "", name: str = "rcell-pipe") -> str:
     if not path:
         raise MissingProgram(
             f"the program {name} was not found: install the plugin from its zip, which contains "
-            "it; or set the path under "
-            f"{_SETTINGS}, or in the environment variable {variable}"
+            f"it, or set its path under {_SETTINGS} or in the environment variable {variable}"
         )
     if path == own:
         _set_executable(path)
     if not os.path.isfile(path) or not os.access(path, os.X_OK):
         raise MissingProgram(
             f"the program {path} does not exist or is not executable: correct the path under "
-            f"{_SETTINGS}, or leave it empty to use "
-            "the plugin's own"
+            f"{_SETTINGS}, or leave it empty to use the plugin's program"
         )
     return known(path)
 

@@ -1,5 +1,5 @@
 # SPDX-License-Identifier: Apache-2.0 OR GPL-2.0-or-later
-"""Convert QGIS layers to maps and polygons; the layer's settings take precedence over the file."""
+"""Convert QGIS layers to maps and polygons. A layer's settings override those in its file."""
 
 from __future__ import annotations
 
@@ -51,10 +51,8 @@ def raster_of(layer: QgsRasterLayer, name: str, band: int | None = None) -> Sour
         GDAL cannot open the layer, or the layer is not a map of categories.
     """
     if layer.providerType() != "gdal":
-        reason = (
-            f"its provider is {layer.providerType()}, but only rasters that GDAL opens are read"
-        )
-        raise BadMap(name, f"{reason}: export it as a GeoTIFF first")
+        reason = f"its provider must be gdal; got {layer.providerType()}"
+        raise BadMap(name, f"{reason}: export the layer as a GeoTIFF first")
     if is_grid(layer.source()):
         raster: Any = open_path(name, layer.source())
     else:
@@ -71,7 +69,7 @@ def raster_of(layer: QgsRasterLayer, name: str, band: int | None = None) -> Sour
 
 
 def zones_of(layer: Any) -> Source | FeatureLayer:
-    """Convert a layer to zones, which are a raster or polygons.
+    """Convert a layer to zones: a raster or polygons.
 
     Raises
     ------
@@ -81,7 +79,7 @@ def zones_of(layer: Any) -> Source | FeatureLayer:
     if isinstance(layer, QgsRasterLayer):
         return raster_of(layer, layer.name())
     if not isinstance(layer, QgsVectorLayer) or layer.geometryType() != QgsWkbTypes.PolygonGeometry:
-        raise BadMap(layer.name(), "neither polygons nor a raster")
+        raise BadMap(layer.name(), "must be a raster or polygons")
     return _features_of(layer)
 
 
@@ -100,7 +98,7 @@ def reference_of(layer: Any) -> Any:
 
 def _features_of(layer: QgsVectorLayer) -> FeatureLayer:
     if layer.providerType() == "ogr" and "|" not in layer.source():
-        # Fail if there are several layers, of which QGIS would use the first.
+        # Raise an error if there are several layers, because QGIS would use the first.
         ogr.open_layer(layer.name(), layer.source())
     rows = [
         (feature.id(), list(feature.attributes()), bytes(feature.geometry().asWkb()))
@@ -114,7 +112,7 @@ def _features_of(layer: QgsVectorLayer) -> FeatureLayer:
 class FeatureLayer:
     """The polygons or points of a layer, copied for the core.
 
-    Only the main thread may access the layer itself.
+    Only the main thread may access the QGIS layer.
 
     Attributes
     ----------
@@ -172,7 +170,7 @@ def wkt_of(crs: QgsCoordinateReferenceSystem) -> str:
 
 
 def labels_of(layer: QgsRasterLayer, band: int) -> dict[int, str]:
-    """Return the labels in a layer's style, without labels that only repeat the number."""
+    """Return the labels in a layer's style, except labels that only repeat the value."""
     labels = {}
     for value, label in _classes_of(layer.renderer(), band):
         text = _COUNT.sub("", label)
@@ -189,7 +187,7 @@ def _is_number(text: str, value: float) -> bool:
 
 
 def _classes_of(renderer: Any, band: int) -> list[tuple[float, str]]:
-    """Return the values and labels in a style that has an entry for each class."""
+    """Return the values and labels in a style, if it has an entry for each class."""
     if isinstance(renderer, QgsPalettedRasterRenderer) and renderer.band() == band:
         return [(entry.value, entry.label) for entry in renderer.classes()]
     if (
@@ -216,7 +214,7 @@ def colours_of(layer: QgsRasterLayer, band: int) -> dict[int, Any]:
 
 
 def _uses_nodata(layer: QgsRasterLayer, band: int) -> bool:
-    """Return whether the file's nodata value is null, unless the user disabled it.
+    """Return whether the file's nodata value is null, which the user may have disabled.
 
     QGIS ignores nodata values that its data type cannot represent, such as -128 in signed bytes.
     Here, these values are null.
@@ -226,7 +224,7 @@ def _uses_nodata(layer: QgsRasterLayer, band: int) -> bool:
 
 
 def null_ranges_of(layer: QgsRasterLayer, band: int) -> list[tuple[float, float]]:
-    """Return the nodata ranges in the layer's properties, in addition to the file's value."""
+    """Return the additional nodata ranges in the layer's properties."""
     return [_bounds(span) for span in layer.dataProvider().userNoDataValues(band)]
 
 
@@ -241,7 +239,7 @@ def _bounds(span: QgsRasterRange) -> tuple[float, float]:
 
 
 def names_of(layers: Sequence[QgsRasterLayer], text: str) -> list[str]:
-    """Return the script names of layers: the given names, or names made from the layers' titles.
+    """Return the layers' names for the script: the given names, or names made from their titles.
 
     Raises
     ------
@@ -252,17 +250,18 @@ def names_of(layers: Sequence[QgsRasterLayer], text: str) -> list[str]:
         return made_names([layer.name() for layer in layers])
     names = [name.strip() for name in text.split(",")]
     if len(names) != len(layers):
-        raise Refused(f"{len(names)} names for {len(layers)} rasters", status=2)
+        rule = "NAMES must have as many names as INPUT has rasters"
+        raise Refused(f"{rule}; got {len(names)}, not {len(layers)}", status=2)
     for number, name in enumerate(names):
         if not _NAME.fullmatch(name):
             better = made_names([name])[0]
             raise Refused(
-                f"'{name}' is not a name for a map: 1 to 64 letters, digits, _ and ., a letter "
-                f"or _ first; write {better}",
+                "maps must have names of 1 to 64 letters, digits, _ and ., beginning with a letter "
+                f"or _; got '{name}': write {better}",
                 status=2,
             )
         if name in names[:number]:
-            raise Refused(f"the name `{name}` is given twice", status=2)
+            raise Refused(f"maps must have different names; got {name} twice", status=2)
     return names
 
 

@@ -1,5 +1,5 @@
 # SPDX-License-Identifier: Apache-2.0 OR GPL-2.0-or-later
-"""Define the plugin, which adds algorithms to the toolbox, without menus or windows."""
+"""Define the plugin, which adds algorithms to the toolbox, but no menus or windows."""
 
 from __future__ import annotations
 

@@ -1,5 +1,5 @@
 # SPDX-License-Identifier: Apache-2.0 OR GPL-2.0-or-later
-"""Define the provider of the algorithms, and the provider's setting."""
+"""Define the provider of the algorithms and its setting."""
 
 from __future__ import annotations
 
@@ -18,7 +18,7 @@ class RcellProvider(QgsProcessingProvider):
     """Provides all algorithms of the plugin."""
 
     def id(self) -> str:
-        """Return the prefix of the algorithms' names."""
+        """Return the prefix of algorithm names."""
         return "rcell"
 
     def name(self) -> str:

@@ -44,7 +44,7 @@ _VERSION_OF_META_TYPES = 33800
 
 
 def cells_of(map: ArrayMap, null: int = NULL) -> NDArray[np.int32]:
-    """Return the cells of a map, with the given number for null."""
+    """Return the cells of a map, with the given value for null."""
     is_null = null_cells(map.array, map.null, map.nodata_value)
     return np.where(is_null, null, map.array).astype(np.int32)
 
@@ -68,14 +68,16 @@ def put_shares(path: str, shares: BlockShares, check: Check) -> None:
     """
     like, names = shares.blocks, shares.names
     if not names:
-        raise WriteFailed(f"{path} cannot be written: no class has a share, all cells are null")
+        raise WriteFailed(
+            f"{path} cannot be written: there are no classes, because all cells are null"
+        )
     write_raster(path, _driver(path), shares.percent, math.nan, like, {}, check, names)
 
 
 def _driver(path: str) -> str:
     driver = QgsRasterFileWriter.driverForExtension(os.path.splitext(path)[1])
     if not driver:
-        raise WriteFailed(f"{path} cannot be written: no format has this ending")
+        raise WriteFailed(f"{path} cannot be written: the file name extension is not supported")
     return str(driver)
 
 
@@ -85,9 +87,9 @@ def put_legend(
     colours: Mapping[int, Any],
     context: QgsProcessingContext,
 ) -> bool:
-    """Write a legend to a .qml file next to a raster, and style the raster's layer.
+    """Write a legend to a .qml file next to a raster and style the raster's layer.
 
-    Return False if the raster has too many classes for a legend.
+    Returns False if the raster has too many classes for a legend.
     """
     style = os.path.splitext(path)[0] + ".qml"
     if not os.path.isfile(path):
@@ -128,13 +130,13 @@ class _Style(QgsProcessingLayerPostProcessorInterface):
         layer.triggerRepaint()
 
 
-# Keeps references to the styles: QGIS does not, and the algorithm no longer exists when QGIS calls
-# them.
+# Keeps references to the styles, because QGIS does not, and uses them after the algorithm is
+# deleted.
 _styles: list[_Style] = []
 
 
 def counts_of(map: ArrayMap) -> dict[int, int]:
-    """Count the cells of each category, without null."""
+    """Count the cells of each category, ignoring null cells."""
     is_null = null_cells(map.array, map.null, map.nodata_value)
     categories, cells = np.unique(map.array[~is_null], return_counts=True)
     return dict(zip(categories.tolist(), cells.tolist()))
@@ -154,7 +156,7 @@ def counted_classes(map: ArrayMap, like: Source, crs: Any) -> list[tuple[int, st
 
 
 def counted(label: str, cells: int, like: Source, crs: Any) -> str:
-    """Return a label with cells and, if all cells have the same area, the area.
+    """Append the number of cells to a label and, if all cells have the same area, the area.
 
     The area is in hectares, or in square kilometres if a cell covers at least 1 km2.
     """

@@ -1,5 +1,5 @@
 # SPDX-License-Identifier: Apache-2.0 OR GPL-2.0-or-later
-"""Write tables and rasters with GDAL, and name each file only when the file is complete."""
+"""Write tables and rasters with GDAL and name each file only when the file is complete."""
 
 from __future__ import annotations
 
@@ -27,7 +27,7 @@ from .engine.readers.osr import quiet
 _OPTIONS = ["COMPRESS=DEFLATE", "ZLEVEL=1", "PREDICTOR=2", "TILED=YES", "BIGTIFF=IF_SAFER"]
 _COPIED_BYTES = 1 << 22
 _CHECKED_ROWS = 1 << 14
-# GDAL's file next to a raster.
+# The ending of the file that GDAL writes next to a raster.
 _BESIDE = ".aux.xml"
 _ENDING = (signal.SIGHUP, signal.SIGQUIT, signal.SIGTERM)
 _TYPES = {
@@ -41,16 +41,16 @@ Check = Callable[[], None]
 
 
 def no_check() -> None:
-    """Do nothing, for writing that nothing interrupts."""
+    """Do nothing. This check never interrupts writing."""
 
 
 def check_target(path: str, inputs: Sequence[str] = ()) -> None:
-    """Check that a file can be written, before work begins.
+    """Check that a file can be written before work begins.
 
     Raises
     ------
     WriteFailed
-        The folder is missing or may not be written to, or the path is a folder.
+        The folder is missing or not writable, or the path is a folder.
     Refused
         The file is one of the inputs.
     """
@@ -80,7 +80,7 @@ def is_file_of_table(path: str) -> bool:
 
 
 def distinct(table: Table) -> list[Column]:
-    """Return the columns of a table with names that differ regardless of case, for databases."""
+    """Return a table's columns with names that differ regardless of case, as databases require."""
     taken: set[str] = set()
     columns = []
     for column in table.data:
@@ -93,14 +93,14 @@ def distinct(table: Table) -> list[Column]:
 
 
 def write_table(path: str, table: Table, check: Check = no_check) -> None:
-    """Write a table as CSV or GeoPackage, depending on the ending of the path.
+    """Write a table as CSV or GeoPackage, depending on the file name extension.
 
     `check` is called at intervals, and can raise an exception to stop the writing.
 
     Raises
     ------
     WriteFailed
-        An old file under the path is unchanged.
+        The table cannot be written. An existing file is unchanged.
     """
     stem, ending = os.path.splitext(path)
     columns = distinct(table)
@@ -131,7 +131,7 @@ def _write_csv(part: str, types: str, columns: list[Column], check: Check) -> No
 
 
 def _write_geopackage(part: str, name: str, columns: list[Column], check: Check) -> None:
-    """Create a table with GDAL, and insert rows with SQLite, which is ten times faster."""
+    """Create a table with GDAL and insert rows with SQLite, which is ten times faster."""
     values = [column.listed() for column in columns]
     count = len(values[0])
     with quiet():
@@ -150,7 +150,7 @@ def _write_geopackage(part: str, name: str, columns: list[Column], check: Check)
 
 
 def _insert(part: str, name: str, identifier: str, rows: Iterable[Any], count: int) -> None:
-    """Insert rows without triggers, which would count each row and are restored at the end."""
+    """Insert rows without the table's triggers, which would count each row."""
     with contextlib.closing(sqlite3.connect(part)) as connection, connection:
         triggers = connection.execute(
             "SELECT name, sql FROM sqlite_master WHERE type = 'trigger' AND tbl_name = ?", [name]
@@ -169,9 +169,9 @@ def _insert(part: str, name: str, identifier: str, rows: Iterable[Any], count: i
 
 
 def _make_geopackage(part: str, name: str, columns: list[Column]) -> str:
-    """Create an empty table, and return the column names, beginning with the row number.
+    """Create an empty table and return a list of its columns, beginning with the row id.
 
-    After an error, return an empty string.
+    Returns an empty string after an error.
     """
     source = ogr.GetDriverByName("GPKG").CreateDataSource(part)
     options = ["FID=rcell_fid"] if any(column.name.lower() == "fid" for column in columns) else []
@@ -213,7 +213,7 @@ def write_raster(
     null : float
         The value of null cells, which becomes nodata.
     like : Source
-        The map whose position and reference system are used.
+        The map that defines the position and the reference system.
     labels : mapping of int to str
     check : callable
         A function that is called at intervals, and can raise an exception to stop the writing.
@@ -223,7 +223,7 @@ def write_raster(
     Raises
     ------
     WriteFailed
-        An old file under the path is unchanged.
+        The raster cannot be written. An existing file is unchanged.
     """
     with partly(path) as part, quiet():
         gdal.ErrorReset()
@@ -241,7 +241,7 @@ def write_raster(
 
 
 def _copied(folder: str, part: str, driver: str, tiff: str) -> str:
-    """Copy a raster in memory, and return the copy's path, or an empty string after an error.
+    """Copy a raster in memory and return the copy's path, or an empty string after an error.
 
     The copy is in memory because GDAL does not report every full disk.
     """
@@ -260,7 +260,7 @@ def _write_tiff(
     check: Check,
     names: Sequence[str],
 ) -> bool:
-    """Write a GeoTIFF with a band for each layer of cells, and return whether that succeeded."""
+    """Write a GeoTIFF with a band for each layer of cells and return whether that succeeded."""
     layers = cells if cells.ndim == 3 else cells[None]
     count, rows, cols = layers.shape
     kind = gdal.GDT_Float64 if cells.dtype.kind == "f" else gdal.GDT_Int32
@@ -300,7 +300,7 @@ def _copy_out(source: str, target: str) -> None:
 
 
 def _flushed(dataset: Any) -> bool:
-    """Flush a dataset, and return whether that succeeded."""
+    """Flush a dataset and return whether that succeeded."""
     gdal.ErrorReset()
     dataset.FlushCache()
     return bool(gdal.GetLastErrorType() < gdal.CE_Failure)
@@ -311,7 +311,7 @@ def _flushed(dataset: Any) -> bool:
 
 @contextlib.contextmanager
 def partly(path: str) -> Iterator[str]:
-    """Yield a temporary path for a file, which is renamed at the end of the block.
+    """Yield a temporary path whose file is renamed at the end of the block.
 
     After an error, no file is left.
 

@@ -1,5 +1,5 @@
 # SPDX-License-Identifier: Apache-2.0 OR GPL-2.0-or-later
-"""Translate the texts of dialogs to the language of QGIS.
+"""Translate dialog texts into the language of QGIS.
 
 The translations are in i18n/rcell_LANGUAGE.qm. Without a translation, texts are in English.
 """
@@ -16,7 +16,7 @@ _FOLDER = os.path.join(os.path.dirname(os.path.abspath(__file__)), "i18n")
 
 
 def tr(text: str) -> str:
-    """Translate a text to the language of QGIS."""
+    """Translate a text into the language of QGIS."""
     return str(QCoreApplication.translate(CONTEXT, text))
 
 
@@ -26,7 +26,7 @@ def noop(text: str) -> str:
 
 
 def translator() -> QTranslator | None:
-    """Load the translations to the language of QGIS, or return None."""
+    """Load the translations for the language of QGIS, or return None if there are none."""
     path = os.path.join(_FOLDER, f"rcell_{QgsApplication.locale()[:2]}.qm")
     translation = QTranslator()
     return translation if os.path.isfile(path) and translation.load(path) else None

@@ -97,7 +97,7 @@ class HostTest(unittest.TestCase):
     def test_another_program(self) -> None:
         for text in ("exit 0", "echo 12 2 1; exit 1", "echo nonsense >&2; exit 7", "kill -9 $$"):
             with self.subTest(text=text), self.assertRaisesRegex(
-                WrongProgram, "is not the program"
+                WrongProgram, "is not a supported version"
             ):
                 host.find_program(self.script(text))
 

@@ -141,7 +141,7 @@ class TableTest(InSession):
         path = made.write(self.path("far.tif"), [[2**24 + 2, 1]], gdal.GDT_Float32)
         self.run_("cross", INPUT=[path], OUTPUT="TEMPORARY_OUTPUT")
         self.assertIn(
-            "warning: far: floats of 32 bits are not exact beyond 16777216, but the map has larger values",
+            "warning: far: 32-bit floats are not exact beyond 16777216, but the map contains larger values",
             self.log.told,
         )
 
@@ -172,7 +172,7 @@ class RefusalsTest(InSession):
         )
         turned = made.write(self.path("turned.tif"), COVER, transform=(0, 20, 3, 0, 3, -20))
         self.refused(
-            "Unable to execute algorithm\nturned: a rotated transform",
+            "Unable to execute algorithm\nturned: its transform is rotated",
             "patches",
             INPUT=turned,
             MAP=self.path("a.tif"),
@@ -217,35 +217,48 @@ class RefusalsTest(InSession):
         self.assertFalse(os.path.exists(self.path("t.gpkg")))
 
     def test_words(self) -> None:
-        self.refused("arguments: no raster is given", "cross", INPUT=[], OUTPUT="TEMPORARY_OUTPUT")
         self.refused(
-            "arguments: 17 rasters, but a table accepts at most 16",
+            "arguments: INPUT must have at least one raster; got none",
+            "cross",
+            INPUT=[],
+            OUTPUT="TEMPORARY_OUTPUT",
+        )
+        self.refused(
+            "arguments: INPUT must have at most 16 rasters; got 17",
             "cross",
             INPUT=[self.cover] * 17,
             OUTPUT="TEMPORARY_OUTPUT",
         )
         self.refused(
-            "cover: has 1 band, and no band 5",
+            "cover: has 1 band, but no band 5",
             "majority",
             INPUT=self.cover,
             BAND=5,
             OUTPUT=self.path("m.tif"),
         )
         self.refused(
-            "no format has this ending", "majority", INPUT=self.cover, OUTPUT=self.path("m.xyz9")
+            "the file name extension is not supported",
+            "majority",
+            INPUT=self.cover,
+            OUTPUT=self.path("m.xyz9"),
         )
         self.refused(
-            "arguments: classes must be whole numbers with commas between them, for example 31,32; got `1;2`",
+            "arguments: classes must be comma-separated whole numbers, for example 31,32; got `1;2`",
             "patches",
             INPUT=self.cover,
             CLASSES="1;2",
             OUTPUT="TEMPORARY_OUTPUT",
         )
         common = {"INPUT": [self.cover], "SCRIPT": "r.stats -c input=lc\nr.stats input=lc"}
-        self.refused("2 names for 1 rasters", "script", **common, NAMES="a,b")
-        self.refused("'1a' is not a name for a map", "script", **common, NAMES="1a")
         self.refused(
-            "expected one table, but the script has r.stats in line 1, r.stats in line 2",
+            "NAMES must have as many names as INPUT has rasters; got 2, not 1",
+            "script",
+            **common,
+            NAMES="a,b",
+        )
+        self.refused("maps must have names of 1 to 64 letters", "script", **common, NAMES="1a")
+        self.refused(
+            "the script must write one table; got r.stats in line 1, r.stats in line 2",
             "script",
             **common,
             NAMES="lc",
@@ -259,7 +272,7 @@ class RefusalsTest(InSession):
             OUTPUT=self.path("x.tif"),
         )
         self.refused(
-            "the map x is requested, but no file for it is given",
+            "the map x is requested, but OUTPUT is empty",
             "script",
             **common,
             NAMES="lc",
@@ -278,7 +291,7 @@ class RefusalsTest(InSession):
         )
         self.run_("composition", INPUT=self.cover, ZONES=far, OUTPUT="TEMPORARY_OUTPUT")
         self.assertIn(
-            "warning: districts: 1 of 2 polygons contain no centre of a cell: feature 1",
+            "warning: districts: 1 of 2 polygons contain no cell centre: feature 1",
             self.log.told,
         )
         gauss = made.write(self.path("gauss.tif"), COVER, epsg=31467)
@@ -381,7 +394,7 @@ class RefusalsTest(InSession):
         )
         self.assertEqual(session.rows(found["OUTPUT"])[1], [])
         self.assertIn(
-            "warning: The table is empty: all cells are without data or left out.", self.log.told
+            "warning: The table is empty: all cells are excluded or without data.", self.log.told
         )
 
     def test_a_program_that_is_missing(self) -> None:
@@ -396,7 +409,7 @@ class RefusalsTest(InSession):
                 (
                     False,
                     "the program /nowhere/rcell-pipe does not exist or is not executable: correct the path under Settings > Options > "
-                    "Processing > Providers > rcell, or leave it empty to use the plugin's own",
+                    "Processing > Providers > rcell, or leave it empty to use the plugin's program",
                 ),
             )
             self.refused(
@@ -592,7 +605,7 @@ class MapsTest(InSession):
         )
         self.run_("composition", INPUT=self.cover, ZONES=far, OUTPUT="TEMPORARY_OUTPUT")
         self.assertIn(
-            "warning: districts: 1 of 2 polygons contain no centre of a cell: feature 1",
+            "warning: districts: 1 of 2 polygons contain no cell centre: feature 1",
             self.log.told,
         )
         gauss = made.write(self.path("gauss.tif"), COVER, epsg=31467)
@@ -637,7 +650,7 @@ class MapsTest(InSession):
         self.assertIn(f"warning: {path}: the cells of zones (zones.tif) differ", self.log.told)
 
     def test_what_cannot_be_recorded_is_rejected(self) -> None:
-        with self.assertRaisesRegex(QgsProcessingException, "RECORD needs an OUTPUT"):
+        with self.assertRaisesRegex(QgsProcessingException, "RECORD requires an OUTPUT"):
             self.run_("sample", INPUT=self.cover, RECORD=True, OUTPUT=self.path("t.gpkg"))
         layer = self.labelled([(1, "other than in the file")])
         with self.assertRaisesRegex(QgsProcessingException, "RECORD describes files"):

@@ -227,7 +227,7 @@ class ProcessTest(unittest.TestCase):
             f"OUTPUT={self.path('no.tif')}",
         )
         self.refused(
-            "a rotated transform",
+            "its transform is rotated",
             "rcell:majority",
             f"INPUT={made.write(self.path('turned.tif'), [[1]], transform=(0, 1, 1, 0, 1, -1))}",
             f"OUTPUT={self.path('no.tif')}",

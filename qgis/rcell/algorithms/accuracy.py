@@ -17,7 +17,7 @@ SIZES = ["none", "map"]
 
 
 class AccuracyAlgorithm(RcellAlgorithm):
-    """Compares a map with a reference, and corrects the areas of its classes."""
+    """Compares a map with a reference and corrects the areas of its classes."""
 
     NAME = "accuracy"
     TITLE = noop("Accuracy")
@@ -33,12 +33,12 @@ class AccuracyAlgorithm(RcellAlgorithm):
         noop(
             "<p>The reference is a raster on the same grid, a layer of points with their class "
             "in a field, or a table with the fields <code>map</code>, <code>reference</code> and "
-            "<code>cells</code>. Points on cells without data are left out.</p>"
+            "<code>cells</code>. Points on cells without data are ignored.</p>"
         ),
         noop(
-            "<p>If the sample was drawn class by class, the accuracies need the areas of the "
-            "classes, either counted in the map or read from a CSV with value,area. The "
-            "equations are in Olofsson et al. 2014.</p>"
+            "<p>If the sample was drawn class by class, the accuracies depend on the class areas, "
+            "which are counted in the map or read from a CSV with value,area. The equations are "
+            "in Olofsson et al. (2014).</p>"
         ),
         noop(
             "<p>Without areas, standard errors are correct for a random sample, but "
@@ -53,8 +53,8 @@ class AccuracyAlgorithm(RcellAlgorithm):
         title = tr("Reference: a raster, points or a table")
         self.addParameter(QgsProcessingParameterMapLayer("REFERENCE", title, None, False, kinds))
         self.add_text("FIELD", tr("Field with the class of each point"))
-        self.add_choice("AREAS", tr("Areas of the classes"), SIZES)
-        self.add_file("AREAS_FILE", tr("Areas of the classes: a CSV with value,area"))
+        self.add_choice("AREAS", tr("Class areas"), SIZES)
+        self.add_file("AREAS_FILE", tr("Class areas: a CSV with value,area"))
         self.add_area()
         self.add_labels()
         self.add_crs()
@@ -96,7 +96,7 @@ class AccuracyAlgorithm(RcellAlgorithm):
 
 
 class SampleAlgorithm(RcellAlgorithm):
-    """Draws random cells of each class."""
+    """Draws a random sample of cells of each class."""
 
     NAME = "sample"
     TITLE = noop("Stratified sample of cells")
@@ -118,9 +118,9 @@ class SampleAlgorithm(RcellAlgorithm):
     def initAlgorithm(self, configuration: Any = None) -> None:
         """Declare the parameters."""
         self.add_raster()
-        self.add_text("N", tr("Number of cells, or numbers by class"), "100")
-        self.add_text("SEED", tr("Seed: a number or a text"), "1")
-        self.add_choice("ALLOCATION", tr("Division among the classes"), ALLOCATIONS)
+        self.add_text("N", tr("Number of cells, in total or by class"), "100")
+        self.add_text("SEED", tr("Seed: a number or text"), "1")
+        self.add_choice("ALLOCATION", tr("Allocation among the classes"), ALLOCATIONS)
         self.add_labels()
         self.add_crs()
         self.add_table()

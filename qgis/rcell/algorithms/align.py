@@ -1,5 +1,5 @@
 # SPDX-License-Identifier: Apache-2.0 OR GPL-2.0-or-later
-"""Define rcell:align, which aligns a raster to the grid of another raster."""
+"""Define rcell:align, which aligns a raster with the grid of another raster."""
 
 from __future__ import annotations
 
@@ -27,7 +27,7 @@ FACTS = {
 
 
 class AlignAlgorithm(RcellAlgorithm):
-    """Aligns a raster to the grid of another raster."""
+    """Aligns a raster with the grid of another raster."""
 
     NAME = "align"
     TITLE = noop("Align")
@@ -40,19 +40,19 @@ class AlignAlgorithm(RcellAlgorithm):
         noop(
             "<p>Without resampling, the raster is only cut and extended. A shift by part of a "
             "cell, cells of another size or another reference system cause an error. With "
-            "<i>nearest</i>, each new cell gets the value of the cell that contains its centre; "
-            "on a border, of the southern or eastern cell.</p>"
+            "<i>nearest</i>, each new cell gets the value of the cell that contains its centre. A "
+            "centre on a border belongs to the southern or eastern cell.</p>"
         ),
         noop(
-            "<p>The log and the outputs report how many cells with data are in the result, are "
-            "in it more than once, and are not in it.</p>"
+            "<p>The log and the outputs report how many cells with data the result contains, "
+            "contains more than once, and does not contain.</p>"
         ),
     )
 
     def initAlgorithm(self, configuration: Any = None) -> None:
         """Declare the parameters."""
         self.add_raster()
-        self.addParameter(QgsProcessingParameterRasterLayer("TO", tr("Raster with the grid")))
+        self.addParameter(QgsProcessingParameterRasterLayer("TO", tr("Raster with the new grid")))
         self.add_choice("RESAMPLE", tr("Resampling"), RESAMPLINGS)
         self.add_crs()
         self.add_map(tr("Aligned"))
@@ -60,14 +60,14 @@ class AlignAlgorithm(RcellAlgorithm):
             self.addOutput(QgsProcessingOutputNumber(name.upper(), tr(title)))
 
     def read(self) -> None:
-        """Read the raster and the raster with the grid."""
+        """Read the raster, and the raster with the new grid."""
         to = self.parameterAsRasterLayer(self.parameter_values, "TO", self.context)
         if to is None or not to.isValid():
             raise_unreadable(self.parameter_values.get("TO"))
         self.rasters = [self.raster(), raster_of(to, to.name(), 1)]
 
     def answer(self) -> dict[str, Any]:
-        """Write the map, and return the numbers of cells that were used, repeated and lost."""
+        """Write the map and return the numbers of cells that were used, repeated and lost."""
         resample = self.word("RESAMPLE")
         way = None if resample == RESAMPLINGS[0] else resample
         raster, aligned = align(self.rasters[0], self.rasters[1], way, crs=self.crs())

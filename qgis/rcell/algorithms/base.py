@@ -1,5 +1,5 @@
 # SPDX-License-Identifier: Apache-2.0 OR GPL-2.0-or-later
-"""Define the base class of the algorithms: read rasters, watch a run, and report errors."""
+"""Define the algorithms' base class, which reads layers, runs calls and writes results."""
 
 from __future__ import annotations
 
@@ -63,9 +63,9 @@ Parameters = Mapping[str, Any]
 
 
 class RcellAlgorithm(QgsProcessingAlgorithm):
-    """An algorithm over the band `BAND` of the raster `INPUT`.
+    """An algorithm that processes the band `BAND` of the raster `INPUT`.
 
-    Algorithms over several rasters override some of its methods.
+    Algorithms that process several rasters override some of the methods.
     """
 
     NAME = ""
@@ -89,7 +89,7 @@ class RcellAlgorithm(QgsProcessingAlgorithm):
     # Methods called by QGIS
 
     def createInstance(self) -> QgsProcessingAlgorithm:
-        """Return a new instance, which QGIS runs."""
+        """Return a new instance, for QGIS to run."""
         return type(self)()
 
     def name(self) -> str:
@@ -126,7 +126,7 @@ class RcellAlgorithm(QgsProcessingAlgorithm):
         return QIcon(_ICON)
 
     def canExecute(self) -> tuple[bool, str]:
-        """Return whether the program was found, and an error message if it was not.
+        """Return whether the program was found, and an error message if not.
 
         QGIS calls this method before the dialog; qgis_process does not call it.
         """
@@ -139,7 +139,7 @@ class RcellAlgorithm(QgsProcessingAlgorithm):
     def checkParameterValues(
         self, parameters: Parameters, context: QgsProcessingContext
     ) -> tuple[bool, str]:
-        """Check parameters and rasters before the run, so that errors keep the dialog open."""
+        """Check parameters and rasters before the run, while the dialog is still open."""
         self.parameter_values, self.context = parameters, context
         try:
             words = self.chosen_words()
@@ -172,7 +172,7 @@ class RcellAlgorithm(QgsProcessingAlgorithm):
     def processAlgorithm(
         self, parameters: Parameters, context: QgsProcessingContext, feedback: QgsProcessingFeedback
     ) -> dict[str, Any]:
-        """Run the algorithm in a separate thread, and return its results by output name.
+        """Run the algorithm in a separate thread and return its results by output name.
 
         Errors contain the program's message.
         """
@@ -192,7 +192,7 @@ class RcellAlgorithm(QgsProcessingAlgorithm):
         Raises
         ------
         Refused
-            The choice is unknown.
+            A choice is unknown.
         """
         words = {}
         for parameter in self.parameterDefinitions():
@@ -210,14 +210,14 @@ class RcellAlgorithm(QgsProcessingAlgorithm):
     # Methods overridden by algorithms
 
     def answer(self) -> dict[str, Any]:
-        """Run the calls, and return the results by output name."""
+        """Run the calls and return the results by output name."""
         raise NotImplementedError
 
     def check_words(self) -> None:
         """Check the text parameters."""
 
     def read(self) -> None:
-        """Read the layers, and check that they have the same grid."""
+        """Read the layers and check that they have the same grid."""
         self.rasters = [self.raster()]
 
     def glanced(self) -> list[Any]:
@@ -227,7 +227,7 @@ class RcellAlgorithm(QgsProcessingAlgorithm):
     # Methods called by algorithms
 
     def add_raster(self) -> None:
-        """Add the parameters of an algorithm over one raster."""
+        """Add the parameters for one raster and its band."""
         self.addParameter(QgsProcessingParameterRasterLayer("INPUT", tr("Raster")))
         self.add_band()
 
@@ -237,8 +237,8 @@ class RcellAlgorithm(QgsProcessingAlgorithm):
         self.addParameter(QgsProcessingParameterBand("BAND", title, None, "INPUT", True))
 
     def add_crs(self) -> None:
-        """Add the parameter for the coordinate reference system of rasters that have none."""
-        title = tr("Coordinate reference system of rasters that have none")
+        """Add the parameter for the reference system of rasters that have none."""
+        title = tr("Coordinate reference system for rasters that have none")
         parameter = QgsProcessingParameterCrs("CRS", title, optional=True)
         parameter.setFlags(parameter.flags() | QgsProcessingParameterDefinition.FlagAdvanced)
         self.addParameter(parameter)
@@ -262,7 +262,7 @@ class RcellAlgorithm(QgsProcessingAlgorithm):
     def add_labels(self, name: str = "LABELS", of: str = "") -> None:
         """Add the parameter for a legend in a file."""
         title = of or tr(
-            "Labels of classes: a CSV with value,label, or a style (empty: the layer's)"
+            "Class labels: a CSV with value,label or a style (empty: the layer's labels)"
         )
         self.add_file(name, title)
 
@@ -274,10 +274,10 @@ class RcellAlgorithm(QgsProcessingAlgorithm):
     def add_zones(self, is_optional: bool = True) -> None:
         """Add the parameters for zones and their labels."""
         kinds = [QgsProcessing.TypeRaster, QgsProcessing.TypeVectorPolygon]
-        title = tr("Zones: a raster, or polygons")
+        title = tr("Zones: a raster or polygons")
         self.addParameter(QgsProcessingParameterMapLayer("ZONES", title, None, is_optional, kinds))
-        self.add_text("ZONE_FIELD", tr("Field of the polygons with the zones"))
-        title = tr("Labels of zones: a CSV with value,label, or a style (empty: the layer's)")
+        self.add_text("ZONE_FIELD", tr("Polygon field with the ids or names of the zones"))
+        title = tr("Zone labels: a CSV with value,label or a style (empty: the layer's labels)")
         self.add_labels("ZONE_LABELS", title)
 
     def add_text(self, name: str, title: str, default: Optional[str] = None) -> None:
@@ -289,7 +289,7 @@ class RcellAlgorithm(QgsProcessingAlgorithm):
         self.addParameter(QgsProcessingParameterString(name, title, default, True))
 
     def add_choice(self, name: str, title: str, words: Sequence[str]) -> None:
-        """Add a parameter for a choice of words, with the first word as the default."""
+        """Add a parameter for a choice of words, the first of which is the default."""
         self.addParameter(
             QgsProcessingParameterEnum(name, title, words, False, words[0], False, True)
         )
@@ -314,8 +314,8 @@ class RcellAlgorithm(QgsProcessingAlgorithm):
             self.add_flag("RECORD", tr("Write a record, which Verify can check (CSV tables only)"))
 
     def add_null(self) -> None:
-        """Add the parameter for rows of cells without data."""
-        self.add_flag("INCLUDE_NULL", tr("Rows of cells without data"))
+        """Add the parameter for counting cells without data."""
+        self.add_flag("INCLUDE_NULL", tr("Also count cells without data"))
 
     def text(self, name: str) -> str:
         """Return the text of a parameter."""
@@ -352,11 +352,11 @@ class RcellAlgorithm(QgsProcessingAlgorithm):
         Raises
         ------
         Refused
-            The table should be recorded, but is not a CSV.
+            A record is requested, but the table is not a CSV.
         """
         path = plain_path(self.parameter_values.get("OUTPUT")) if self.flag("RECORD") else ""
         if self.flag("RECORD") and not path.lower().endswith(".csv"):
-            raise Refused("RECORD needs an OUTPUT with a name that ends in .csv", status=2)
+            raise Refused("RECORD requires an OUTPUT whose name ends in .csv", status=2)
         return path
 
     def called(
@@ -376,9 +376,8 @@ class RcellAlgorithm(QgsProcessingAlgorithm):
             self.recorded = make(path, call, files, options, part)
             if csv_of(self.recorded.table) != csv_of(table_of(result, part)):
                 raise Refused(
-                    "RECORD describes files, but these layers show other values, labels or "
-                    "features than their files: "
-                    "save them to new files first",
+                    "RECORD describes files, but these layers have values, labels or features that "
+                    "differ from their files: save the layers to new files first",
                     status=2,
                 )
         return result
@@ -440,14 +439,14 @@ class RcellAlgorithm(QgsProcessingAlgorithm):
         input = self.parameter_values["INPUT"]
         values = input if isinstance(input, (list, tuple)) else [input]
         if not values:
-            raise Refused("no raster is given", status=2)
+            raise Refused("INPUT must have at least one raster; got none", status=2)
         layers = self.parameterAsLayerList(self.parameter_values, "INPUT", self.context)
         for place, value in enumerate(values if len(layers) < len(values) else []):
             if not self.parameterAsLayerList({"INPUT": [value]}, "INPUT", self.context):
                 raise_unreadable(value, names[place] if place < len(names) else "")
         if len(layers) > most:
-            problem = f"{len(layers)} rasters, but a table accepts at most {most}"
-            raise Refused(problem, status=2)
+            rule = f"INPUT must have at most {most} rasters"
+            raise Refused(f"{rule}; got {len(layers)}", status=2)
         return list(layers)
 
     def crs(self) -> Optional[str]:
@@ -456,7 +455,7 @@ class RcellAlgorithm(QgsProcessingAlgorithm):
         Raises
         ------
         Refused
-            The parameter is not a coordinate reference system.
+            The parameter value is not a coordinate reference system.
         """
         parameter = self.parameter_values.get("CRS")
         wkt = wkt_of(self.parameterAsCrs(self.parameter_values, "CRS", self.context))
@@ -489,20 +488,20 @@ class RcellAlgorithm(QgsProcessingAlgorithm):
         like: Optional[Source] = None,
         null: int = NULL,
     ) -> str:
-        """Write a map with its legend, and return the map's path."""
+        """Write a map with its legend and return the map's path."""
         path: str = self.parameterAsOutputLayer(self.parameter_values, name, self.context)
         put_raster(path, map, like or self.rasters[0], self.check, null)
         if not put_legend(path, classes, self.colours, self.context):
             self.feedback.pushInfo(
-                f"The map has {len(classes):,} classes. With more than {MOST_CLASSES:,} it has "
-                "no legend and stays grey."
+                f"The map has {len(classes):,} classes. Maps with more than {MOST_CLASSES:,} "
+                "classes have no legend and are shown in grey."
             )
         return path
 
     def put_table(self, name: str, table: Table) -> str:
         """Write a table to a file, or to another QGIS sink such as a memory layer."""
         if not len(table):
-            warn(tr("The table is empty: all cells are without data or left out."))
+            warn(tr("The table is empty: all cells are excluded or without data."))
         path = plain_path(self.parameter_values.get(name))
         if path and is_file_of_table(path):
             target: str = QgsProcessingParameters.parameterAsOutputLayer(
@@ -529,7 +528,7 @@ class RcellAlgorithm(QgsProcessingAlgorithm):
 
 
 def _glance(maps: Sequence[Any]) -> None:
-    """Read the first rows of rasters, to find most invalid cells before the dialog closes."""
+    """Read the first rows of rasters, to detect most invalid cells while the dialog is open."""
     for map in maps:
         if isinstance(map, RasterMap):
             next(map.blocks())
@@ -581,7 +580,7 @@ def program_setting() -> str:
 def plain_path(value: Any) -> str:
     """Return the path of a destination file, or an empty string for other destinations.
 
-    Other destinations are memory layers, databases and temporary outputs.
+    Other destinations include memory layers, databases and temporary outputs.
     """
     if isinstance(value, QgsProcessingOutputLayerDefinition):
         value = value.sink.staticValue()

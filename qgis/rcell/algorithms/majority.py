@@ -20,20 +20,20 @@ SIZES = [str(size) for size in SIDES]
 
 
 class MajorityAlgorithm(RcellAlgorithm):
-    """Assigns each cell the most frequent class in the square around the cell."""
+    """Assigns each cell the most frequent class in the square around it."""
 
     NAME = "majority"
     TITLE = noop("Majority of a neighbourhood")
     SHORT = noop(
-        "Gives each cell the most frequent class of the square around it, which removes single "
+        "Gives each cell the most frequent class in the square around it, which removes single "
         "cells and ragged edges."
     )
     TAGS = "majority filter, mode, smooth, focal, r.neighbors, modal, neighbourhood, sieve"
     HELP = (
         noop(
             "<p>Cells without data and cells outside the map are ignored. In a tie, the smallest "
-            "class is used. Cells without data stay without data, which keeps the outline of the "
-            "map. Fill them if their neighbours should decide.</p>"
+            "class is used. By default, cells without data stay without data, which keeps the "
+            "outline of the map.</p>"
         ),
         noop("<p>The result has the labels and the colours of the raster.</p>"),
     )
@@ -46,7 +46,7 @@ class MajorityAlgorithm(RcellAlgorithm):
         self.add_map(tr("Majority"))
 
     def answer(self) -> dict[str, Any]:
-        """Write the map, and return its path."""
+        """Write the map and return its path."""
         size = int(self.word("SIZE"))
         raster = majority(self.rasters[0], size, self.flag("FILL"))
         path = self.put_map(raster, named_classes(raster))
@@ -54,18 +54,18 @@ class MajorityAlgorithm(RcellAlgorithm):
 
 
 class WithinAlgorithm(RcellAlgorithm):
-    """Finds the cells within distances of classes."""
+    """Finds the cells within given distances of classes."""
 
     NAME = "within"
     TITLE = noop("Within a distance of classes")
-    SHORT = noop("Finds the cells within distances of classes (buffers), exact to the cell.")
+    SHORT = noop("Finds the cells within given distances of classes (buffers), exact to the cell.")
     TAGS = "buffer, r.buffer, distance, proximity, rings, near, grow"
     HELP = (
         noop(
-            "<p>Distances are in metres, ascending, between cell centres, up to 255 cells. The "
-            "result is 0 in the classes, 1 up to the first distance, and 2 from there up to the "
-            "second distance. As zones of <i>Composition</i>, it yields the classes in each "
-            "ring. A map in degrees is an error: reproject it.</p>"
+            "<p>Distances are in metres, in ascending order, up to 255 cells, and are measured "
+            "between cell centres. The result is 0 in the classes, 1 up to the first distance, and "
+            "2 from there up to the second distance. As zones of <i>Composition</i>, it yields the "
+            "classes in each ring. Rasters in degrees must be reprojected first.</p>"
         ),
     )
 
@@ -86,7 +86,7 @@ class WithinAlgorithm(RcellAlgorithm):
         return [numbers_of(self.text(name.upper()), name) for name in ("classes", "distances")]
 
     def answer(self) -> dict[str, Any]:
-        """Write the map, and return its path."""
+        """Write the map and return its path."""
         classes, distances = self.lists()
         raster = within(self.rasters[0], map(int, classes), distances, crs=self.crs())
         self.colours = {}
@@ -99,24 +99,24 @@ class AggregateAlgorithm(RcellAlgorithm):
     NAME = "aggregate"
     TITLE = noop("Aggregate to larger cells")
     SHORT = noop(
-        "Makes a coarser map with the most frequent class of each block of cells, and maps "
+        "Makes a coarser map with the most frequent class in each block of cells, and maps "
         "the percentage of each class in each block."
     )
     TAGS = "aggregate, resample, coarsen, mode, majority, r.resamp.stats, fraction, share, upscale"
     HELP = (
         noop(
-            "<p>Blocks begin at the top left. At the right and at the bottom, they may extend "
+            "<p>Blocks begin at the top left. At the right and bottom edges, they may extend "
             "beyond the map. In a tie, the smallest class is used. The shares have a band for "
-            "each class, with the label of the class as its description.</p>"
+            "each class, whose description is the label of the class.</p>"
         ),
     )
 
     def initAlgorithm(self, configuration: Any = None) -> None:
         """Declare the parameters."""
         self.add_raster()
-        self.add_count("FACTOR", tr("Rows and columns of a block"), default=10)
+        self.add_count("FACTOR", tr("Rows and columns per block"), default=10)
         kind = QgsProcessingParameterNumber.Double
-        title = tr("Percentage of a block's cells that must have data")
+        title = tr("Minimum percentage of a block's cells that must have data")
         self.addParameter(
             QgsProcessingParameterNumber("MIN_PERCENT", title, kind, 0, False, 0, 100)
         )

@@ -31,7 +31,7 @@ class _OfPatches(RcellAlgorithm):
         """Add the parameters that define and select patches."""
         self.add_choice("CONNECTIVITY", tr("Connectivity"), CONNECTIVITIES)
         self.add_text("CLASSES", tr("Classes, separated by commas (empty: all)"))
-        self.add_count("MIN_CELLS", tr("Smallest number of cells"))
+        self.add_count("MIN_CELLS", tr("Minimum number of cells"))
 
     def check_words(self) -> None:
         """Check the list of classes."""
@@ -49,7 +49,7 @@ class ClumpAlgorithm(_OfPatches):
     TITLE = noop("Map of patches")
     SHORT = noop("Gives each cell the number of its patch, as in the table of Patches.")
     TAGS = "patches, clumps, r.clump, segments, regions, connected components"
-    HELP = (noop("<p>Cells of patches that are left out have no data.</p>"),)
+    HELP = (noop("<p>Cells of excluded patches have no data.</p>"),)
 
     def initAlgorithm(self, configuration: Any = None) -> None:
         """Declare the parameters."""
@@ -59,7 +59,7 @@ class ClumpAlgorithm(_OfPatches):
         self.add_map(tr("Map of patches"))
 
     def answer(self) -> dict[str, Any]:
-        """Write the map, and return its path."""
+        """Write the map and return its path."""
         connectivity, fewest = int(self.word("CONNECTIVITY")), self.number("MIN_CELLS")
         raster = clump(self.rasters[0], connectivity, self.classes(), fewest, crs=self.crs())
         self.colours = {}
@@ -67,13 +67,13 @@ class ClumpAlgorithm(_OfPatches):
 
 
 class PatchesAlgorithm(_OfPatches):
-    """Numbers the patches of each class, and lists them."""
+    """Numbers the patches of each class and lists them."""
 
     NAME = "patches"
     TITLE = noop("Patches")
     SHORT = noop(
-        "Lists the patches of each class with cells, area, perimeter, core, outline and "
-        "zone, and makes a map of them."
+        "Lists the patches of each class with cells, area, perimeter, core, extent and zone, "
+        "and makes a map of them."
     )
     TAGS = (
         "patches, clumps, r.clump, islands, sieve, segments, regions, landscape, connected "
@@ -83,17 +83,18 @@ class PatchesAlgorithm(_OfPatches):
         noop(
             "<p>Cells belong to one patch if they have the same class and are connected through "
             "cells of this class: by edges (connectivity 4), or by edges and corners (8). "
-            "Patches are numbered by their first cells, from the top left.</p>"
+            "Patches are numbered in the order of their first cells, from the top left.</p>"
         ),
         noop(
-            "<p>Patches below the smallest number of cells, and classes that are not listed, are "
-            "left out of the table and the map. The remaining patches keep their numbers. Join "
+            "<p>Patches below the minimum number of cells, and classes that are not listed, are "
+            "excluded from the table and the map. The remaining patches keep their numbers. Join "
             "the table to the map by <code>patch</code>.</p>"
         ),
         noop(
-            "<p>The perimeter is the length of all sides to other patches, to cells without data "
-            "and along the edge of the map. The core consists of the cells whose neighbours, up "
-            "to the core depth, are all in the patch. In degrees, there is no perimeter.</p>"
+            "<p>The perimeter is the length of the cell sides next to other patches, next to cells "
+            "without data and along the edge of the map. The core consists of the cells whose "
+            "neighbours, up to the core depth, are all in the patch. For rasters in degrees, there "
+            "is no perimeter.</p>"
         ),
     )
 
@@ -102,9 +103,9 @@ class PatchesAlgorithm(_OfPatches):
         self.add_raster()
         self.add_patches()
         self.add_area()
-        self.add_count("CORE_DEPTH", tr("Depth of the core in cells"), MOST_CORE_DEPTH)
+        self.add_count("CORE_DEPTH", tr("Core depth in cells"), MOST_CORE_DEPTH)
         self.add_zones()
-        self.add_flag("EACH", tr("Process overlapping polygons one after another"))
+        self.add_flag("EACH", tr("Process overlapping polygons separately"))
         self.add_labels()
         self.add_crs()
         self.add_table()
@@ -153,7 +154,7 @@ class SieveAlgorithm(RcellAlgorithm):
     NAME = "sieve"
     TITLE = noop("Sieve")
     SHORT = noop(
-        "Merges patches below a size into the neighbour with the longest common border, "
+        "Merges patches below a minimum size into the neighbour with the longest common border, "
         "until no small patch has a neighbour."
     )
     TAGS = (
@@ -162,8 +163,8 @@ class SieveAlgorithm(RcellAlgorithm):
     HELP = (
         noop(
             "<p>The smallest patch is merged first. If several neighbours share the same border "
-            "length, the first neighbour is used. Give the smallest size in cells or in "
-            "hectares; in degrees, in cells.</p>"
+            "length, the first neighbour is used. Give the minimum size in cells or in hectares. "
+            "For rasters in degrees, give it in cells.</p>"
         ),
         noop(
             "<p>The outputs count patches and changed cells in the result. Patches that border "
@@ -175,19 +176,19 @@ class SieveAlgorithm(RcellAlgorithm):
         """Declare the parameters."""
         self.add_raster()
         number = QgsProcessingParameterNumber
-        title = tr("Smallest number of cells in a patch")
+        title = tr("Minimum number of cells in a patch")
         self.addParameter(number("MIN_CELLS", title, number.Integer, None, True, 1))
-        title = tr("Smallest area of a patch in hectares, instead of cells")
+        title = tr("Minimum area of a patch in hectares (instead of cells)")
         self.addParameter(number("MIN_HA", title, number.Double, None, True, 0))
         self.add_choice("CONNECTIVITY", tr("Connectivity"), CONNECTIVITIES)
-        self.add_flag("DROP", tr("Leave small patches out instead of merging them"))
+        self.add_flag("DROP", tr("Remove small patches instead of merging them"))
         self.add_crs()
         self.add_map(tr("Sieved"))
         for name in Sieved._fields:
             self.addOutput(QgsProcessingOutputNumber(name.upper(), tr(name.replace("_", " "))))
 
     def answer(self) -> dict[str, Any]:
-        """Write the map, and return the numbers of patches and changed cells."""
+        """Write the map and return the numbers of patches and changed cells."""
         has_limit = {
             name: self.parameter_values.get(name) not in (None, "")
             for name in ("MIN_CELLS", "MIN_HA")
@@ -218,13 +219,13 @@ class MetricsAlgorithm(RcellAlgorithm):
     )
     HELP = (
         noop(
-            "<p>Definitions follow FRAGSTATS 4, without background. The landscape consists of "
-            "all cells with data. Edges are sides between two classes: borders of zones and "
-            "sides next to cells without data do not count.</p>"
+            "<p>The definitions follow FRAGSTATS 4, without a background class. A landscape "
+            "consists of all cells with data. Edges are cell sides between two classes. Zone "
+            "borders and sides next to cells without data do not count.</p>"
         ),
         noop(
-            "<p>Each zone is a separate landscape: patches end at its border. Without a "
-            "reference system, and in degrees, there are no lengths.</p>"
+            "<p>Each zone is a separate landscape: patches end at its border. For rasters in "
+            "degrees or without a reference system, there are no lengths.</p>"
         ),
     )
 
@@ -234,7 +235,7 @@ class MetricsAlgorithm(RcellAlgorithm):
         self.add_choice("LEVEL", tr("Level"), LEVELS)
         self.add_choice("CONNECTIVITY", tr("Connectivity"), CONNECTIVITIES)
         self.add_zones()
-        self.add_flag("EACH", tr("Process overlapping polygons one after another"))
+        self.add_flag("EACH", tr("Process overlapping polygons separately"))
         self.add_area()
         self.add_labels()
         self.add_crs()

@@ -20,19 +20,19 @@ OTHERS = ["error", "keep", "null"]
 
 
 class ReclassAlgorithm(RcellAlgorithm):
-    """Assigns classes new numbers and labels, using rules."""
+    """Gives classes new numbers and labels, using rules."""
 
     NAME = "reclass"
     TITLE = noop("Reclassify by rules")
     SHORT = noop(
-        "Gives the classes of a raster new numbers and labels using the rules of r.reclass, "
-        "with a legend of cells and areas."
+        "Gives the classes of a raster new numbers and labels, using rules in the format of "
+        "r.reclass, and adds a legend with cells and areas."
     )
     TAGS = "reclassify, r.reclass, rules, recode, group, labels, legend"
     HELP = (
         noop(
-            "<p>A rule is a line with classes, <code>=</code>, the new class and, "
-            "optionally, its label.</p>"
+            "<p>A rule is a line with classes, <code>=</code>, the new class and, optionally, a "
+            "label.</p>"
         ),
         noop(
             "<p><code>1 thru 3 = 1 forest<br>4 7 9 = 2 open land<br>12 = NULL<br>* = 3 all "
@@ -45,8 +45,8 @@ class ReclassAlgorithm(RcellAlgorithm):
         ),
         noop(
             "<p>The labels are stored as category names in the file, and the legend shows the "
-            "cells and hectares of each class. The legend is also written next to the file, as "
-            ".qml.</p>"
+            "cells and hectares of each class. The legend is also written to a .qml file next to "
+            "the raster.</p>"
         ),
     )
 
@@ -72,12 +72,12 @@ class ReclassAlgorithm(RcellAlgorithm):
 
 
 def _reclassed(raster: Source, rules: str) -> ArrayMap:
-    """Apply the rules of r.reclass to a map.
+    """Reclassify a map using rules in the format of r.reclass.
 
     Raises
     ------
     Refused
-        The program rejects a rule; the error names the line of the rules.
+        The program rejects a rule. The error names the line in the rules.
     """
     lines = rules.rstrip("\n").split("\n")
     script = "\n".join(["r.reclass input=map output=classes", *lines])

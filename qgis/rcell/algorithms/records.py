@@ -25,7 +25,7 @@ _PAGES = "Pages (*.html)"
 
 
 class VerifyAlgorithm(RcellAlgorithm):
-    """Runs the call of a recorded table again, and compares the result with the table."""
+    """Runs the call of a recorded table again and compares the result with the table."""
 
     NAME = "verify"
     TITLE = noop("Verify a recorded table")
@@ -34,9 +34,8 @@ class VerifyAlgorithm(RcellAlgorithm):
     IS_OF_ONE_RASTER = False
     HELP = (
         noop(
-            "<p>A table has a record if it was written with <i>Record</i> in QGIS, Python or the "
-            "shell. There are no differences if the cells of its rasters, the program and the "
-            "table are the same.</p>"
+            "<p>A table has a record if it was recorded in QGIS, Python or the shell. There are no "
+            "differences if the cells of its rasters, the program and the table are the same.</p>"
         ),
     )
 
@@ -48,7 +47,7 @@ class VerifyAlgorithm(RcellAlgorithm):
         self.addOutput(QgsProcessingOutputString("LINES", tr("Differences, one per line")))
 
     def read(self) -> None:
-        """Read nothing: the record names the files."""
+        """Read no layers, because the record names the files."""
 
     def answer(self) -> dict[str, Any]:
         """Return the differences between the record and the repeated call."""
@@ -72,8 +71,8 @@ class ReportAlgorithm(RcellAlgorithm):
     HELP = (
         noop(
             "<p>The page explains each table, shows its raster, and contains the command that "
-            "verifies it. It loads nothing from other sites, and the same records result in the "
-            "same page.</p>"
+            "verifies it. The page loads nothing from other sites, and the same records always "
+            "produce the same page.</p>"
         ),
     )
 
@@ -85,7 +84,7 @@ class ReportAlgorithm(RcellAlgorithm):
         self.addParameter(QgsProcessingParameterFileDestination("OUTPUT", tr("Page"), _PAGES))
 
     def read(self) -> None:
-        """Read nothing: the records name the files."""
+        """Read no layers, because the records name the files."""
 
     def answer(self) -> dict[str, Any]:
         """Write the page."""

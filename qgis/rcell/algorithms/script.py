@@ -47,9 +47,9 @@ class ScriptAlgorithm(RcellAlgorithm):
     IS_OF_ONE_RASTER = False
     HELP = (
         noop(
-            "<p>The script refers to the rasters by the given names, in their order, or by their "
-            "layer names, with <code>_</code> for each character that is not allowed in "
-            "names.</p>"
+            "<p>In the script, the rasters have the names that you list, in the order of the "
+            "rasters. By default, they have their layer names, with <code>_</code> in place of "
+            "characters that are not allowed in names.</p>"
         ),
         noop(
             "<p><code>r.mapcalc wet = if(cover == 4 &amp;&amp; slope &lt; 2, 1, "
@@ -58,24 +58,24 @@ class ScriptAlgorithm(RcellAlgorithm):
         ),
         noop(
             "<p>The map output is the map that you name, or the only map of the script. The "
-            "table output is the table of the only <code>r.stats</code>. The folder gets all "
-            "outputs of the script: a table for each <code>r.stats</code>, named after its line, "
-            "and a GeoTIFF for each <code>r.out.ascii</code>.</p>"
+            "table output is the table of the only <code>r.stats</code>. All outputs of the script "
+            "are written to the folder: a table for each <code>r.stats</code>, named after its "
+            "line, and a GeoTIFF for each <code>r.out.ascii</code>.</p>"
         ),
         noop(
-            "<p>If a line contains an error, the log shows the line with a mark under the place. "
-            "Numbers are whole; they never overflow and are never rounded.</p>"
+            "<p>If a line contains an error, the log shows the line with a mark below the error. "
+            "Numbers are integers, which never overflow and are never rounded.</p>"
         ),
     )
 
     def initAlgorithm(self, configuration: Any = None) -> None:
         """Declare the parameters."""
-        self.add_rasters(tr("Rasters, 1 to 16"))
+        self.add_rasters(tr("Rasters (1 to 16)"))
         self.add_text("NAMES", tr("Their names in the script, separated by commas"))
         self.add_lines("SCRIPT", tr("Script"))
         self.add_text("MAP", tr("Name of the output map (empty: the only map of the script)"))
-        self.add_choice("AREA", tr("Unit of areas of the table"), AREAS)
-        self.add_flag("PERCENT", tr("Percentages of the table"))
+        self.add_choice("AREA", tr("Unit of areas in the table"), AREAS)
+        self.add_flag("PERCENT", tr("Add percentages to the table"))
         table = QgsProcessing.TypeVector
         for kind, words in (
             (QgsProcessingParameterRasterDestination, ("OUTPUT", tr("Map"))),
@@ -100,11 +100,13 @@ class ScriptAlgorithm(RcellAlgorithm):
         tables = [statement.line for statement in plan if statement.command == "r.stats"]
         if self.parameter_values.get("TABLE") and len(tables) != 1:
             listed = ", ".join(f"r.stats in line {line}" for line in tables) or "no r.stats"
-            problem = f"expected one table, but the script has {listed}: a folder has all outputs"
+            problem = (
+                f"the script must write one table; got {listed}: use FOLDER to get all outputs"
+            )
             raise Refused(problem, "script")
 
     def read(self) -> None:
-        """Read the rasters with their script names, and check that they have the same grid."""
+        """Read the rasters with their script names and check that they have the same grid."""
         layers = self._named_layers()
         self.rasters = [raster_of(layer, name) for name, layer in layers]
         self.fit(self.rasters)
@@ -132,7 +134,7 @@ class ScriptAlgorithm(RcellAlgorithm):
         return results
 
     def _measured(self, run: Run, wanted: list[str]) -> list[Any]:
-        """Run the script, and return each output with its line number.
+        """Run the script and return each output with its line number.
 
         Tables contain areas and percentages if they are requested. Maps have line 0, and the
         requested map is the last output.
@@ -170,7 +172,7 @@ class ScriptAlgorithm(RcellAlgorithm):
         name: str = self.text("MAP").strip()
         if not self.parameter_values.get("OUTPUT"):
             if name:
-                raise Refused(f"the map {name} is requested, but no file for it is given", status=2)
+                raise Refused(f"the map {name} is requested, but OUTPUT is empty", status=2)
             return ""
         maps = [statement.made for statement in plan if statement.made]
         if not name and len(maps) != 1:
@@ -182,7 +184,7 @@ class ScriptAlgorithm(RcellAlgorithm):
         return name or maps[0]
 
     def _put_all(self, folder: str, outputs: list[tuple[int, Any]], run: Run) -> str:
-        """Write a file for each output of the script, and return the folder."""
+        """Write a file for each output of the script and return the folder."""
         try:
             os.makedirs(folder, exist_ok=True)
         except OSError as error:

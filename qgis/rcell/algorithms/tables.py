@@ -20,12 +20,12 @@ from ..translation import noop, tr
 from .base import RcellAlgorithm, renamed
 
 _DEGREES = noop(
-    "<p>In a raster in degrees, each row of cells has its area on the ellipsoid of the "
+    "<p>For rasters in degrees, the cell area of each row is computed on the ellipsoid of the "
     "reference system.</p>"
 )
 _ZONES = noop(
     "<p>Zones are a raster on the same grid, or polygons: a cell belongs to the polygon that "
-    "contains its centre. Whole numbers in the field are the zones. Other values become the "
+    "contains its centre. Whole numbers in the field are used as zones. Other values become the "
     "labels of zones 1, 2, ..</p>"
 )
 
@@ -48,7 +48,7 @@ class CompositionAlgorithm(RcellAlgorithm):
     HELP = (
         noop(
             "<p>The table has a row for each class that occurs, or for each class in each zone. "
-            "The percentage is the share of the area that has data, or of each zone's.</p>"
+            "Percentages refer to the area that has data, in total or in each zone.</p>"
         ),
         _ZONES,
         _DEGREES,
@@ -58,7 +58,7 @@ class CompositionAlgorithm(RcellAlgorithm):
         """Declare the parameters."""
         self.add_raster()
         self.add_zones()
-        self.add_flag("EACH", tr("Process overlapping polygons one after another"))
+        self.add_flag("EACH", tr("Process overlapping polygons separately"))
         self.add_area()
         self.add_labels()
         self.add_null()
@@ -70,7 +70,7 @@ class CompositionAlgorithm(RcellAlgorithm):
         self.read_zoned()
 
     def answer(self) -> dict[str, Any]:
-        """Write the table, and return its path."""
+        """Write the table and return its path."""
         table = self.called(
             composition,
             self.rasters[0],
@@ -111,20 +111,20 @@ class CrossAlgorithm(RcellAlgorithm):
 
     def initAlgorithm(self, configuration: Any = None) -> None:
         """Declare the parameters."""
-        self.add_rasters(tr("Rasters, 1 to 16"))
+        self.add_rasters(tr("Rasters (1 to 16)"))
         self.add_area()
         self.add_null()
         self.add_crs()
         self.add_table()
 
     def read(self) -> None:
-        """Read the rasters, and check that they have the same grid."""
+        """Read the rasters and check that they have the same grid."""
         layers = self.raster_layers()
         self.rasters = [raster_of(layer, layer.name()) for layer in layers]
         self.fit(self.rasters)
 
     def answer(self) -> dict[str, Any]:
-        """Write the table, and return its path."""
+        """Write the table and return its path."""
         names = made_names([raster.name for raster in self.rasters])
         maps = dict(zip(names, self.rasters))
         crossed = self.called(
@@ -150,8 +150,8 @@ class ChangeAlgorithm(RcellAlgorithm):
     IS_OF_ONE_RASTER = False
     HELP = (
         noop(
-            "<p>The rasters are in chronological order; more than two rasters need their years. "
-            "Only cells with data in both years count.</p>"
+            "<p>The rasters must be in chronological order. For more than two rasters, list the "
+            "years. Only cells with data in both years count.</p>"
         ),
         noop(
             "<p>For each class, the summary contains its area before and after, gain, loss, net "
@@ -164,7 +164,7 @@ class ChangeAlgorithm(RcellAlgorithm):
 
     def initAlgorithm(self, configuration: Any = None) -> None:
         """Declare the parameters."""
-        self.add_rasters(tr("Rasters in chronological order, 2 to 16"))
+        self.add_rasters(tr("Rasters in chronological order (2 to 16)"))
         title = tr("Years, separated by commas (required for more than two rasters)")
         self.add_text("YEARS", title)
         self.add_area()
@@ -175,7 +175,7 @@ class ChangeAlgorithm(RcellAlgorithm):
         self.add_table(tr("Summary"), "SUMMARY", True)
 
     def read(self) -> None:
-        """Read the rasters, and check that they have the same grid."""
+        """Read the rasters and check that they have the same grid."""
         layers = self.raster_layers()
         self.rasters = [raster_of(layer, layer.name()) for layer in layers]
         self.fit(self.rasters)
@@ -211,7 +211,7 @@ class TrajectoriesAlgorithm(RcellAlgorithm):
     IS_OF_ONE_RASTER = False
     HELP = (
         noop(
-            "<p>The rasters are in the order of their years. Only cells with data in all years "
+            "<p>The rasters must be in chronological order. Only cells with data in all years "
             "count. A change is dated to the year in which the new class is first seen.</p>"
         ),
         noop(
@@ -225,7 +225,7 @@ class TrajectoriesAlgorithm(RcellAlgorithm):
 
     def initAlgorithm(self, configuration: Any = None) -> None:
         """Declare the parameters."""
-        self.add_rasters(tr("Rasters in chronological order, two or more"))
+        self.add_rasters(tr("Rasters in chronological order (two or more)"))
         self.add_text("YEARS", tr("Years, separated by commas"))
         self.add_area()
         self.add_labels()
@@ -238,7 +238,7 @@ class TrajectoriesAlgorithm(RcellAlgorithm):
         self.add_map(tr("Map of the year of the last change"), "LAST_CHANGE", True)
 
     def read(self) -> None:
-        """Read the rasters, and check that they have the same grid."""
+        """Read the rasters and check that they have the same grid."""
         layers = self.raster_layers(most=MOST_DATES)
         self.rasters = [raster_of(layer, layer.name()) for layer in layers]
         self.fit(self.rasters)
@@ -268,12 +268,12 @@ class TrajectoriesAlgorithm(RcellAlgorithm):
 
 
 class ZonalAlgorithm(RcellAlgorithm):
-    """Summarises a raster of integers by zone."""
+    """Computes statistics of a raster in each zone."""
 
     NAME = "zonal"
     TITLE = noop("Statistics by zone")
     SHORT = noop(
-        "Lists sum, mean, minimum, maximum, variance and quantiles of a raster for each zone."
+        "Lists the sum, mean, minimum, maximum, variance and quantiles of a raster in each zone."
     )
     TAGS = (
         "zonal statistics, mean, median, quantile, sum, r.stats.zonal, raster layer zonal "
@@ -293,7 +293,7 @@ class ZonalAlgorithm(RcellAlgorithm):
         self.addParameter(QgsProcessingParameterRasterLayer("INPUT", tr("Raster of values")))
         self.add_band()
         self.add_zones(False)
-        self.add_flag("EACH", tr("Process overlapping polygons one after another"))
+        self.add_flag("EACH", tr("Process overlapping polygons separately"))
         self.add_text("QUANTILES", tr("Quantiles from 0 to 1, separated by commas"), "0.5")
         title = tr("Scale of decimals: 100 rounds to 1/100 (empty: whole numbers only)")
         kind = QgsProcessingParameterNumber.Integer
@@ -306,7 +306,7 @@ class ZonalAlgorithm(RcellAlgorithm):
         self.read_zoned()
 
     def answer(self) -> dict[str, Any]:
-        """Write the table, and return its path."""
+        """Write the table and return its path."""
         quantiles = numbers_of(self.text("QUANTILES"), "quantiles")
         table = self.called(
             zonal,
@@ -320,11 +320,11 @@ class ZonalAlgorithm(RcellAlgorithm):
         return {"OUTPUT": self.put_table("OUTPUT", table)}
 
     def has_scale(self) -> bool:
-        """Return whether decimals are to be rounded."""
+        """Return whether decimals are rounded."""
         return self.parameter_values.get("SCALE") not in (None, "")
 
     def glanced(self) -> list[Any]:
-        """Return the rasters to check before the run, except values that may be decimals."""
+        """Return the rasters to check before the run, without values that may be decimals."""
         return [self.zones] if self.has_scale() else super().glanced()
 
 
@@ -350,7 +350,7 @@ class DominantAlgorithm(RcellAlgorithm):
         """Declare the parameters."""
         self.add_raster()
         self.add_zones(False)
-        self.add_flag("EACH", tr("Process overlapping polygons one after another"))
+        self.add_flag("EACH", tr("Process overlapping polygons separately"))
         self.add_area()
         self.add_labels()
         self.add_crs()
@@ -361,7 +361,7 @@ class DominantAlgorithm(RcellAlgorithm):
         self.read_zoned()
 
     def answer(self) -> dict[str, Any]:
-        """Write the table, and return its path."""
+        """Write the table and return its path."""
         table = self.called(
             dominant,
             self.rasters[0],
@@ -375,13 +375,13 @@ class DominantAlgorithm(RcellAlgorithm):
 
 
 class AdjacencyAlgorithm(RcellAlgorithm):
-    """Counts the sides between the cells of each pair of classes."""
+    """Counts the cell sides between each pair of classes."""
 
     NAME = "adjacency"
     TITLE = noop("Adjacency of classes")
-    SHORT = noop("Counts the cell sides between each pair of classes, and their length.")
+    SHORT = noop("Counts the cell sides between each pair of classes, and measures their length.")
     TAGS = "adjacency, contact, edges, neighbours, perimeter, fragmentation"
-    HELP = (noop("<p>Each side counts once. In degrees, there are no lengths.</p>"),)
+    HELP = (noop("<p>Each side counts once. For rasters in degrees, there are no lengths.</p>"),)
 
     def initAlgorithm(self, configuration: Any = None) -> None:
         """Declare the parameters."""
@@ -391,7 +391,7 @@ class AdjacencyAlgorithm(RcellAlgorithm):
         self.add_table()
 
     def answer(self) -> dict[str, Any]:
-        """Write the table, and return its path."""
+        """Write the table and return its path."""
         named = {"labels": self.labels(), "crs": self.crs()}
         table = self.called(adjacency, self.rasters[0], **named)
         return {"OUTPUT": self.put_table("OUTPUT", table)}
@@ -413,7 +413,7 @@ def numbers_of(text: str, name: str) -> list[float]:
     Raises
     ------
     Refused
-        A part is not a number, or a year or class is not an integer.
+        A part of the list is not a number, or a year or class is not an integer.
     """
     is_whole = name not in _DECIMALS
     try:
@@ -422,6 +422,6 @@ def numbers_of(text: str, name: str) -> list[float]:
     except ValueError:
         kind, example = "whole numbers" if is_whole else "numbers", _EXAMPLES[name]
         raise Refused(
-            f"{name} must be {kind} with commas between them, for example {example}; got `{text}`",
+            f"{name} must be comma-separated {kind}, for example {example}; got `{text}`",
             status=2,
         ) from None
