@@ -5,7 +5,7 @@
 #
 # MODULE:    r.rcell
 # AUTHOR(S): Nibzoqel authors
-# PURPOSE:   Runs an rcell script on raster maps of the current region
+# PURPOSE:   Runs an rcell script on raster maps in the current region
 #            and imports the maps that it creates
 # COPYRIGHT: (C) 2026 by the Nibzoqel authors
 #
@@ -15,7 +15,7 @@
 ############################################################################
 
 # %module
-# % description: Runs an rcell script (map algebra, reclassing, patches, tables) on raster maps.
+# % description: Runs a script of map algebra, reclassification, patches and tables on raster maps.
 # % keyword: raster
 # % keyword: algebra
 # % keyword: reclassification
@@ -26,7 +26,7 @@
 # %flag
 # % key: l
 # % label: Add category labels to all tables
-# % description: Every r.stats of the script prints labels, as with its flag -l
+# % description: Every r.stats in the script prints labels, as with its own flag -l
 # %end
 # %option G_OPT_F_INPUT
 # % key: script
@@ -48,14 +48,14 @@
 # % key_desc: name[=map]
 # % multiple: yes
 # % required: no
-# % label: Maps that the script creates, to import as raster maps
+# % label: Maps of the script to import as raster maps
 # % description: Use NAME=MAP to give the raster map another name
 # %end
 # %option G_OPT_F_OUTPUT
 # % key: table
 # % required: no
-# % label: Name of the file for the tables of the script
-# % description: Use "-", or leave it out, for standard output
+# % label: Name of the output file for the script's tables
+# % description: If omitted or "-", the tables are written to standard output
 # %end
 
 import atexit
@@ -74,7 +74,7 @@ import grass.script as gs
 from grass.exceptions import CalledModuleError
 
 NULL = -2147483648  # null for r.out.bin and r.in.bin; not a category
-MOST_SIDE = 65535  # the most rows or columns that rcell accepts
+MOST_SIDE = 65535  # the largest number of rows or columns that rcell accepts
 MOST_CELLS = 2147483647
 BLOCK_CELLS = 1 << 20  # the number of cells to send at a time
 SECONDS_OF_A_STEP = 0.5  # between updates of the progress line
@@ -89,7 +89,7 @@ Output = namedtuple("Output", "name map")
 class Stopped(Exception):
     """Raised if the run cannot continue.
 
-    `beneath` contains lines of a script, which are printed unchanged after the message.
+    `beneath` contains script lines to print unchanged after the message.
     """
 
     def __init__(self, text, beneath=""):
@@ -101,7 +101,7 @@ class Stopped(Exception):
 
 
 def with_labels(script, statements):
-    """Add the flag -l to each r.stats in a script that lacks it."""
+    """Add the flag -l to the r.stats statements of a script that lack it."""
     lines = script.split("\n")
     for statement in statements:
         if statement.command == "r.stats" and "l" not in statement.options:
@@ -110,7 +110,7 @@ def with_labels(script, statements):
 
 
 def without_tables(script, statements):
-    """Remove the statements that write outputs from a script; each is one line."""
+    """Remove the statements that write outputs, each on one line, from a script."""
     lines = script.split("\n")
     for statement in statements:
         if not statement.made:
@@ -133,7 +133,7 @@ def made_by(statements):
 
 
 def stopped(end, script, names):
-    """Return an exception with rcell's message and the line of the user's script."""
+    """Return a Stopped with rcell's message and the line of the user's script."""
     from rcell.core.protocol import Fault
 
     fault = Fault(**end.parts(program(), script, names))
@@ -153,7 +153,7 @@ def stopped(end, script, names):
 
 
 def printable(line):
-    """Return a line as UTF-8 text, with control characters escaped."""
+    """Decode a line for messages, with tabs as spaces."""
     return line.decode(errors="replace").replace("\t", " ")
 
 
@@ -161,13 +161,13 @@ def printable(line):
 
 
 def edge_texts(region):
-    """Return north, south, east and west as decimals."""
+    """Return a region's north, south, east and west edges as decimal strings."""
     texts = (("%.8f" % region[edge]).rstrip("0").rstrip(".") for edge in "nsew")
     return tuple("0" if text == "-0" else text for text in texts)
 
 
 def source_of(raster, labels, region, progress):
-    """Return a raster map for rcell-pipe, whose rows r.out.bin writes while they are read."""
+    """Return a raster map for rcell-pipe, whose rows r.out.bin exports as they are read."""
     from rcell.core.protocol import Map
 
     rows, cols = region["rows"], region["cols"]
@@ -184,7 +184,7 @@ def source_of(raster, labels, region, progress):
 
 
 def blocks_of(raster, rows, cols, progress):
-    """Yield the rows of a raster map."""
+    """Yield the rows of a raster map in blocks."""
     from rcell.core.protocol import Block
 
     module = gs.pipe_command(
@@ -212,7 +212,7 @@ def end_of(module, raster):
 
 
 def label_lines(frame):
-    """Return r.category's input lines for a table of categories with labels."""
+    """Return the input lines of r.category for a table of categories with labels."""
     labelled = [
         (category, label) for category, label in zip(frame.cells.tolist(), frame.labels) if label
     ]
@@ -227,7 +227,7 @@ def label_lines(frame):
 
 
 class Imports:
-    """Imports raster maps under temporary names until all maps are complete."""
+    """Imports raster maps under temporary names, which are kept until all maps are complete."""
 
     def __init__(self, region):
         self.region, self.names, self.room = (
@@ -238,7 +238,7 @@ class Imports:
         atexit.register(self.remove)
 
     def remove(self):
-        """Remove maps that did not get their final name."""
+        """Remove the maps that still have temporary names."""
         shutil.rmtree(self.room, ignore_errors=True)
         if self.names:
             quiet = dict(quiet=True, stderr=subprocess.DEVNULL, errors="ignore")
@@ -248,7 +248,7 @@ class Imports:
         return {key: "%.15g" % self.region[key[0]] for key in ("north", "south", "east", "west")}
 
     def add(self, output, frame, progress):
-        """Import a map with r.in.bin, from a file because r.in.bin needs its size."""
+        """Import a map with r.in.bin from a file, whose size r.in.bin must know."""
         name = "rcell_%d_%d" % (os.getpid(), len(self.names))
         self.names[name] = output
         path = os.path.join(self.room, "cells")
@@ -280,7 +280,7 @@ class Imports:
             raise Stopped(_("The labels of <{}> could not be written").format(self.names[name].map))
 
     def finish(self, areas):
-        """Rename all maps at once; patches get random colours, as with r.clump."""
+        """Rename all maps at once, and give patches random colours, as r.clump does."""
         for name, output in self.names.items():
             if output.name in areas:
                 gs.run_command("r.colors", map=name, color="random", quiet=True)
@@ -295,7 +295,7 @@ class Imports:
 
 
 class Progress:
-    """Shows progress over all rows read and written, in few steps because each runs g.message."""
+    """Shows the progress over all rows in a few steps, because each step runs g.message."""
 
     def __init__(self, rows):
         self.done, self.rows, self.shown, self.is_shown = 0, rows, time.monotonic(), False
@@ -315,13 +315,13 @@ class Progress:
 
 
 def program():
-    """Return the path of rcell-pipe, ignoring relative folders on the path."""
+    """Return the path of rcell-pipe, ignoring relative folders on PATH."""
     folders = [folder for folder in os.get_exec_path() if os.path.isabs(folder)]
     return shutil.which("rcell-pipe", path=os.pathsep.join(folders)) if folders else None
 
 
 def find_front(path):
-    """Find rcell.core: in the release, in the sources, or installed."""
+    """Make rcell.core importable: from the release, the sources, or an installed package."""
     folder = os.path.dirname(os.path.dirname(os.path.realpath(path)))
     for modules in ("share/rcell", "python/src"):
         if os.path.isdir(os.path.join(folder, modules, "rcell", "core")):
@@ -331,7 +331,7 @@ def find_front(path):
         import rcell.core.protocol  # noqa: F401
     except ImportError:
         raise Stopped(
-            _("The Python modules of {} are not in ../share/rcell next to it").format(path)
+            _("The Python modules of {} were not found in its ../share/rcell").format(path)
         ) from None
 
 
@@ -345,7 +345,7 @@ def judged(script, names):
 
 @contextmanager
 def stopping_on_faults(script, names):
-    """Convert the errors of rcell-pipe to Stopped."""
+    """Convert rcell-pipe's errors to Stopped."""
     from rcell.core.protocol import Killed, NoAnswer, Rejected
 
     try:
@@ -357,7 +357,7 @@ def stopping_on_faults(script, names):
 
 
 def tables_of(script, statements, sources):
-    """Run a script and yield its text output piece by piece; `sources()` returns its maps."""
+    """Run a script over the maps from `sources()`, and yield its text output piece by piece."""
     from rcell.core import protocol
 
     if all(statement.made for statement in statements):
@@ -368,7 +368,7 @@ def tables_of(script, statements, sources):
 
 
 def maps_of(script, statements, sources, outputs, labels):
-    """Run a script, and return the cells of its outputs and the labels of maps by name."""
+    """Run a script and return the cells of its outputs, and the labels of maps by name."""
     from rcell.core import protocol
 
     if not outputs:
@@ -412,8 +412,8 @@ def pairs_of(text, kind):
         if not NAME.fullmatch(name):
             raise Stopped(
                 _(
-                    "<{}>: rcell does not accept this name; write NAME={}, with letters, digits, "
-                    "_ and . and a letter or _ first"
+                    "<{}>: rcell does not accept this name; write NAME={}, with a NAME of letters, "
+                    "digits, _ and ., beginning with a letter or _"
                 ).format(item, raster or "MAP")
             )
         if name in [pair.name for pair in pairs] and kind is Input:
@@ -430,14 +430,14 @@ def look_up_inputs(inputs):
         if gs.raster_info(raster.map)["datatype"] != "CELL":
             raise Stopped(
                 _(
-                    "Raster map <{0}> has decimals, but rcell needs whole numbers: round it, for "
-                    'example with r.mapcalc "cells = round({0})"'
+                    "Raster map <{0}> has decimals, but rcell requires whole numbers: round it, "
+                    'for example with r.mapcalc "cells = round({0})"'
                 ).format(raster.map)
             )
 
 
 def look_up_outputs(outputs, commands, inputs):
-    """Check that the script creates each output and that its name is free.
+    """Check that the script contains the map of each output, and that the output's name is free.
 
     Returns the outputs with their names in this mapset.
     """
@@ -448,7 +448,7 @@ def look_up_outputs(outputs, commands, inputs):
         if output.name not in known:
             others = ", ".join(commands) or _("none")
             raise Stopped(
-                _("The script makes no map <{}>; it makes {}").format(output.name, others)
+                _("The script does not make a map <{}>; it makes {}").format(output.name, others)
             )
         if mapset not in ("", current) or not raster or not gs.legal_name(raster):
             raise Stopped(
@@ -469,7 +469,7 @@ def look_up_region():
         raise Stopped(
             _(
                 "The current region has {} rows and {} columns; rcell accepts at most {} of each "
-                "and {} cells in total. Work in tiles (r.tile, or g.region for each)"
+                "and {} cells in total. Cut it into tiles (r.tile, or g.region for each tile)"
             ).format(rows, cols, MOST_SIDE, MOST_CELLS)
         )
     return region
@@ -491,9 +491,9 @@ def read_script(path):
 
 @contextmanager
 def table_file(path, script):
-    """Yield the file for the tables, which gets its name if the block succeeds.
+    """Yield the file for the tables, which is given its name if the block succeeds.
 
-    Standard output and devices also get the tables only then.
+    Standard output and devices are also written only then.
     """
     from rcell.core.errors import Refused
     from rcell.core.files import Output, check_output
@@ -505,7 +505,7 @@ def table_file(path, script):
             yield output
     except Refused:
         raise Stopped(
-            _("The table <{}> is the script; give it another name").format(path)
+            _("The table <{}> would replace the script; use another name").format(path)
         ) from None
     except BrokenPipeError:  # the reader has closed the pipe
         if path not in ("", "-"):
@@ -535,7 +535,7 @@ def open_standard_streams():
 
 
 def imported(script, statements, sources, outputs, labels, region, progress):
-    """Run a script, and import its maps and labels under temporary names."""
+    """Run a script and import its maps and labels under temporary names."""
     cells, texts = maps_of(script, statements, sources, outputs, labels)
     imports = Imports(region)
     for output, frame in zip(outputs, cells):
@@ -551,8 +551,8 @@ def done(options, flags):
     if not program():
         raise Stopped(
             _(
-                "The program rcell-pipe is not on the path: install rcell, or add its bin folder "
-                "to PATH"
+                "The program rcell-pipe was not found on PATH: install rcell, or add its bin "
+                "folder to PATH"
             )
         )
     find_front(program())
@@ -600,7 +600,7 @@ def main():
         sys.stderr.write(fault.beneath)
         return 1
     except CalledModuleError as fault:
-        gs.fatal(_("A module of GRASS failed: {}").format(fault))
+        gs.fatal(_("A GRASS module failed: {}").format(fault))
     return 0
 
 

@@ -248,7 +248,7 @@ class Names(unittest.TestCase):
 
 
 class Runs(Session):
-    """Maps are sent through rcell-pipe."""
+    """Scripts are run over maps with rcell-pipe."""
 
     def test_what_is_printed(self):
         text, cells, texts = self.run_(
@@ -302,7 +302,7 @@ class Runs(Session):
 
 
 class Tables(unittest.TestCase):
-    """The file of the tables is complete or missing, and never replaces a device or FIFO."""
+    """The table file is complete or missing, and never replaces a device or FIFO."""
 
     def setUp(self):
         folder = tempfile.TemporaryDirectory()

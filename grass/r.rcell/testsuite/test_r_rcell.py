@@ -4,7 +4,7 @@
 #
 # MODULE:    Tests of r.rcell
 # AUTHOR(S): Nibzoqel maintainers
-# PURPOSE: Compares r.rcell with the modules of GRASS, in the location of the session
+# PURPOSE:   Compares r.rcell with GRASS modules, in the location of the session
 #
 ############################################################################
 
@@ -104,7 +104,7 @@ class TestRcell(TestCase):
             ]
         )
 
-    # Answers
+    # Results
 
     def test_areas_are_those_of_r_clump(self):
         for flags in ("", "d"):
@@ -266,7 +266,7 @@ class TestRcell(TestCase):
             (dict(maps="cover,heights"), "Raster map <heights> has decimals"),
             (dict(maps="cover,cover=zones"), "The name <cover> is used for two maps"),
             (dict(maps="cover,3d=zones"), "rcell does not accept this name"),
-            (dict(maps="cover", output="y"), "The script makes no map <y>; it makes x"),
+            (dict(maps="cover", output="y"), "The script does not make a map <y>; it makes x"),
             (dict(maps="cover", output="x=taken"), "Raster map <taken> exists"),
             (dict(maps="cover", output="x=t_1,x=t_1"), "Raster map <t_1> would be written twice"),
             (
