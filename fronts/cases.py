@@ -32,7 +32,7 @@ KINDS = [
     ("read failed", r"cannot open|rows \d+ to \d+ cannot be read"),
     (
         "bad map",
-        r"not a map of whole numbers|has \d+ bands|a (rotated )?transform|its values are scaled|no polygon|not polygons|no field ",
+        r"not a map of whole numbers|has \d+ bands|its transform (is|must)|its values are scaled|no polygon|features must be|no field ",
     ),
     ("refused", r""),
 ]
