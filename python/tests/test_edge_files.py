@@ -368,7 +368,7 @@ def test_a_program_that_does_not_end_is_told(
     stranger.write_text("#!/bin/sh\nexec sleep 60\n")
     stranger.chmod(0o755)
     monkeypatch.setattr(programs, "PROBE_SECONDS", 0.5)
-    with pytest.raises(rcell.WrongProgram, match="did not end a test run within 0.5 seconds"):
+    with pytest.raises(rcell.WrongProgram, match="did not finish a test run within 0.5 seconds"):
         find_program(stranger)
 
 

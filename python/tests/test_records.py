@@ -107,7 +107,7 @@ def test_a_script_and_a_program_are_named(folder: pathlib.Path) -> None:
     told["runs"][0]["script"] += "\n"
     beside.write_text(json.dumps(told))
     program, script = rcell.verify(path)
-    assert program.startswith("the program differs: rcell ")
+    assert program.startswith("the program has changed: it was rcell ")
     assert script == "the scripts differ: the call ran other lines"
 
 

@@ -245,7 +245,7 @@ def test_maps_are_written_all_or_none(tmp_path: Any, capsys: Any) -> None:
             4,
             "lc: cannot open: /nowhere: No such file or directory",
         ),
-        (["run", "r.stats -c input=lc", "lc"], 2, "lc: write NAME=PATH"),
+        (["run", "r.stats -c input=lc", "lc"], 2, "lc: must have the form NAME=PATH"),
         (["cross", "lc=MAP", "lc=MAP"], 2, "lc=MAP: the name lc is given twice"),
         (
             ["run", "/nowhere/script", "lc=MAP"],

@@ -1,5 +1,5 @@
 # SPDX-License-Identifier: Apache-2.0 OR GPL-2.0-or-later
-"""Record how a table was created and verify it later."""
+"""Record how tables are created, and verify the tables later."""
 
 from __future__ import annotations
 

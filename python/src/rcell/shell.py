@@ -102,7 +102,7 @@ def _pairs(words: Sequence[str]) -> dict[str, str]:
     for word in words:
         name, equals, path = word.partition("=")
         if not (name and equals and path):
-            raise Refused(f"{word}: write NAME=PATH", status=COMMAND_LINE)
+            raise Refused(f"{word}: must have the form NAME=PATH", status=COMMAND_LINE)
         if name in paths:
             raise Refused(f"{word}: the name {name} is given twice", status=COMMAND_LINE)
         paths[name] = path

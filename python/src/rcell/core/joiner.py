@@ -62,7 +62,7 @@ def _probe(path: str) -> None:
         is_known = ended[:2] == (0, b"1 1 2 1\n")
     except TimeoutError:
         raise WrongProgram(
-            f"{path} did not end a test run within {PROBE_SECONDS} seconds: check that it is "
+            f"{path} did not finish a test run within {PROBE_SECONDS} seconds: check that it is "
             "rcell-join"
         ) from None
     if not is_known:

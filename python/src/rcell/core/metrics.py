@@ -222,8 +222,8 @@ def _of_sizes(
 def _aggregation(land: Landscapes) -> Floats:
     """Return the aggregation index of each member (He, DeZonia and Mladenoff 2000).
 
-    The index is the number of like sides as a percentage of the largest number that is possible
-    with the same number of cells.
+    The index is the number of like sides as a percentage of the largest possible number for the
+    same number of cells.
     """
     cells = land.by_member(land.cells)
     side = np.sqrt(cells).astype(np.int64)  # exact, because maps have fewer than 2^31 cells
@@ -249,7 +249,7 @@ def _cohesion(groups: Integers, land: Landscapes, whole: Integers) -> Floats:
 def _interspersion(
     groups: Integers, borders: Floats, edges: Floats, kinds: Integers, others: Integers
 ) -> Floats:
-    """Return each group's interspersion index: the entropy of the borders over its maximum.
+    """Return each group's interspersion index: the entropy of the borders relative to its maximum.
 
     The maximum depends on the number of classes. The index is NaN if there are fewer than three
     classes, or no edges.
@@ -269,7 +269,7 @@ def _entropy(groups: Integers, parts: Floats, size: int) -> Floats:
 def _entropy_of_sides(land: Landscapes, shares: Floats) -> Floats:
     """Return the entropy of each landscape's class adjacencies (Riitters et al. 1996).
 
-    Each cell side is counted from both of its cells.
+    Each cell side is counted twice, once from each of its cells.
     """
     members = np.concatenate([land.sides.first, land.sides.second, np.arange(land.classes.size)])
     unlike = land.sides.ends + land.sides.flanks

@@ -88,7 +88,7 @@ class _Summary:
         """Add a tile's table and set aside the patches that may continue in other tiles.
 
         The table's columns are class, patch, row (only in degrees) and cells. `waiting` lists the
-        numbers of these patches.
+        numbers of the patches to set aside.
         """
         if self._listed is not None:
             table = table[np.isin(table[:, 0], self._listed)]

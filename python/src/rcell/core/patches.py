@@ -107,7 +107,7 @@ def patches(
     fewest = 1 if min_cells is None else whole_number_of("min_cells", min_cells, 1)
     listed = classes_of(classes)
     if summary is not None and (summary != "class" or zones is not None):
-        told = "must be left out with zones" if summary == "class" else 'must be "class"'
+        told = "must be left out if zones are given" if summary == "class" else 'must be "class"'
         raise BadArgument("summary", f"{told}; got {summary!r}")
     maps = Maps({"map": map}, crs, zones, zone_field, layer, each)
     measure = maps.measure(area)

@@ -149,7 +149,7 @@ def check_files_are(states: Mapping[str, State]) -> None:
     for path, state in states.items():
         own = states_of([path]).get(path)
         if own is None:
-            raise ReadFailed(path, "cannot open: No such file")
+            raise ReadFailed(path, "cannot open: No such file or directory")
         if own != state:
             difference = f"{_state_text(own)} here, and {_state_text(state)} there"
             raise ReadFailed(path, f"differs from the file on the caller's machine: {difference}")

@@ -26,7 +26,7 @@ _MESSAGE = re.compile(r"rcell: [^:]*:(\d+): (.*)")
 
 
 def is_text_grid(start: bytes) -> bool:
-    """Return whether a file that begins with these bytes is a text grid of rcell.
+    """Return whether a file that begins with these bytes is an rcell text grid.
 
     Examples
     --------

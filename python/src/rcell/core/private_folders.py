@@ -84,7 +84,7 @@ class PrivateFolder:
 def _lock_of(path: str) -> str:
     """Return the path of a folder's lock, which is a file with the folder's name.
 
-    The file that is written to the folder cannot have the folder's name.
+    No other file in the folder has this name.
     """
     return os.path.join(path, os.path.basename(path))
 
@@ -108,7 +108,7 @@ def _locked(path: str) -> int | None:
 
 
 def _remove_abandoned(folder: str, stem: str) -> None:
-    """Remove the folders for a file that were left by this user's killed processes."""
+    """Remove the folders that this user's killed processes left for a file."""
     with contextlib.suppress(OSError):
         for name in os.listdir(folder):
             if name.startswith(stem) and _ENDING.fullmatch(name, len(stem)):

@@ -38,7 +38,7 @@ With pages of 4 KiB, allocation took an eighth of the time of a table.
 """
 
 MESSAGE_LIMIT = 1 << 16
-"""The most bytes to keep of a program's standard error. rcell's programs print one line."""
+"""The largest number of bytes to keep from a program's standard error, usually one line."""
 
 _held: set[int] = set()
 _works = 0  # running blocks that must remove a file or stop a program before this process ends
@@ -243,7 +243,7 @@ class Started:
             return None
         left = self._until - time.monotonic()
         if left <= 0:
-            raise TimeoutError(errno.ETIMEDOUT, "does not end")
+            raise TimeoutError(errno.ETIMEDOUT, "the program did not end in time")
         return left
 
     def end(self) -> tuple[int, bytes]:
@@ -251,4 +251,4 @@ class Started:
         try:
             return self._process.wait(self._seconds_left()), self._message
         except subprocess.TimeoutExpired:
-            raise TimeoutError(errno.ETIMEDOUT, "does not end") from None
+            raise TimeoutError(errno.ETIMEDOUT, "the program did not end in time") from None

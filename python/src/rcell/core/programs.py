@@ -109,7 +109,7 @@ def known_after(probe: Callable[[str], None], path: str) -> str:
 
 _UNKNOWN = "{} is not a supported version of the program {}"
 _NOT_STARTED = "the program {} cannot be executed: {}"
-_ENDLESS = "{} did not end a test run within {} seconds: check that it is {}"
+_ENDLESS = "{} did not finish a test run within {} seconds: check that it is {}"
 _PROBE_GRID = b"north: 1\nsouth: 0\neast: 3\nwest: 0\nrows: 1\ncols: 3\nnull: ***\n007 *** 012 "
 _PRINTED = b"north: 1\nsouth: 0\neast: 3\nwest: 0\nrows: 1\ncols: 3\n7 * 12\n"
 

@@ -66,7 +66,7 @@ _CALLED = ("row", "col", "nrows", "ncols")
 _NO_MEMORY = 3  # the status for out of memory
 PATCH_BYTES, ZONE_BYTES = 68, 4
 _AT_COLUMN = re.compile(r" at column (\d+)$")
-# Cells with fewer bytes are joined from pieces, and larger ones are read directly into memory.
+# Arrays with fewer bytes are assembled from pieces. Larger arrays are read directly into memory.
 DIRECT_BYTES = 1 << 20
 MOST_CELL_BYTES = 1 << 33
 
@@ -296,7 +296,7 @@ class Rejected(Exception):
     column : int
         The position in the line, counted in bytes from 1. 0 if the position is unknown.
     text : str
-        The message, in the same words as rcell's message.
+        The message, which is the same as rcell's.
     """
 
     def __init__(

@@ -255,8 +255,8 @@ def differences(path: str, version: str) -> Iterator[str]:
     yield from _other_texts([record["call"]["words"], record["call"]["named"]], folder)
     if _sum_of_program() != record["program"]:
         yield (
-            f"the program differs: rcell {record['versions']['rcell']} wrote the table, but this "
-            f"is rcell {version}"
+            f"the program has changed: it was rcell {record['versions']['rcell']}, and is now "
+            f"rcell {version}"
         )
     try:
         repeated = _recorded(record["call"], call, folder)

@@ -337,8 +337,8 @@ class Shift:
     Attributes
     ----------
     rows, cols : float
-        The row and column of the other grid, from 0, at which the first cell begins; integers if
-        the grids are shifted by whole cells.
+        The row and column of the other grid, counted from 0, at which the first cell begins. These
+        are integers if the grids are shifted by whole cells.
     height, width : float
         The size of a cell, in cells of the other grid.
     shape : tuple of int

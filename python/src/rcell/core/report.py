@@ -253,7 +253,7 @@ def _picture_of(record: Mapping[str, Any], folder: str) -> Iterator[str]:
 
 
 def _thinned(source: Source) -> tuple[NDArray[np.int64], int]:
-    """Return every nth row and column of a map, and the smallest n for which they fit a picture."""
+    """Return every nth row and column of a map, and n, so that the map fits into a picture."""
     step = -(-max(source.region.shape) // MOST_PIXELS)
     rows, first = [], 0
     for block in source.blocks():

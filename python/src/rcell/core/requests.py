@@ -28,7 +28,7 @@ class Block(NamedTuple):
     ----------
     cells : buffer
     mask : buffer, optional
-        A byte for each cell, which is 1 if the cell is null; required if the map is masked.
+        A byte for each cell, which is 1 if the cell is null. Required if the map is masked.
     """
 
     cells: Buffer
@@ -43,7 +43,7 @@ class Map:
     ----------
     name : str
     edges : tuple of str
-        The north, south, east and west edges as decimal texts.
+        The north, south, east and west edges as decimal strings.
     rows, cols : int
     type : {"u8", "i8", "u16", "i16", "u32", "i32", "i64"}
     blocks : iterable of Block

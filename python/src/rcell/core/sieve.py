@@ -157,7 +157,7 @@ def cells_of_hectares(name: str, hectares: Any, source: Source, crs: Any) -> int
     """Convert hectares to a number of cells, rounded up."""
     if not is_number(hectares) or not 0 < hectares < math.inf:
         raise BadArgument(name, f"must be a number above 0; got {hectares!r}")
-    metres = metres_of(name, crs, f": give {option('min_cells')}")
+    metres = metres_of(name, crs, f": use {option('min_cells')}")
     cell = -source.transform[0] * source.transform[4] * metres**2
     return max(1, math.ceil(round(float(hectares) * UNITS_OF_AREA["ha"] / cell, _DIGITS)))
 

@@ -170,7 +170,7 @@ def unmasked(cells: Any) -> tuple[Cells, Mask | None]:
 
 
 def is_converted(dtype: np.dtype[Any]) -> bool:
-    """Return whether cells of a type must be converted to int32: floats and uint64.
+    """Return whether cells of a type are converted to int32, as floats and uint64 are.
 
     In converted cells, -2147483648 is null. The program accepts all other types unchanged.
     """
@@ -371,7 +371,9 @@ class Scaled:
         self.source, self.scale = source, scale
 
     def __getattr__(self, name: str) -> Any:
-        if name == "source" or name.startswith("__"):  # while it is copied, the map is not set yet
+        if name == "source" or name.startswith(
+            "__"
+        ):  # the source is not set yet while the map is copied
             raise AttributeError(name)
         return getattr(self.source, name)
 

@@ -139,9 +139,8 @@ def open_path(name: str, path: str | os.PathLike[str]) -> Source:
         return TextMap(name, text, region, head, stream)
     stream.close()
     if not is_file:
-        raise BadMap(
-            name, f"{text} is not a file, and its text is not a grid: a raster is read from a file"
-        )
+        problem = f"{text} is neither a text grid nor a regular file"
+        raise BadMap(name, f"{problem}: a raster must be a regular file")
     return _raster(name, text)
 
 
@@ -205,4 +204,4 @@ def _refused_region(name: str, path: str, is_file: bool) -> Region:
     if is_file:
         for _ in TextMap(name, path, Region.of_cells(1, 1)).blocks():
             pass
-    raise BadMap(name, f"{path}: this is not the header of a grid")
+    raise BadMap(name, f"{path} does not begin with a valid grid header")

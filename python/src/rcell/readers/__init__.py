@@ -96,7 +96,7 @@ def crs_of(text: str) -> Crs:
         The text does not describe a reference system.
     MissingLibrary
     """
-    purpose = f"to understand the coordinate reference system {text[:60]!r}"
+    purpose = f"to read the coordinate reference system {text[:60]!r}"
     system: Crs = _reader("pyproj", "osr", "gis", purpose).crs_of(text)
     return system
 

@@ -235,7 +235,7 @@ class RasterMap:
         Raises
         ------
         ReadFailed
-            A part of the file is broken.
+            A part of the file cannot be read.
         BadMap
             A cell is not a whole number in range.
         """

@@ -123,7 +123,7 @@ def _value_of(feature: Any, place: int) -> Any:
 def feature_of(name: str, number: Any, value: Any, wkb: bytes) -> Feature:
     """Convert a well-known binary geometry to a feature, with curves as lines.
 
-    The bytes may be empty, and so may the geometry.
+    Empty bytes and empty geometries are allowed.
 
     Raises
     ------

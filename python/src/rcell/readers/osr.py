@@ -114,7 +114,7 @@ def _kind_of(system: Any) -> str:
 
 
 def _codes_of(system: Any) -> tuple[str, ...]:
-    """Return the codes that certainly identify a system, beginning with the system's own code."""
+    """Return the codes that reliably identify a system, beginning with the system's own code."""
     codes = [(system.GetAuthorityName(None), system.GetAuthorityCode(None))]
     with quiet():
         try:

@@ -90,7 +90,7 @@ def _kind_of(system: Any) -> str:
 
 
 def _codes_of(system: Any) -> tuple[str, ...]:
-    """Return the codes that certainly identify a system, beginning with the system's own code."""
+    """Return the codes that reliably identify a system, beginning with the system's own code."""
     own = system.to_authority(min_confidence=100)
     codes = [own] if own else []
     codes += [

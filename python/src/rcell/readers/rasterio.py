@@ -163,7 +163,7 @@ class Layer:
         Raises
         ------
         ReadFailed
-            A part of the file is broken.
+            A part of the file cannot be read.
         """
         top, left, rows, cols = place
         window = need("rasterio.windows", "gis", _PURPOSE).Window(left, top, cols, rows)
@@ -337,7 +337,7 @@ class RasterMap:
         Raises
         ------
         ReadFailed
-            A part of the file is broken.
+            A part of the file cannot be read.
         BadMap
             A cell is not a whole number in range.
         """
