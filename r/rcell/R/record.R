@@ -52,7 +52,7 @@ rcell_verify <- function(path) {
     other_files(list(call$words, call$named), folder)
   )
   if (sum_of(program_path()) != record$program) {
-    text <- "the program differs: rcell %s wrote the table, but this is rcell %s"
+    text <- "the program has changed: it was rcell %s, and is now rcell %s"
     told <- c(told, sprintf(text, record$versions$rcell, packageVersion("rcell")))
   }
   arguments <- lapply(c(call$words, call$named), placed_argument, folder)
