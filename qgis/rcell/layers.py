@@ -217,7 +217,7 @@ def _uses_nodata(layer: QgsRasterLayer, band: int) -> bool:
     """Return whether the file's nodata value is null, which the user may have disabled.
 
     QGIS ignores nodata values that its data type cannot represent, such as -128 in signed bytes.
-    Here, these values are null.
+    This plugin treats these values as null.
     """
     provider = layer.dataProvider()
     return bool(provider.useSourceNoDataValue(band)) or not provider.sourceHasNoDataValue(band)

@@ -34,7 +34,7 @@ class RcellProvider(QgsProcessingProvider):
         return QIcon(ICON)
 
     def load(self) -> bool:
-        """Add the setting under Settings, Options, Processing, Providers."""
+        """Add the setting under Settings > Options > Processing > Providers."""
         ProcessingConfig.settingIcons["rcell"] = self.icon()
         title = "Program rcell-pipe (empty: the plugin's own)"
         ProcessingConfig.addSetting(

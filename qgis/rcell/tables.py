@@ -1,5 +1,5 @@
 # SPDX-License-Identifier: Apache-2.0 OR GPL-2.0-or-later
-"""Write tables and rasters with GDAL and name each file only when the file is complete."""
+"""Write tables and rasters with GDAL, and name each file only when it is complete."""
 
 from __future__ import annotations
 
@@ -22,7 +22,7 @@ from .engine.core.sources import BLOCK_CELLS, Source
 from .engine.core.table_texts import table_text
 from .engine.readers.osr import quiet
 
-# Level 1 with a predictor needs an eighth of the time of level 6 without a predictor, for files of
+# Level 1 with a predictor takes an eighth of the time of level 6 without a predictor, for files of
 # the same size.
 _OPTIONS = ["COMPRESS=DEFLATE", "ZLEVEL=1", "PREDICTOR=2", "TILED=YES", "BIGTIFF=IF_SAFER"]
 _COPIED_BYTES = 1 << 22
@@ -169,7 +169,7 @@ def _insert(part: str, name: str, identifier: str, rows: Iterable[Any], count: i
 
 
 def _make_geopackage(part: str, name: str, columns: list[Column]) -> str:
-    """Create an empty table and return a list of its columns, beginning with the row id.
+    """Create an empty table and return its columns for SQL, beginning with the row id.
 
     Returns an empty string after an error.
     """

@@ -109,7 +109,7 @@ class SampleAlgorithm(RcellAlgorithm):
             "R and the shell.</p>"
         ),
         noop(
-            "<p>The number is a total, or a number for each class, for example "
+            "<p>Give a total number of cells, or a number for each class, for example "
             "<code>11:50,31:100</code>. The table contains coordinates, which <i>Create points "
             "layer from table</i> converts to points.</p>"
         ),

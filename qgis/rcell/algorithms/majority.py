@@ -64,8 +64,8 @@ class WithinAlgorithm(RcellAlgorithm):
         noop(
             "<p>Distances are in metres, in ascending order, up to 255 cells, and are measured "
             "between cell centres. The result is 0 in the classes, 1 up to the first distance, and "
-            "2 from there up to the second distance. As zones of <i>Composition</i>, it yields the "
-            "classes in each ring. Rasters in degrees must be reprojected first.</p>"
+            "2 from there up to the second distance. Used as zones in <i>Composition</i>, it yields "
+            "the classes in each ring. Rasters in degrees must be reprojected first.</p>"
         ),
     )
 

@@ -1,5 +1,5 @@
 # SPDX-License-Identifier: Apache-2.0 OR GPL-2.0-or-later
-"""Define rcell:reclass, which applies rules to a map."""
+"""Define rcell:reclass, which reclassifies a map using rules."""
 
 from __future__ import annotations
 
