@@ -248,7 +248,7 @@ class Imports:
         return {key: "%.15g" % self.region[key[0]] for key in ("north", "south", "east", "west")}
 
     def add(self, output, frame, progress):
-        """Import a map with r.in.bin from a file, whose size r.in.bin must know."""
+        """Import a map with r.in.bin from a file, because r.in.bin cannot read from a pipe."""
         name = "rcell_%d_%d" % (os.getpid(), len(self.names))
         self.names[name] = output
         path = os.path.join(self.room, "cells")
@@ -452,7 +452,7 @@ def look_up_outputs(outputs, commands, inputs):
             )
         if mapset not in ("", current) or not raster or not gs.legal_name(raster):
             raise Stopped(
-                _("<{}> is not a name for a raster map of this mapset").format(output.map)
+                _("<{}> is not a valid name for a raster map in this mapset").format(output.map)
             )
         if raster in [other.map for other in checked]:
             raise Stopped(_("Raster map <{}> would be written twice").format(raster))

@@ -271,7 +271,7 @@ class TestRcell(TestCase):
             (dict(maps="cover", output="x=t_1,x=t_1"), "Raster map <t_1> would be written twice"),
             (
                 dict(maps="cover", output="x=t_1@elsewhere"),
-                "is not a name for a raster map of this mapset",
+                "is not a valid name for a raster map in this mapset",
             ),
         ]
         for options, message in wrong:
