@@ -240,7 +240,7 @@ def test_decimals_without_a_scale_are_an_error_that_names_it() -> None:
     with pytest.raises(rcell.BadMap, match="row 1, column 2 is 2.5") as caught:
         rcell.zonal(np.array([[1.0, 2.5]]), np.array([[1, 1]]))
     assert caught.value.advice == "scale=100, which rounds to 1/100"
-    with pytest.raises(rcell.BadMap, match="scale=1000000000 does not fit: .* column 2 is 2.5"):
+    with pytest.raises(rcell.BadMap, match="scale=1000000000 is too large: .* column 2 is 2.5"):
         rcell.zonal(np.array([[1.0, 2.5]]), np.array([[1, 1]]), scale=10**9)
     with pytest.raises(rcell.BadArgument, match="scale must be a whole number from 1"):
         rcell.zonal(np.array([[1.0, 2.5]]), np.array([[1, 1]]), scale=0.5)

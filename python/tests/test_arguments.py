@@ -65,7 +65,7 @@ Call = Callable[[], Any]
         (lambda: rcell.run("r.stats input=lc", {"2x": LAND}), "maps must have names of .* got '2x': write m_2x"),
         (lambda: rcell.run("r.stats input=lc", {"a": LAND}, a=LAND), "maps must have different names; got a twice"),
         (lambda: rcell.reclass(LAND, {1: 2}, other="drop"), 'other must be "keep", "null" or None; got \'drop\''),
-        (lambda: rcell.reclass(LAND, 3), "rules must be a dict, a DataFrame or a CSV; got 3"),
+        (lambda: rcell.reclass(LAND, 3), "rules must be a dict, a DataFrame or the path of a CSV; got 3"),
         (lambda: rcell.Raster(LAND, labels=[1]), "labels must be a path, a dict"),
     ],
 )  # fmt: skip

@@ -147,7 +147,7 @@ def test_arrays_of_other_kinds() -> None:
     dask = pytest.importorskip("dask.array")
     assert cells(dask.from_array(LAND, chunks=2)) == LAND.tolist()
     assert (
-        "several variables: pass it as the only map, or pass one variable, for example dataset['lc']"
+        "got a Dataset: pass it as the only map, or pass one variable, for example dataset['lc']"
         in str(refusal(xarray.Dataset({"lc": data_array()})))
     )
 
@@ -441,7 +441,7 @@ def test_a_reference_system_that_is_not_understood_is_refused(
     other = rcell.Raster([[1, 1]], (1, 0, 10, 0, -1, 50), "EPSG:4267")
     assert rows_of(rcell.table(SCRIPT, m=other)) == [(1, 2)]
     with pytest.raises(
-        rcell.MissingLibrary, match="to understand the coordinate reference system 'EPSG:4267'"
+        rcell.MissingLibrary, match="to read the coordinate reference system 'EPSG:4267'"
     ):
         rcell.table(SCRIPT, m=other, area="ha")
 

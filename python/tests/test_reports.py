@@ -111,7 +111,7 @@ def test_large_maps_are_thinned(tmp_path: pathlib.Path) -> None:
     rcell.Raster(cells).write(tmp_path / "large.tif")
     rcell.record(tmp_path / "t.csv", rcell.composition, tmp_path / "large.tif", area=None)
     page = page_of(tmp_path / "t.csv")
-    assert "large.tif, one of 3 rows and columns" in page
+    assert "large.tif, 1 of every 3 rows and columns" in page
     [encoded] = re.findall('base64,([^"]*)"', page)
     with rasterio.io.MemoryFile(base64.b64decode(encoded)) as memory, memory.open() as file:
         assert file.shape == (400, 10)

@@ -105,7 +105,7 @@ def test_a_report_is_a_page_in_a_file_or_on_standard_output(
         (
             ["aggregate", "MAP", "o.tif", "--factor", "2", "--shares", "s.png"],
             2,
-            "s.png: the name of shares must end in .tif or .tiff",
+            "s.png: the name of the shares must end in .tif or .tiff",
         ),
         (
             ["trajectories", "MAP", "MAP", "--years", "1,2", "--map", "last=o.tif"],

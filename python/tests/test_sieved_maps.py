@@ -85,7 +85,7 @@ def test_labels_and_colours_are_those_of_the_map() -> None:
         ({"min_ha": -1}, "min_ha must be a number above 0; got -1"),
         ({"min_ha": "1"}, "min_ha must be a number above 0; got '1'"),
         ({"min_ha": 1}, "min_ha requires a coordinate .* crs=.EPSG:25832."),
-        ({"min_ha": 1, "crs": "EPSG:4326"}, "min_ha requires a map in metres .*: give"),
+        ({"min_ha": 1, "crs": "EPSG:4326"}, "min_ha requires a map in metres .*: use"),
         ({"min_cells": 2, "connectivity": 6}, "connectivity must be 4 or 8; got 6"),
     ],
 )
