@@ -242,7 +242,8 @@ placed_points <- function(points, source) {
   again <- duplicated(corners[, "geom"])
   if (any(again)) {
     feature <- points$ids[[corners[again, "geom"][[1]]]]
-    bad_map("reference", sprintf("features must be single points, but feature %.0f has several", feature))
+    text <- "features must be single points, but feature %.0f has several"
+    bad_map("reference", sprintf(text, feature))
   }
   texts <- points$values$texts
   numbers <- ifelse(is.na(points$values$numbers), whole_numbers(texts), points$values$numbers)

@@ -174,7 +174,8 @@ check_kinds <- function(role, ids, kinds) {
   wrong <- which(!(kinds %in% role$kinds))
   if (!length(wrong)) return(invisible())
   kind <- kinds[[wrong[[1]]]]
-  text <- sprintf("features must be %s, but feature %.0f is a %s", role$are, ids[[wrong[[1]]]], kind)
+  text <- "features must be %s, but feature %.0f is a %s"
+  text <- sprintf(text, role$are, ids[[wrong[[1]]]], kind)
   if (kind %in% CURVED_KINDS) {
     text <- paste0(
       text, ", but terra does not read curves: convert the layer first, with ogr2ogr -nlt ",

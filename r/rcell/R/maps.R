@@ -23,7 +23,8 @@ named_maps <- function(dots, maps) {
     )
   }
   twice <- names(named)[duplicated(names(named))]
-  if (length(twice)) refuse(sprintf("maps must have different names; got %s twice", twice[[1]]), status = 2L)
+  rule <- "maps must have different names; got %s twice"
+  if (length(twice)) refuse(sprintf(rule, twice[[1]]), status = 2L)
   check_names(names(named))
   for (name in names(dots)) check_spelling(name, dots[[name]])
   named
