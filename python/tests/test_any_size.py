@@ -388,7 +388,7 @@ def test_more_columns_than_one_run_has() -> None:
     assert rcell.composition(cells).cells.tolist() == [30_000] * 7
     assert rcell.patches(cells).cells.tolist() == [30_000] * 7
     assert rcell.majority(cells).array.tolist() == cells.tolist()
-    with pytest.raises(rcell.BadMap, match="70,000 columns; this call accepts up to 65,535"):
+    with pytest.raises(rcell.BadMap, match="70,000 columns, but this call accepts at most 65,535"):
         rcell.Raster(cells).text()
 
 

@@ -253,7 +253,7 @@ def _frames(
     wanted: Sequence[str] = (),
     program: Path | None = None,
 ) -> list[protocol.Frame]:
-    """Run a script, and return frames for its outputs, the requested maps, and the questions."""
+    """Run a script and return frames for its outputs, the requested maps, and the questions."""
     check_size(maps)
     lines = [script, *(f"r.out.ascii input={name}" for name in wanted)]
     _tell_host("\n".join([script, *(question.text() for question in questions)]), maps)
@@ -273,8 +273,8 @@ def check_size(maps: Mapping[str, Source]) -> None:
     source = next(iter(maps.values()))
     if not fits_one_run(source.region.shape):
         rows, cols = source.region.shape
-        limits = f"up to {SIDE_LIMIT:,} rows and columns, and {CELL_LIMIT:,} cells"
-        size = f"{rows:,} rows and {cols:,} columns; this call accepts {limits}"
+        limits = f"at most {SIDE_LIMIT:,} rows and columns, and {CELL_LIMIT:,} cells"
+        size = f"has {rows:,} rows and {cols:,} columns, but this call accepts {limits}"
         raise BadMap(source.name, f"{size}: cut the map first, for example with gdal_translate")
 
 
@@ -310,7 +310,7 @@ class _Progress:
         self._sent = 0
 
     def add(self, cells: int) -> None:
-        """Add to the number of sent cells, and report the fraction to the host."""
+        """Add to the number of sent cells and report the fraction to the host."""
         self._sent += cells
         report = host().progress
         if report is not None:

@@ -1,5 +1,5 @@
 # SPDX-License-Identifier: Apache-2.0 OR GPL-2.0-or-later
-"""Join the clumps of tiles, and number them as in the full map.
+"""Join the clumps of tiles and number them as in the full map.
 
 The proved program rcell-join joins the clumps (see `rcell.core.joiner`). This module writes borders
 for rcell-join, and reads its numbering into numpy arrays, without a Python object per clump.
@@ -26,7 +26,7 @@ NO_CLUMP = 0
 """Null in a map of clumps, which are numbered from 1."""
 
 LEAST_WIDTH = 4
-"""The smallest number of columns of a border, because its ninth row contains four numbers."""
+"""The smallest number of columns in a border, whose ninth row contains four numbers."""
 
 PIECE = 2**18
 """The number of cells that are renumbered at a time, which fit in a processor's cache."""
@@ -70,7 +70,7 @@ class Joined:
 def border_text(
     place: Rectangle, cells: Integers, numbers: Integers, diagonal: bool = False
 ) -> bytes:
-    """Return a tile's border, in the bytes that `rcell-join border` writes.
+    """Return a tile's border in the format of `rcell-join border`.
 
     Parameters
     ----------
@@ -126,7 +126,7 @@ def _words(values: Iterable[int], null: Optional[int] = None) -> list[str]:
 
 
 def join(borders: Sequence[bytes], diagonal: bool = False) -> Joined:
-    """Join the clumps of tiles, and number them by their first cells in the full map.
+    """Join the clumps of tiles and number them in the order of their first cells in the full map.
 
     Parameters
     ----------
@@ -134,7 +134,7 @@ def join(borders: Sequence[bytes], diagonal: bool = False) -> Joined:
         The borders of all tiles in the format of `rcell-join border`, row by row from the top left
         (law `grids_cover`).
     diagonal : bool
-        Whether cells that touch at a corner are connected; must be the same as for the borders.
+        Whether cells that touch at a corner are connected, as in the borders.
 
     Examples
     --------

@@ -40,7 +40,8 @@ PATCH = np.dtype(
 )
 """The program's measures of a patch.
 
-`ends` counts north and south sides of cells on its border, `flanks` west and east sides.
+`ends` counts the northern and southern cell sides on its border, and `flanks` the western and
+eastern cell sides.
 """
 ZONED_PATCH = np.dtype([*PATCH.descr, ("zones", "<i4")])
 """The measures of a patch, and the zone that contains most of its cells."""
@@ -191,7 +192,7 @@ class PatchSum:
     Parameters
     ----------
     classes : list of int, optional
-        The classes whose patches are kept; by default, all classes.
+        The classes whose patches are kept. By default, all patches are kept.
     fewest : int
         The smallest number of cells in a kept patch.
     """
@@ -235,7 +236,7 @@ class PatchSum:
     def _joined(
         self, numbers_of: Callable[[Rectangle, Integers], Integers]
     ) -> tuple[Integers, Integers]:
-        """Join the open patches of all tiles, and return their numbers and measures."""
+        """Join the open patches of all tiles and return their numbers and measures."""
         found = self._open.items()
         numbers = np.concatenate([numbers_of(place, own) for place, (own, _) in found])
         rows = np.concatenate([rows for _, (_, rows) in found])

@@ -358,7 +358,7 @@ class _Tiles:
         return Rectangle(0, 0, *self._shape)
 
     def _numbered(self, numbers: Integers, whole: Joined) -> Integers:
-        """Replace the clump numbers of tiles with those in the full map, in place if they fit."""
+        """Replace the clump numbers of tiles with the full map's numbers, in place if they fit."""
         is_wide = whole.clumps > MAX_CATEGORY
         target = cells_for(self._shape, np.int64) if is_wide else numbers
         tiles = dict(zip(self._places, whole.tiles))

@@ -55,7 +55,7 @@ class TileWork:
     results : callable
         Extracts the results from the frames of the script.
     words : str
-        The form in which the caller writes options.
+        The syntax in which the caller writes options.
     call : str
         A unique string for each call.
     path : str
@@ -226,7 +226,7 @@ def _cells_of(frame: GridFrame, work: TileWork) -> Integers:
 
 
 def wide(cells: Integers, null: int) -> Integers:
-    """Convert cells to int32, with the given number for null."""
+    """Convert cells to int32, with the given value for null."""
     own = protocol.NULL_BYTE if cells.dtype == np.uint8 else NULL
     wide_cells: Integers = cells.astype(np.int32)
     np.copyto(wide_cells, null, where=cells == own)

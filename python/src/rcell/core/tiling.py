@@ -69,7 +69,7 @@ class Work:
     is_dry : bool
         Whether the call raises `DryRun` instead of beginning to read.
     engine : callable or None
-        A function that returns outputs instead of the program. Its arguments are a script, maps,
+        A function that runs scripts instead of the program. Its arguments are a script, maps, the
         names of requested maps, and a fold.
     meanwhile : callable or None
         A function that a thread calls while tiles are processed, for example to import a library.
@@ -194,7 +194,7 @@ def _megabytes(count: int) -> str:
 
 @dataclass(frozen=True)
 class Demand:
-    """The memory that a tile needs per cell, including its halo.
+    """The memory per cell that a tile needs, and its halo.
 
     Attributes
     ----------
@@ -223,7 +223,7 @@ class Demand:
         return cls(read + program + 8 * grids, reach)
 
     def of_tile(self, rows: int, cols: int) -> int:
-        """Return the bytes of memory that a tile needs, including the program."""
+        """Return the memory, in bytes, that a tile and its program need."""
         up, down, left, right = self.reach
         cells = (rows + up + down) * (cols + left + right)
         return PROGRAM_BYTES + math.ceil(self.bytes * cells)
@@ -327,5 +327,5 @@ def _even_side(length: int, most: int, block: int) -> int:
 
 
 def _too_little(needed: int, side: int, free: int) -> OutOfMemory:
-    problem = f"a tile of {side} x {side} cells may need {needed:,} bytes, and {free:,} are free"
+    problem = f"a tile of {side} x {side} cells may need {needed:,} bytes; only {free:,} are free"
     return OutOfMemory(f"{problem}: close other programs, or use fewer maps", "arguments", 0, 3)
