@@ -333,7 +333,10 @@ def test_data_arrays_that_are_no_maps() -> None:
             xarray.DataArray(cells, {"y": [2, 1], "x": [3, 2, 1]}, ("y", "x")),
             "its columns run from east to west: sort them, for example with .sortby('x')",
         ),
-        (xarray.DataArray(cells[:1], {"y": [2], "x": [1, 2, 3]}, ("y", "x")), "only one cell along y"),
+        (
+            xarray.DataArray(cells[:1], {"y": [2], "x": [1, 2, 3]}, ("y", "x")),
+            "only one cell along y",
+        ),
         (xarray.DataArray(cells * 0.5), "the cell at row 1, column 1 is 0.5"),
     ):
         with pytest.raises(rcell.BadMap) as caught:

@@ -67,6 +67,9 @@ def test_classes_and_distances_that_are_refused(classes: Any, distances: Any, to
 
 
 def test_a_map_without_metres_is_refused() -> None:
-    for crs, told in ((None, "requires a coordinate reference system"), ("EPSG:4326", "in degrees")):
+    for crs, told in (
+        (None, "requires a coordinate reference system"),
+        ("EPSG:4326", "in degrees"),
+    ):
         with pytest.raises(rcell.BadArgument, match=told):
             rcell.within(placed([[1, 2]], (0.1, 0, 5, 0, -0.1, 5), crs), [1], [10])

@@ -199,7 +199,11 @@ def test_a_record_of_another_call_fails_with_a_line(folder: pathlib.Path) -> Non
 @pytest.mark.parametrize(
     ("words", "named", "told"),
     [
-        ((np.array([[1]]),), {}, "map must be a path, .* to be recorded; got an object of type ndarray"),
+        (
+            (np.array([[1]]),),
+            {},
+            "map must be a path, .* to be recorded; got an object of type ndarray",
+        ),
         (
             ("lc.tif",),
             {"table": "matrix"},

@@ -196,7 +196,9 @@ def test_stores_of_several_maps_and_none(tmp_path: pathlib.Path) -> None:
     both = xarray.Dataset({name: (("y", "x"), CELLS) for name in ("a", "b")})
     path = str(tmp_path / "both.zarr")
     both.to_zarr(path)
-    with pytest.raises(rcell.BadMap, match=r"the store must have one map; got 2 \(a, b\): pass one of them"):
+    with pytest.raises(
+        rcell.BadMap, match=r"the store must have one map; got 2 \(a, b\): pass one of them"
+    ):
         rcell.composition(path)
     with pytest.raises(rcell.ReadFailed, match="cannot open: nowhere.zarr"):
         rcell.composition("nowhere.zarr")
