@@ -12,7 +12,7 @@ import numpy as np
 from ..readers import open_features
 from .area import AUTO, unit_of
 from .arguments import MAX_CATEGORY, first_of
-from .arrays import NDArray
+from .arrays import Floats, Integers
 from .columns import Column, Matrix, Table, measures
 from .counting import Maps, coded, legend_for
 from .crs import UNITS_OF_AREA
@@ -29,9 +29,6 @@ _TABLES = (".csv", ".tsv")
 # expected count per class.
 _DEVIATE = 3.09
 _FEWEST = 5
-
-Integers = NDArray[np.int64]
-Floats = NDArray[np.float64]
 
 
 class Accuracy(NamedTuple):

@@ -7,7 +7,7 @@ from typing import Any
 
 import numpy as np
 
-from .arrays import NDArray
+from .arrays import Integers
 from .columns import Column, Table
 from .counting import Maps, coded, legend_for
 from .sources import MapLike
@@ -71,9 +71,7 @@ def side_lines(name: str) -> list[str]:
     ]
 
 
-def sides_of(
-    right: NDArray[np.int64], below: NDArray[np.int64]
-) -> tuple[NDArray[np.int64], NDArray[np.int64], NDArray[np.int64]]:
+def sides_of(right: Integers, below: Integers) -> tuple[Integers, Integers, Integers]:
     """Return each pair of classes once, with the numbers of cell sides that the pair shares.
 
     Returns the pairs, the number of sides between cells in the same row, and the number of sides

@@ -11,7 +11,7 @@ from typing import Any, NamedTuple
 import numpy as np
 
 from .arguments import MAX_CATEGORY, is_number, whole_number_of
-from .arrays import NDArray
+from .arrays import Floats, Integers
 from .columns import distinct_names
 from .counting import Maps, places_of
 from .errors import BadArgument
@@ -20,8 +20,6 @@ from .region import Region
 from .sources import ArrayMap, MapLike
 
 __all__ = ["Aggregate", "BlockShares", "aggregate"]
-
-Integers = NDArray[np.int64]
 
 
 class Aggregate(NamedTuple):
@@ -85,7 +83,7 @@ class BlockShares:
         return names
 
     @cached_property
-    def percent(self) -> NDArray[np.float64]:
+    def percent(self) -> Floats:
         """The percentages as an array of classes x rows x columns, with NaN for null blocks."""
         block, index, count = self.entries.T
         percent = np.zeros((len(self.classes), self.cells.size))

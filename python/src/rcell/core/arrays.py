@@ -5,9 +5,13 @@ from __future__ import annotations
 
 from typing import TYPE_CHECKING
 
-__all__ = ["ArrayLike", "NDArray"]
+__all__ = ["ArrayLike", "Floats", "Integers", "NDArray"]
 
 if TYPE_CHECKING:
+    import numpy as np
     from numpy.typing import ArrayLike, NDArray
+
+    Integers = NDArray[np.int64]
+    Floats = NDArray[np.float64]
 else:
-    ArrayLike, NDArray = object, list
+    ArrayLike, NDArray, Integers, Floats = object, list, list, list

@@ -11,7 +11,7 @@ import numpy as np
 
 from ..readers import open_features
 from .area import Measure, measure_of
-from .arrays import NDArray
+from .arrays import Floats, Integers, NDArray
 from .columns import Column
 from .arguments import first_of
 from .errors import BadArgument
@@ -27,8 +27,6 @@ __all__ = ["Counts", "Maps", "coded", "legend_for", "places_of", "sized", "sums_
 
 # The largest number of maps in one r.stats; in degrees, one of the maps contains row numbers.
 MOST_MAPS = 16
-
-Integers = NDArray[np.int64]
 
 
 @dataclass(frozen=True)
@@ -47,7 +45,7 @@ class Counts:
 
     classes: Integers
     cells: Integers
-    area: Optional[NDArray[np.float64]]
+    area: Optional[Floats]
 
     def where(self, kept: NDArray[Any]) -> Counts:
         """Return the entries that a mask or an array of indices selects."""
@@ -66,11 +64,11 @@ class Counts:
         """Return the weights for percentages: areas for maps in degrees, otherwise cell counts."""
         return self.cells if self.area is None else self.area
 
-    def areas(self, measure: Measure) -> NDArray[np.float64]:
+    def areas(self, measure: Measure) -> Floats:
         """Return the areas, or the numbers of cells if no areas are wanted."""
         return measure.area(self.cells) if self.area is None else self.area
 
-    def percent(self, groups: int = 0) -> NDArray[np.float64]:
+    def percent(self, groups: int = 0) -> Floats:
         """Return each entry's percentage of its group's total.
 
         Null entries are not part of the total, and their percentage is NaN.
@@ -86,9 +84,7 @@ class Counts:
         totals = np.repeat(sums_of(counted, first), np.diff([*first, counted.size]))
         return np.where(is_null, np.nan, counted * 100.0 / np.where(totals == 0, 1, totals))
 
-    def columns(
-        self, measure: Measure, percent: Optional[NDArray[np.float64]] = None
-    ) -> list[Column]:
+    def columns(self, measure: Measure, percent: Optional[Floats] = None) -> list[Column]:
         """Return a table's columns of cells and, if requested, of areas and percentages."""
         return sized(measure, self.cells, self.areas(measure), percent)
 
@@ -228,10 +224,7 @@ def sums_of(values: NDArray[Any], first: NDArray[np.intp]) -> NDArray[Any]:
 
 
 def sized(
-    measure: Measure,
-    cells: Integers,
-    area: NDArray[np.float64],
-    percent: Optional[NDArray[np.float64]] = None,
+    measure: Measure, cells: Integers, area: Floats, percent: Optional[Floats] = None
 ) -> list[Column]:
     """Return columns of cells, of areas if they are wanted, and of percentages if they are given."""
     columns = [Column("cells", "count", cells)]

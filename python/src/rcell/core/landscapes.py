@@ -11,14 +11,11 @@ import numpy as np
 
 from .adjacency import side_lines, sides_of
 from .area import Measure
-from .arrays import NDArray
+from .arrays import Floats, Integers, NDArray
 from .counting import Maps, places_of, sums_of
 from .patch_measures import clump_line
 
 __all__ = ["Landscapes", "landscapes_of", "summed"]
-
-Integers = NDArray[np.int64]
-Floats = NDArray[np.float64]
 
 
 class Sides(NamedTuple):

@@ -13,7 +13,7 @@ import numpy as np
 
 from .area import Measure
 from .arguments import check_connectivity
-from .arrays import NDArray
+from .arrays import Floats, Integers
 from .columns import Column, Table, measures
 from .counting import Maps, sized
 from .errors import BadArgument
@@ -27,9 +27,6 @@ _SQUARE_KM = 1e6
 # The fractal dimension is undefined for areas this close to 1 m2, because its divisor is the area's
 # logarithm.
 _NEARLY_ONE = 1e-9
-
-Integers = NDArray[np.int64]
-Floats = NDArray[np.float64]
 
 
 def metrics(

@@ -9,7 +9,7 @@ from typing import Any, Optional
 import numpy as np
 
 from .area import Measure
-from .arrays import NDArray
+from .arrays import Floats, Integers, NDArray
 from .counting import Maps, places_of, sums_of
 from .protocol import NULL, Question
 from .tile_patches import PatchSum
@@ -19,9 +19,6 @@ __all__ = ["PatchMeasures", "clump_line", "patch_measures"]
 # A cell has up to two ends (north, south) and two flanks (west, east) on its patch's border. They
 # are counted as one number: ends + 3 * flanks.
 _FLANK = 3
-
-Integers = NDArray[np.int64]
-Floats = NDArray[np.float64]
 
 
 @dataclass(frozen=True)

@@ -9,15 +9,12 @@ from typing import Any, NamedTuple, Optional
 import numpy as np
 
 from .area import Measure
-from .arrays import NDArray
+from .arrays import Floats, Integers
 from .columns import Column, Table
 from .counting import Maps, places_of, sums_of
 from .runs import execute
 
 __all__ = ["class_summary"]
-
-Integers = NDArray[np.int64]
-Floats = NDArray[np.float64]
 
 
 def class_summary(

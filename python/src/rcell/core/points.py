@@ -10,7 +10,7 @@ from typing import Any, Optional
 import numpy as np
 
 from .arguments import MAX_CATEGORY, known_names
-from .arrays import NDArray
+from .arrays import Integers
 from .crs import common_crs
 from .errors import BadMap
 from .host import option, warn
@@ -24,8 +24,6 @@ __all__ = ["Points", "points_of"]
 # The usual fields for the class, if no field is named.
 _FIELDS = ("class", "reference")
 _KINDS = ("Point", "MultiPoint")
-
-Integers = NDArray[np.int64]
 
 
 @dataclass(frozen=True)

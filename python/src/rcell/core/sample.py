@@ -13,7 +13,7 @@ from typing import Any
 import numpy as np
 
 from .arguments import MAX_CATEGORY, first_of, whole_number_of
-from .arrays import NDArray
+from .arrays import Integers
 from .columns import Column, Table
 from .counting import Maps, places_of
 from .errors import BadArgument
@@ -30,8 +30,6 @@ _MOST_LISTED = 1 << 22
 # The number of bits used of a hash, for which R's floats are exact.
 _BITS = 48
 _OF_CLASSES = re.compile(r"-?[0-9]+:[0-9]+(,-?[0-9]+:[0-9]+)*")
-
-Integers = NDArray[np.int64]
 
 
 def sample(

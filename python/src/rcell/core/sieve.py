@@ -13,7 +13,7 @@ import numpy as np
 
 from .area import metres_of
 from .arguments import check_connectivity, is_number, whole_number_of
-from .arrays import NDArray
+from .arrays import Integers
 from .crs import UNITS_OF_AREA
 from .errors import BadArgument, RcellError
 from .host import option
@@ -29,8 +29,6 @@ _DIGITS = 9
 _SIDES = {"right": "0,1", "below": "1,0"}
 _CORNERS = {"falling": "1,1", "rising": "1,-1"}
 _CHANGED = "r.mapcalc changed = if(isnull(map), null(), isnull(new) ||| map != new)"
-
-Integers = NDArray[np.int64]
 
 
 class Sieved(NamedTuple):

@@ -11,7 +11,7 @@ import numpy as np
 
 from .area import Measure
 from .arguments import MAX_CATEGORY
-from .arrays import NDArray
+from .arrays import Integers
 from .change import checked_years, maps_in_time
 from .columns import Column, Table
 from .counting import MOST_MAPS, Counts, Maps, coded, counts_of, legend_for, places_of, sized
@@ -26,8 +26,6 @@ __all__ = ["MAPS", "Trajectories", "trajectories"]
 MAPS = ("changes", "first_change", "last_change")
 # The largest number of comparisons that fit in an expression of 1,000 tokens.
 _TERMS = 50
-
-Integers = NDArray[np.int64]
 
 
 class Trajectories(NamedTuple):

@@ -9,7 +9,7 @@ from typing import Any, Iterable
 import numpy as np
 
 from .arguments import MAX_CATEGORY, whole_number_of
-from .arrays import NDArray
+from .arrays import Integers, NDArray
 from .counting import Maps, places_of
 from .errors import BadArgument, BadMap
 from .host import option, warn
@@ -17,9 +17,6 @@ from .sources import MapLike, Scaled, Source, source_of
 from .columns import Column, Table
 
 __all__ = ["zonal"]
-
-Integers = NDArray[np.int64]
-Floats = NDArray[np.float64]
 
 
 def zonal(
