@@ -204,7 +204,7 @@ class TileScript:
             "ncols": str(shape[1]),
         }
         lines += [_with_calls(statement, written) for statement in self.statements]
-        if place == outer:
+        if place == outer or not names:
             return lines, {name: name for name in names}
         lines.append(f"r.mapcalc {inside} = {_within(place, outer)}")
         masked = dict(zip(dict.fromkeys(names), others))
