@@ -6,6 +6,7 @@ from __future__ import annotations
 import functools
 import inspect
 import os
+import sys
 from collections.abc import Callable, Iterable, Sequence
 from typing import TYPE_CHECKING, Any, ParamSpec, Protocol, TypeVar, overload
 
@@ -171,8 +172,13 @@ def _series(column: Column) -> Any:
 
 
 def _load_pandas() -> None:
-    """Import pandas, which takes about as long as counting 100 million cells."""
-    import pandas  # noqa: F401
+    """Import pandas, without keeping the threads of tiles waiting."""
+    interval = sys.getswitchinterval()
+    sys.setswitchinterval(interval / 10)
+    try:
+        import pandas  # noqa: F401
+    finally:
+        sys.setswitchinterval(interval)
 
 
 def _returning(

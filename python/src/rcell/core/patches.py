@@ -20,6 +20,7 @@ from .patch_summary import class_summary
 from .region import Transform
 from .scripts import Run, Stats
 from .sources import BLOCK_CELLS, ArrayMap, MapLike, source_of
+from .tiling import in_threads
 
 __all__ = ["clump", "patches"]
 
@@ -152,12 +153,17 @@ def _extents(found: PatchMeasures, transform: Transform) -> list[Column]:
     """Return the columns with the bounding box of each patch."""
     width, _, west, _, height, north = transform
     edges = {
-        "west": west + width * found.left,
-        "south": north + height * (found.bottom + 1),
-        "east": west + width * (found.right + 1),
-        "north": north + height * found.top,
+        "west": (west, width, found.left, 0),
+        "south": (north, height, found.bottom, 1),
+        "east": (west, width, found.right, 1),
+        "north": (north, height, found.top, 0),
     }
-    return measures(edges)
+
+    def edge(name: str) -> NDArray[np.float64]:
+        origin, step, cells, more = edges[name]
+        return origin + step * (cells + more)
+
+    return measures(dict(zip(edges, in_threads(edge, edges))))
 
 
 def clump(

@@ -215,8 +215,9 @@ class PatchSum:
         kept = is_open | (rows["cells"] >= self._fewest)
         if self._listed is not None:
             kept &= np.isin(rows["class"], self._listed)
-        for parts, of in ((self._closed, kept & ~is_open), (self._open, kept & is_open)):
-            parts[place] = np.flatnonzero(of) + 1, rows if of.all() else rows[of]
+        for parts, mask in ((self._closed, kept & ~is_open), (self._open, kept & is_open)):
+            found = np.flatnonzero(mask)
+            parts[place] = found + 1, rows if found.size == rows.size else rows.take(found)
         self._tables[place] = [table[kept[table[:, 0] - 1]] for table in tables]
 
     def join(self, numbers_of: Callable[[Rectangle, Integers], Integers]) -> None:
