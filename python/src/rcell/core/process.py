@@ -31,6 +31,8 @@ PIPE_BYTES = 1 << 18  # fits in a processor's cache, like READ_BYTES
 READ_BYTES = 1 << 18
 SET_PIPE_SIZE = getattr(fcntl, "F_SETPIPE_SZ", 1031)  # in fcntl since Python 3.10
 WATCH_SECONDS = 0.1
+# Programs write blocks of 4 KiB. After a short pause, many blocks can be read at once.
+PAUSE_SECONDS = 0.0002
 LARGE_PAGES = {"GLIBC_TUNABLES": "glibc.malloc.hugetlb=1"}
 """Use pages of 2 MiB if the system supports them.
 
@@ -208,6 +210,8 @@ class Started:
             if not count:
                 self._ended(self._output)
             filled += count
+            if 0 < count < READ_BYTES // 2:
+                time.sleep(PAUSE_SECONDS)
         return filled
 
     def _has_output(self) -> bool:
