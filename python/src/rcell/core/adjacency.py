@@ -62,7 +62,7 @@ def adjacency(map: MapLike, *, labels: Any = None, crs: Any = None) -> Table:
 
 
 def side_lines(name: str) -> list[str]:
-    """Return script lines that count pairs of adjacent cells: in the same row, then in a column."""
+    """Return script lines that count pairs of adjacent cells, first in rows, then in columns."""
     return [
         f"r.mapcalc right = {name}[0,1]",
         f"r.mapcalc below = {name}[1,0]",

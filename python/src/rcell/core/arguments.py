@@ -54,7 +54,7 @@ def whole_number_of(name: str, value: Any, least: int, most: Optional[int] = Non
 
 
 def is_number(value: Any) -> bool:
-    """Return whether a value is a real number, and not a bool."""
+    """Return whether a value is a real number but not a bool."""
     return isinstance(value, numbers.Real) and not isinstance(value, bool)
 
 

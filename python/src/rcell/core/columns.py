@@ -47,7 +47,7 @@ class Column:
 
 
 def measures(values: Mapping[str, Any]) -> list[Column]:
-    """Return a column of measures for each name."""
+    """Return a column of measures for each name in a mapping of names to values."""
     return [Column(name, "measure", part) for name, part in values.items()]
 
 

@@ -219,14 +219,14 @@ def places_of(ordered: Integers) -> NDArray[np.intp]:
 
 
 def sums_of(values: NDArray[Any], first: NDArray[np.intp]) -> NDArray[Any]:
-    """Return the sums of groups of consecutive values, which begin at the indices in `first`."""
+    """Return the sums of groups of consecutive values that begin at the indices in `first`."""
     return np.add.reduceat(values, first) if first.size else values[:0]
 
 
 def sized(
     measure: Measure, cells: Integers, area: Floats, percent: Optional[Floats] = None
 ) -> list[Column]:
-    """Return columns of cells, of areas if they are wanted, and of percentages if they are given."""
+    """Return columns of cells, of areas if requested, and of percentages if given."""
     columns = [Column("cells", "count", cells)]
     if measure.unit is not None:
         columns.append(Column(f"area_{measure.unit}", "measure", area))

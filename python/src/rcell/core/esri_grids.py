@@ -192,7 +192,7 @@ def _lines(start: bytes, pieces: Iterable[bytes]) -> Iterator[bytes]:
 
 
 def esri_of_grid(pieces: Iterator[bytes]) -> Iterator[bytes]:
-    """Convert a grid that rcell printed to an ESRI ASCII grid and yield the text in pieces."""
+    """Convert a grid in the layout that rcell prints to an ESRI ASCII grid, piece by piece."""
     start = b""
     while start.count(b"\n") < 6:
         start += next(pieces)
