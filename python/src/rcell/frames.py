@@ -3,6 +3,7 @@
 
 from __future__ import annotations
 
+import contextlib
 import functools
 import inspect
 import os
@@ -172,11 +173,14 @@ def _series(column: Column) -> Any:
 
 
 def _load_pandas() -> None:
-    """Import pandas, without keeping the threads of tiles waiting."""
+    """Import pandas if possible, without keeping the threads of tiles waiting."""
+    if "pandas" in sys.modules:
+        return
     interval = sys.getswitchinterval()
     sys.setswitchinterval(interval / 10)
     try:
-        import pandas  # noqa: F401
+        with contextlib.suppress(ImportError):
+            import pandas  # noqa: F401
     finally:
         sys.setswitchinterval(interval)
 

@@ -75,7 +75,8 @@ class Crew:
         self._is_shown = is_shown
         self._bar = Bar(steps, self._caller)
         if (meanwhile := work().meanwhile) is not None:
-            self._pool.submit(meanwhile)
+            # As a daemon, the thread does not delay the end of an interrupted call.
+            threading.Thread(target=meanwhile, daemon=True).start()
 
     def __enter__(self) -> Crew:
         return self
