@@ -726,7 +726,7 @@ def test_of_files_that_overlap_the_later_has_the_cells(raster: Write) -> None:
         (25.0, 0.0, 500_025.0, 0.0, -25.0, 5_500_000.0),
         nodata=0,
     )
-    with pytest.warns(UserWarning, match="first.tif and .*second.tif overlap: the later file's"):
+    with pytest.warns(UserWarning, match="first.tif and .*second.tif overlap: the cells of"):
         assert rcell.grid("", "lc", lc=[first, second]).array.tolist() == [[1, 2, 1, 2]]
     with pytest.warns(UserWarning, match="overlap"):
         assert rcell.grid("", "lc", lc=[second, first]).array.tolist() == [[1, 1, 1, 2]]

@@ -143,8 +143,8 @@ def _warn_of_overlaps(mosaic: MosaicMap) -> None:
         later, earlier = (mosaic.parts[index].source.name for index in pairs[0])
         more = f", and so do {len(pairs) - 1:,} more pairs of files" if len(pairs) > 1 else ""
         warn(
-            f"{mosaic.name}: {earlier} and {later} overlap{more}: the later file's cells are used "
-            "unless they are null"
+            f"{mosaic.name}: {earlier} and {later} overlap{more}: the cells of the file listed "
+            "later are used unless they are null"
         )
 
 

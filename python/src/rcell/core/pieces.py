@@ -120,7 +120,7 @@ def chunks_of(source: Any) -> Any:
 
 
 def filled(source: Any, cells: Any) -> Any:
-    """Replace the cells of a Dask map with computed cells, or with None."""
+    """Replace the cells of a Dask map with computed cells, or with None to drop them."""
     if isinstance(source, Scaled):
         return Scaled(filled(source.source, cells), source.scale)
     return replace(source, cells=cells)

@@ -216,7 +216,7 @@ def _sums_of(record: Mapping[str, Any]) -> str:
 
 
 def _picture_of(record: Mapping[str, Any], folder: str) -> Iterator[str]:
-    """Yield HTML with a picture and legend of a call's first map, or why both are missing."""
+    """Yield HTML that shows the picture and legend of a call's first map, or says why not."""
     first = next(files_in([record["call"]["words"], record["call"]["named"]]), None)
     if first is None or not record["runs"]:
         return

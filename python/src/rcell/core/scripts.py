@@ -32,10 +32,10 @@ class Stats:
     Attributes
     ----------
     line : int
-        The line of the script.
+        The statement's line in the script.
     maps : tuple of str
         The names of the maps, in the order of the columns.
-    categories : array of int64, entries x maps
+    categories : array of int64, combinations x maps
         The categories of each combination; -2147483648 is null.
     cells : array of int64, optional
         The number of cells in each combination, with the flag `-c`.
