@@ -253,7 +253,7 @@ def _frames(
     wanted: Sequence[str] = (),
     program: Path | None = None,
 ) -> list[protocol.Frame]:
-    """Run a script and return frames for its outputs, the requested maps, and the questions."""
+    """Run a script and return a frame for each of its outputs, each requested map and each question."""
     check_size(maps)
     lines = [script, *(f"r.out.ascii input={name}" for name in wanted)]
     _tell_host("\n".join([script, *(question.text() for question in questions)]), maps)

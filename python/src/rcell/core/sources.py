@@ -230,8 +230,8 @@ def check_computed(name: str, cells: Cells, dtype: np.dtype[Any], shape: tuple[i
     if cells.shape != shape:
         raise BadMap(
             name,
-            f"a part of {' x '.join(map(str, shape))} cells has the shape {cells.shape} instead: "
-            "state the chunks, for example map_blocks(.., chunks=..)",
+            f"a block has the shape {cells.shape}, but Dask expected {tuple(shape)}: state the "
+            "chunks, for example map_blocks(.., chunks=..)",
         )
 
 

@@ -313,7 +313,7 @@ class _Tiles:
 
         A run reads the maps that the script needs. The last run also reads all maps that no run has
         read, to check their cells. Results are kept for resuming, unless `is_kept` is False because
-        they are too large. They are yielded as `put` returns them, in the thread of the tile.
+        they are too large. The tile's thread passes them to `put`, and what `put` returns is yielded.
         """
         read = script.reads
         if is_last:

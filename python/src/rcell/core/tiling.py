@@ -216,7 +216,7 @@ class Demand:
         clumps: int,
         reach: Margin,
     ) -> Demand:
-        """Return the demand of a script, from its inputs and its numbers of maps and clumps."""
+        """Return the demand of a script with these inputs and these numbers of maps and clumps."""
         read = sum(_read_bytes(source) for source in maps.values())
         program = MAP_BYTES * (len(maps) + results) + CLUMP_BYTES * clumps
         # An output map is in memory twice: in the response and in its result.
