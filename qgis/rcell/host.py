@@ -125,7 +125,7 @@ def find_program(setting: str = "", name: str = "rcell-pipe") -> str:
     if not os.path.isfile(path) or not os.access(path, os.X_OK):
         raise MissingProgram(
             f"the program {path} does not exist or is not executable: correct the path under "
-            f"{_SETTINGS}, or leave it empty to use the plugin's program"
+            f"{_SETTINGS}, or clear it to use the program in the plugin"
         )
     return known(path)
 

@@ -169,9 +169,9 @@ def _insert(part: str, name: str, identifier: str, rows: Iterable[Any], count: i
 
 
 def _make_geopackage(part: str, name: str, columns: list[Column]) -> str:
-    """Create an empty table and return its columns for SQL, beginning with the row id.
+    """Create an empty table and return its columns as an SQL list that starts with the row id.
 
-    Returns an empty string after an error.
+    Returns an empty string if an error occurs.
     """
     source = ogr.GetDriverByName("GPKG").CreateDataSource(part)
     options = ["FID=rcell_fid"] if any(column.name.lower() == "fid" for column in columns) else []

@@ -409,7 +409,7 @@ class RefusalsTest(InSession):
                 (
                     False,
                     "the program /nowhere/rcell-pipe does not exist or is not executable: correct the path under Settings > Options > "
-                    "Processing > Providers > rcell, or leave it empty to use the plugin's program",
+                    "Processing > Providers > rcell, or clear it to use the program in the plugin",
                 ),
             )
             self.refused(
