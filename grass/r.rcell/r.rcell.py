@@ -547,7 +547,7 @@ def imported(script, statements, sources, outputs, labels, region, progress):
 
 
 def done(options, flags):
-    """Run the module: check everything before rcell starts, and name the results at the end."""
+    """Run the module: check all options before rcell starts, and give the maps their names at the end."""
     if not program():
         raise Stopped(
             _(
