@@ -127,7 +127,9 @@ def test_cells_of_another_type_than_dask_was_told_are_refused(told: str, found: 
     turned = dask.zeros((2, 3), chunks=(2, 3), dtype="uint8").map_blocks(
         lambda part: part.reshape(3, 2), dtype="uint8"
     )
-    assert "a block has the shape (3, 2), but Dask expected (2, 3)" in str(refusal(data_array(values=turned)))
+    assert "a block has the shape (3, 2), but Dask expected (2, 3)" in str(
+        refusal(data_array(values=turned))
+    )
 
 
 def test_a_scaled_data_array_is_refused() -> None:
