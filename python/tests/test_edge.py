@@ -120,7 +120,7 @@ def test_cells_of_another_type_than_dask_was_told_are_refused(told: str, found: 
         lambda part: part.astype(found), dtype=told
     )
     text = (
-        f"m: its cells are of type {found}, but Dask expected {told}: state the type, for example "
+        f"m: its cells are of type {found}, but Dask expected {told}: specify the type, for example "
         f"map_blocks(.., dtype='{found}')"
     )
     assert str(refusal(data_array(values=given, attrs={"_FillValue": 0}))) == text

@@ -223,14 +223,14 @@ def check_computed(name: str, cells: Cells, dtype: np.dtype[Any], shape: tuple[i
     """
     if (is_converted(cells.dtype), type_of(cells.dtype)) != (is_converted(dtype), type_of(dtype)):
         problem = (
-            f"its cells are of type {cells.dtype}, but Dask expected {dtype}: state the type, for "
+            f"its cells are of type {cells.dtype}, but Dask expected {dtype}: specify the type, for "
             f"example map_blocks(.., dtype='{cells.dtype}')"
         )
         raise BadMap(name, problem)
     if cells.shape != shape:
         raise BadMap(
             name,
-            f"a block has the shape {cells.shape}, but Dask expected {tuple(shape)}: state the "
+            f"a block has the shape {cells.shape}, but Dask expected {tuple(shape)}: specify the "
             "chunks, for example map_blocks(.., chunks=..)",
         )
 

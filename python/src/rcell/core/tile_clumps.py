@@ -41,10 +41,10 @@ class TileNumbers:
     clumps : int
         The number of clumps in the tile.
     firsts : ndarray of int64, shape (n,)
-        The number of each run's first clump in the tile, ascending.
+        For each run, the number that its first clump has in the tile, ascending.
     numbers : ndarray of int64, shape (n,)
-        The number of each run's first clump in the full map. The clumps up to the next run have
-        consecutive numbers.
+        For each run, the number that its first clump has in the full map. The other clumps of the
+        run have the next numbers.
     """
 
     clumps: int

@@ -65,7 +65,7 @@ class Work:
     resume : str or None
         A folder that keeps the results of finished tiles.
     size : tuple of two ints or None
-        The rows and columns of tiles, for tests. All maps are then cut into tiles.
+        The number of rows and columns in each tile, for tests. If set, all maps are cut into tiles.
     is_dry : bool
         Whether the call raises `DryRun` instead of beginning to read.
     engine : callable or None
