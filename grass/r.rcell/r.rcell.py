@@ -368,7 +368,7 @@ def tables_of(script, statements, sources):
 
 
 def maps_of(script, statements, sources, outputs, labels):
-    """Run a script and return the cells of its outputs, and the labels of maps by name."""
+    """Run a script and return the cells of its outputs, in order, and labels by map name."""
     from rcell.core import protocol
 
     if not outputs:
