@@ -187,7 +187,9 @@ def _held(text: bytes) -> int:
     try:
         file = above_standard(_unnamed())
     except OSError as error:
-        raise WriteFailed(f"an input file for rcell-join cannot be written: {error.strerror}") from None
+        raise WriteFailed(
+            f"an input file for rcell-join cannot be written: {error.strerror}"
+        ) from None
     try:
         write_all(file, text)
     except BaseException as error:
