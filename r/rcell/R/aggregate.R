@@ -3,10 +3,8 @@
 
 rcell_aggregate <- function(x, factor, min_percent = 0, filename = "", overwrite = FALSE,
                             crs = NULL) {
-  is_size <- is_whole(factor) && factor >= 1 && factor <= CATEGORY_LIMIT
-  check_argument(is_size, factor, "factor= must be a whole number, at least 1")
-  is_percent <- is.numeric(min_percent) && length(min_percent) == 1L &&
-    (min_percent >= 0 & min_percent <= 100) %in% TRUE
+  check_whole_number(factor, "factor", 1, CATEGORY_LIMIT)
+  is_percent <- length(min_percent) == 1L && are_between(min_percent, 0, 100)
   check_argument(is_percent, min_percent, "min_percent= must be a number from 0 to 100")
   sources <- map_to_write(x, crs, filename, overwrite)
   blocks <- blocks_of(sources$map, factor)
@@ -15,27 +13,19 @@ rcell_aggregate <- function(x, factor, min_percent = 0, filename = "", overwrite
   frame <- run_own(script, sources)[[1]]
   block <- frame$codes[[1]] + 1L
   class <- frame$codes[[2]]
-  cells <- summed(frame$cells, block, ncell(blocks))
-  is_kept <- cells > 0 & 100 * cells >= min_percent * factor^2
-  order <- order(block, -frame$cells, class)
-  best <- order[!duplicated(block[order])]
-  majority <- rep(NA_real_, ncell(blocks))
-  majority[block[best]] <- class[best]
   classes <- sort(unique(class))
-  shares <- matrix(0, ncell(blocks), length(classes))
-  shares[cbind(block, match(class, classes))] <- 100 * frame$cells / cells[block]
-  majority[!is_kept] <- NA
-  shares[!is_kept, ] <- NA
+  best <- most_frequent(block, frame$cells, class)
+  majority <- summed(class[best], block[best], ncell(blocks))
+  cells <- summed(frame$cells, block, ncell(blocks))
+  known <- list(seq_len(ncell(blocks)), classes)
+  shares <- crossed(100 * frame$cells / cells[block], list(block, class), known)
   layers <- cbind(majority, cells, shares)
+  layers[cells == 0 | 100 * cells < min_percent * factor^2, -2] <- NA
   raster <- rast(blocks, nlyrs = ncol(layers), vals = layers)
-  labels <- sources$map$labels
   own <- c("majority", "cells")
+  labels <- sources$map$labels
   set.names(raster, c(own, class_titles(list(labels), list(classes), own)[[1]]))
-  if (length(labels$codes)) {
-    order <- order(labels$codes)
-    table <- data.frame(value = labels$codes[order], majority = labels$labels[order])
-    set.cats(raster, 1, table)
-  }
+  set_labels(raster, labels, "majority")
   written(raster, filename, "FLT8S")
 }
 

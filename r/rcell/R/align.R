@@ -10,8 +10,7 @@ TRY_NEAREST <- "use resample=\"nearest\" to get the nearest cells"
 rcell_align <- function(x, to, resample = NULL, filename = "", overwrite = FALSE, crs = NULL) {
   if (!is.null(resample) && !identical(resample, "nearest")) {
     given <- paste(format(resample), collapse = " ")
-    text <- sprintf("resample= must be \"nearest\"; got '%s'", given)
-    refuse(text, status = 2L)
+    bad_argument("resample= must be \"nearest\"; got '%s'", given)
   }
   check_filename(filename, overwrite)
   stated <- stated_crs(crs)
@@ -54,14 +53,14 @@ check_alignment <- function(map, target, is_same) {
       paste(format(size, digits = 15, trim = TRUE), collapse = " x ")
     }, "")
     text <- "cells of %s, but `to` has cells of %s: %s"
-    text <- sprintf(text, spelled[[1]], spelled[[2]], TRY_NEAREST)
-    bad_map(map$name, text, class = "rcell_other_region")
+    class <- "rcell_other_region"
+    bad_map(map$name, text, spelled[[1]], spelled[[2]], TRY_NEAREST, class = class)
   }
   shift <- shift_of(map$raster, target$raster)
   if (any(shift != round(shift))) {
     text <- "shifted by %.10g rows and %.10g columns, not by whole cells: %s"
-    text <- sprintf(text, shift[[1]], shift[[2]], TRY_NEAREST)
-    bad_map(map$name, text, class = "rcell_other_region")
+    class <- "rcell_other_region"
+    bad_map(map$name, text, shift[[1]], shift[[2]], TRY_NEAREST, class = class)
   }
 }
 
@@ -92,12 +91,7 @@ places_by_side <- function(from, to) {
 # may differ.
 places_by_centre <- function(from, to) {
   centres <- project(xyFromCell(to, seq_len(ncell(to))), from = crs(to), to = crs(from))
-  row <- floor((ymax(from) - centres[, 2]) / res(from)[[2]] + BORDER_TOLERANCE)
-  col <- floor((centres[, 1] - xmin(from)) / res(from)[[1]] + BORDER_TOLERANCE)
-  is_in_row <- is.finite(row) & row >= 0 & row < nrow(from)
-  is_in_col <- is.finite(col) & col >= 0 & col < ncol(from)
-  index <- row * ncol(from) + col + 1
-  index[!(is_in_row & is_in_col)] <- NA
+  index <- cells_at(from, centres[, 1], centres[, 2], BORDER_TOLERANCE)
   list(index = index, shift = c(NA_real_, NA_real_))
 }
 

@@ -13,16 +13,16 @@ rcell_run <- function(.script, ..., crs = NULL, maps = list()) {
 rcell_table <- function(.script, ..., area = NULL, percent = FALSE, wide = FALSE, crs = NULL,
                         maps = list()) {
   if (missing(.script)) no_script()
-  choice <- area_choice(area, FALSE)
+  requested_unit(area)
   check_flag(percent, "percent")
   check_flag(wide, "wide")
   request <- request_of(.script, list(...), maps)
   sources <- sources_of(request$maps, crs)
-  area <- unit_of(choice, sources[[1]])
+  area <- unit_of(area, sources[[1]])
   outputs <- Filter(Negate(is_grid), request$outputs)
   if (!length(outputs)) no_table(request$outputs)
   if (!is.null(area) && is_in_degrees(sources[[1]])) {
-    refuse(paste(
+    bad_input("arguments", paste(
       "area= requires a map in metres or feet, but this map is in degrees:",
       "use rcell_composition or rcell_cross, which compute the cell area of each row"
     ))
@@ -37,18 +37,17 @@ rcell_table <- function(.script, ..., area = NULL, percent = FALSE, wide = FALSE
 # The parameter names begin with a dot because R matches argument names partially: a map named `s`
 # would otherwise be taken for the script.
 no_script <- function() {
-  text <- paste0(
-    "pass the script first, without a name, and in rcell_grid a map's name second: ",
+  bad_argument(paste(
+    "pass the script first, without a name, and in rcell_grid a map's name second:",
     "rcell_table(\"r.stats -c input=lc\", lc = x)"
-  )
-  refuse(text, status = 2L)
+  ))
 }
 
 no_table <- function(outputs) {
   grids <- vapply(outputs, function(output) sprintf("r.out.ascii in line %d", output$line), "")
   content <- if (length(grids)) paste(grids, collapse = ", ") else "no r.stats"
   text <- "the script must write a table; got %s: use rcell_run to get all outputs"
-  refuse(sprintf(text, content), "script")
+  bad_input("script", text, content)
 }
 
 rcell_grid <- function(.script, .name, ..., filename = "", overwrite = FALSE, crs = NULL,
@@ -59,7 +58,7 @@ rcell_grid <- function(.script, .name, ..., filename = "", overwrite = FALSE, cr
   request <- request_of(.script, list(...), maps)
   known <- c(names(request$maps), request$made)
   if (!(.name %in% known)) {
-    refuse(sprintf("no map %s: %s", .name, known_names("map", known)), status = 2L)
+    bad_argument("no map %s: %s", .name, known_names("map", known))
   }
   sources <- sources_of(request$maps, crs)
   check_inputs(filename, inputs_of(sources))
@@ -84,24 +83,21 @@ answer_of <- function(request, sources, outputs = list(), wanted = character()) 
 }
 
 # Run a script that this package has written, and return its frames. If polygons are counted
-# separately, the script runs once for each part, and the rows of its tables are merged in order,
-# except for the first tables, which contain no zones.
-run_own <- function(script, sources, without_zones = 0L) {
+# separately, the script runs once for each part, and the rows of its tables are merged in order.
+run_own <- function(script, sources, questions = list()) {
   path <- program_path()
   parts <- sources$zones$parts
-  if (is.null(parts)) return(run_pipe(path, sources, script))
+  if (is.null(parts)) return(run_pipe(path, sources, script, questions = questions))
   runs <- lapply(parts, function(cells) {
     sources$zones$cells <- cells
-    run_pipe(path, sources, script)
+    run_pipe(path, sources, script, questions = questions)
   })
-  frames <- do.call(Map, c(list(joined_frames), runs))
-  is_one <- seq_along(frames) <= without_zones
-  frames[is_one] <- runs[[1]][is_one]
-  frames
+  do.call(Map, c(list(joined_frames), runs))
 }
 
 joined_frames <- function(...) {
   frames <- list(...)
+  if (frames[[1]]$kind == "PTCH") return(do.call(Map, c(list(c), frames)))
   codes <- do.call(Map, c(list(c), lapply(frames, `[[`, "codes")))
   cells <- unlist(lapply(frames, `[[`, "cells"))
   order <- do.call(order, codes)
@@ -123,14 +119,18 @@ raster_of <- function(frame, source, labels, name = frame$maps, new = NULL) {
   if (!is.null(new)) values(raster) <- new[values(raster, mat = FALSE)]
   set.ext(raster, ext(source$raster))
   set.crs(raster, source$crs)
-  if (length(labels$codes)) {
-    order <- order(labels$codes)
-    table <- data.frame(labels$codes[order], labels$labels[order])
-    names(table) <- c("value", name)
-    set.cats(raster, 1, table)
-  }
+  set_labels(raster, labels, name)
   set.names(raster, name)
   raster
+}
+
+# Set the labels of a raster's first layer, in the order of the codes.
+set_labels <- function(raster, labels, name) {
+  if (!length(labels$codes)) return(invisible())
+  order <- order(labels$codes)
+  table <- data.frame(labels$codes[order], labels$labels[order])
+  names(table) <- c("value", name)
+  set.cats(raster, 1, table)
 }
 
 # Return columns of codes, each followed by its labels if they are requested, and the cells.

@@ -7,26 +7,27 @@ DEFAULT_UNIT <- "ha"
 # Cells may be centred on a pole, so rows may extend this far beyond it, in cells, plus rounding.
 BEYOND_THE_POLE <- 0.5 + 1e-6
 
-# Return the unit of areas that a call requests; `is_left_out` means that it does not specify one.
-area_choice <- function(area, is_left_out) {
-  if (is_left_out) return(list(unit = DEFAULT_UNIT, is_asked_for = FALSE))
+# Return the requested unit of areas, or the default unit if the caller's `area` is missing.
+requested_unit <- function(area) {
+  if (missing(area)) return(DEFAULT_UNIT)
   if (!is.null(area)) check_one_of(area, "area", names(UNITS))
-  list(unit = area, is_asked_for = TRUE)
+  area
 }
 
-# Return the unit of areas: NULL if the map has no reference system and the call did not request
-# areas.
-unit_of <- function(choice, source, argument = "area=") {
-  if (is.null(choice$unit)) return(NULL)
+# Return the unit of areas of a map. If the map has no reference system, the unit is NULL unless the
+# call requests one.
+unit_of <- function(area, source, argument = "area=") {
+  unit <- requested_unit(area)
+  if (is.null(unit)) return(NULL)
   kind <- kind_of_crs(source$crs)
   instead <- if (argument == "area=") ", or use area = NULL" else ""
   if (kind == "none") {
-    if (!choice$is_asked_for) return(NULL)
+    if (missing(area)) return(NULL)
     text <- paste(
       "%s requires a coordinate reference system, but %s has none:",
       "state it, for example crs = \"EPSG:25832\"%s"
     )
-    refuse(sprintf(text, argument, source$name, instead), status = 2L)
+    bad_argument(text, argument, source$name, instead)
   }
   metres <- metres_of_unit(source)
   if (kind == "other" || (kind == "projected" && is.na(metres))) {
@@ -35,9 +36,9 @@ unit_of <- function(choice, source, argument = "area=") {
       "a cell covers%s"
     )
     instead <- sub("^, or", ":", instead)
-    refuse(sprintf(text, argument, crs_name(source$crs), instead), status = 2L)
+    bad_argument(text, argument, crs_name(source$crs), instead)
   }
-  choice$unit
+  unit
 }
 
 area_title <- function(area) paste0("area_", area)
@@ -46,10 +47,10 @@ is_in_degrees <- function(source) kind_of_crs(source$crs) == "degrees"
 
 # Reject a map whose cells do not all have the same size in metres, if an argument requires it.
 check_metres <- function(source, argument, advice = "") {
-  unit_of(list(unit = "m2", is_asked_for = TRUE), source, argument)
+  unit_of("m2", source, argument)
   if (!is_in_degrees(source)) return(invisible())
   text <- "%s requires a map in metres or feet, but this map is in degrees%s"
-  refuse(sprintf(text, argument, advice), status = 2L)
+  bad_argument(text, argument, advice)
 }
 
 # Return the length of a projected map's unit in metres, or NA if it is unknown.
@@ -71,8 +72,7 @@ cell_sizes <- function(source) {
     is_north <- edges[[1]] > -edges[[length(edges)]]
     edge <- if (is_north) ymax(template) else ymin(template)
     side <- if (is_north) "north" else "south"
-    text <- "the map extends beyond the pole: %s is %.15g"
-    refuse(sprintf(text, side, edge), source$name, status = 2L)
+    bad_input(source$name, "the map extends beyond the pole: %s is %.15g", side, edge, status = 2L)
   }
   parallels <- pmax(-pi / 2, pmin(pi / 2, edges))
   zones <- zone_areas(parallels[-length(parallels)], parallels[-1], shape$eccentricity)
@@ -109,56 +109,61 @@ ellipsoid_of <- function(wkt) {
   )
 }
 
-# Return the areas of cell counts in a unit. Dividing last keeps short numbers short when printed.
-areas_of <- function(cells, source, unit) cells * cell_sizes(source) / UNITS[[unit]]
+# Convert weights (see `counted`) to areas. Dividing last keeps short numbers short when printed.
+areas_of <- function(weights, source, unit) {
+  if (is_in_degrees(source)) weights else weights * cell_sizes(source) / UNITS[[unit]]
+}
 
-# Count combinations of maps with r.stats -cn, and return a table for each, as in `measured`. In a
-# map in degrees, tables with `by_row` also count cells by row.
+# Return the lengths in metres of a cell's ends (its northern and southern sides) and flanks, or NA
+# if they are unknown.
+side_lengths <- function(source) res(template_of(source)) * metres_of_unit(source)
+
+# Return the length of borders, which consist of ends and flanks.
+length_of <- function(borders, lengths) {
+  borders$ends * lengths[[1]] + borders$flanks * lengths[[2]]
+}
+
+# Count combinations of maps with r.stats -cn, and return a table for each (see `counted`). For
+# areas in degrees, the cells of each row are counted separately.
 count_cells <- function(sources, combinations, area = NULL, before = character(),
-                        by_row = rep(TRUE, length(combinations)), include_null = FALSE,
-                        without_zones = 0L) {
-  by_row <- by_row & !is.null(area) & is_in_degrees(sources[[1]])
-  rows <- unused_name("row_number", c(before, unlist(combinations)), names(sources))
-  flags <- if (include_null) "-c" else "-cn"
-  lines <- Map(function(maps, adds) {
-    sprintf("r.stats %s input=%s", flags, paste(c(maps, if (adds) rows), collapse = ","))
-  }, combinations, by_row)
-  script <- c(before, if (any(by_row)) sprintf("r.mapcalc %s = row()", rows), unlist(lines))
-  frames <- run_own(script, sources, without_zones)
-  unname(Map(measured, frames, list(area), list(sources[[1]]), by_row))
+                        include_null = FALSE) {
+  by_row <- !is.null(area) && is_in_degrees(sources[[1]])
+  row <- if (by_row) unused_name("row_number", c(before, unlist(combinations)), names(sources))
+  maps <- vapply(combinations, function(maps) paste(c(maps, row), collapse = ","), "")
+  script <- c(
+    before, if (by_row) sprintf("r.mapcalc %s = row()", row),
+    sprintf("r.stats %s input=%s", if (include_null) "-c" else "-cn", maps)
+  )
+  lapply(run_own(script, sources), function(frame) {
+    if (by_row) return(summed_over_rows(frame, area, sources[[1]]))
+    counted(frame$codes, frame$cells, frame$cells, area, sources[[1]])
+  })
 }
 
-# Return a table of counts as its code columns, the cells and, with a unit, the areas. If the last
-# map is the row, the rows of each combination are added up, weighted by the size of their cells;
-# these areas are also the `weights`.
-measured <- function(frame, area, source, by_row) {
-  table <- frame[c("codes", "cells")]
-  if (by_row) return(summed_over_rows(table, area, cell_sizes(source)))
-  if (!is.null(area) && !is_in_degrees(source)) table$area <- areas_of(table$cells, source, area)
-  table
-}
-
-summed_over_rows <- function(table, area, sizes) {
-  count <- length(table$codes)
-  row <- table$codes[[count]]
-  codes <- table$codes[-count]
-  group <- rleidv(codes)
-  cells <- as.numeric(table$cells)
-  sums <- rowsum(cbind(cells, cells * sizes[row]), group, reorder = FALSE)
-  is_first <- !duplicated(group)
-  areas <- unname(sums[, 2]) / UNITS[[area]]
+# Return a table of counts: its columns of codes, the cells, the areas if there is a unit, and the
+# weights for shares: areas in degrees, otherwise cells, whose sums are exact.
+counted <- function(codes, cells, weights, area, source) {
   list(
-    codes = lapply(codes, function(code) code[is_first]), cells = as.integer(sums[, 1]),
-    area = areas, weights = areas
+    codes = codes, cells = as.integer(cells), weights = as.numeric(weights),
+    area = if (!is.null(area)) areas_of(as.numeric(weights), source, area)
   )
 }
 
-# Return the weights for shares: areas for a map in degrees, otherwise cells, whose sums are exact.
-weights_of <- function(table) {
-  as.numeric(if (is.null(table$weights)) table$cells else table$weights)
+# Add up the cells and areas of each combination in all rows. The last code is the row.
+summed_over_rows <- function(frame, area, source) {
+  count <- length(frame$codes)
+  codes <- frame$codes[-count]
+  group <- rleidv(codes)
+  cells <- as.numeric(frame$cells)
+  sizes <- cell_sizes(source)[frame$codes[[count]]]
+  sums <- rowsum(cbind(cells, cells * sizes), group, reorder = FALSE)
+  codes <- lapply(codes, `[`, !duplicated(group))
+  counted(codes, sums[, 1], unname(sums[, 2]) / UNITS[[area]], area, source)
 }
 
-# Return the areas of sums of weights (see `weights_of`).
-areas_of_sums <- function(sums, table, source, area) {
-  if (is.null(table$weights)) areas_of(sums, source, area) else sums
+# Add up the rows of a table that have the same code.
+summed_by <- function(table, code, area, source) {
+  known <- sort(unique(code))
+  sums <- lapply(table[c("cells", "weights")], summed, match(code, known), length(known))
+  counted(list(known), sums$cells, sums$weights, area, source)
 }

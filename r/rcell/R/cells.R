@@ -13,14 +13,14 @@ each_block <- function(source, use) {
   if (!is.null(source$cells)) {
     cells <- whole_cells(source, source$cells, 1L)
     border$add(cells, 1L)
-    border$warn()
+    border$check()
     return(use(cells))
   }
   raster <- source$raster
   is_exact <- is_exact_type(raster) && is.null(source$scale)
   is_float <- datatype(raster) %in% "FLT4S" && is.null(source$scale)
   layers <- c(list(raster), source$alpha)
-  failed <- function(e) read_failed(source$name, sprintf("cannot open: %s", told(e)))
+  failed <- function(e) read_failed(source$name, "cannot open: %s", told(e))
   for (layer in layers) tryCatch(readStart(layer), error = failed)
   on.exit(for (layer in layers) readStop(layer))
   rows <- source$region$rows
@@ -34,7 +34,7 @@ each_block <- function(source, use) {
     border$add(whole, row)
     use(whole)
   }
-  border$warn()
+  border$check()
 }
 
 # Count values on a map's border that often mean no data.
@@ -51,18 +51,18 @@ border_of <- function(source) {
     border <- cells[unique(places)]
     counts <<- counts + vapply(USUAL_NODATA, function(value) sum(border == value, na.rm = TRUE), 1L)
   }
-  warn <- function() {
+  check <- function() {
     edge <- region$rows * region$cols - max(region$rows - 2, 0) * max(region$cols - 2, 0)
     value <- USUAL_NODATA[counts > edge / 2]
     if (!length(value) || isTRUE(source$state$is_warned)) return(invisible())
     if (!is.null(source$state)) source$state$is_warned <- TRUE
-    text <- paste0(
-      "%s: %d fills more than half of the border of the map: if it means no data, declare it, ",
+    text <- paste(
+      "%s: %d fills more than half of the border of the map: if it means no data, declare it,",
       "for example with terra::NAflag(x) <- %d"
     )
-    warning(sprintf(text, source$name, value, value), call. = FALSE)
+    warn(text, source$name, value, value)
   }
-  list(add = add, warn = warn)
+  list(add = add, check = check)
 }
 
 # Return all cells of a map, with each row of the map in a column.
@@ -76,7 +76,7 @@ all_cells <- function(source) {
 
 warn_of_floats <- function(name) {
   text <- "%s: 32-bit floats are not exact beyond 16777216, but the map contains larger values"
-  warning(sprintf(text, name), call. = FALSE)
+  warn(text, name)
   FALSE
 }
 
@@ -98,8 +98,8 @@ read_block <- function(source, row, count) {
 
 read_rows <- function(source, raster, row, count) {
   failed <- function(e) {
-    text <- sprintf("rows %d to %d cannot be read: %s", row, row + count - 1L, told(e))
-    read_failed(source$name, text)
+    last <- row + count - 1L
+    read_failed(source$name, "rows %d to %d cannot be read: %s", row, last, told(e))
   }
   tryCatch(readValues(raster, row, count), error = failed, warning = failed)
 }
@@ -126,5 +126,5 @@ whole_cells <- function(source, cells, first_row) {
     text <- "scale= is too large: %s, and %.0f times that exceeds %.0f"
     text <- sprintf(text, place, source$scale, CATEGORY_LIMIT)
   }
-  bad_map(source$name, text, row, column, value)
+  bad_map(source$name, text, row = row, column = column, value = value)
 }

@@ -2,7 +2,6 @@
 # Change between the maps of two or more years.
 
 rcell_change <- function(before, after = NULL, years = NULL, area, labels = NULL, crs = NULL) {
-  choice <- area_choice(area, missing(area))
   maps <- if (is.null(after)) before else list(before, after)
   rule <- "two or more maps are required: rcell_change(before, after), or a list of maps"
   check_argument(is.list(maps) && length(maps) > 1L, before, rule)
@@ -10,12 +9,11 @@ rcell_change <- function(before, after = NULL, years = NULL, area, labels = NULL
   is_pair <- length(maps) == 2L
   names(maps) <- if (is_pair) c("before", "after") else sprintf("map_%d", seq_along(maps))
   sources <- sources_of(maps, crs)
-  area <- unit_of(choice, sources[[1]])
-  legend <- if (!is.null(labels)) legend_of(labels, "labels")
-  legends <- legends_of_years(sources, legend)
+  area <- unit_of(area, sources[[1]])
+  legends <- legends_of_years(sources, labels)
   combinations <- lapply(seq_len(length(maps) - 1L), function(first) names(maps)[first + 0:1])
   tables <- count_cells(sources, combinations, area)
-  check_legend(legend, unlist(lapply(tables, `[[`, "codes")), "the maps")
+  check_legend(legends[[1]], unlist(lapply(tables, `[[`, "codes")))
   pairs <- Map(function(table, first) {
     list(table = table, legends = unname(legends[first + 0:1]), years = years[first + 0:1])
   }, tables, seq_along(tables))
@@ -29,25 +27,23 @@ rcell_change <- function(before, after = NULL, years = NULL, area, labels = NULL
 check_years <- function(years, count) {
   if (is.null(years)) {
     if (count > 2L) {
-      text <- "years= must be given for more than two maps: one whole number for each map"
-      refuse(text, status = 2L)
+      bad_argument("years= must be given for more than two maps: one whole number for each map")
     }
     return(invisible())
   }
-  is_right <- is.numeric(years) && length(years) == count && all(is.finite(years)) &&
-    all(years == trunc(years) & abs(years) <= CATEGORY_LIMIT) && !anyDuplicated(years)
+  is_right <- is.numeric(years) && length(years) == count && all(is_category(years)) &&
+    !anyDuplicated(years)
   rule <- "years= must be %d different whole numbers, one for each map"
   check_argument(is_right, years, rule, count)
 }
 
 # Return each map's labels: the legend, its own, or the labels of the first map that has some.
 legends_of_years <- function(sources, legend) {
-  own <- lapply(sources, `[[`, "labels")
-  shared <- Find(function(labels) length(labels$codes) > 0L, own)
-  lapply(own, function(labels) {
-    if (!is.null(legend)) return(legend)
-    if (length(labels$codes)) labels else shared
-  })
+  legend <- labels_from(legend, list(name = "the maps"))
+  own <- lapply(sources, function(source) if (is.null(legend)) source$labels else legend)
+  is_without <- is.null(legend) & !lengths(lapply(own, `[[`, "codes"))
+  own[is_without] <- own[!is_without][1]
+  own
 }
 
 # Stack the tables of several pairs of years.
@@ -63,12 +59,10 @@ years_of <- function(pair, count) {
   list(year_from = rep(years[[1]], count), year_to = rep(years[[2]], count))
 }
 
-has_labels <- function(pair) sum(lengths(lapply(pair$legends, `[[`, "codes"))) > 0L
-
 change_table <- function(pair, area) {
   codes <- pair$table$codes
   label <- function(side) {
-    if (has_labels(pair)) list(labels_for(pair$legends[[side]], codes[[side]]))
+    if (has_labels(pair$legends)) list(labels_for(pair$legends[[side]], codes[[side]]))
   }
   columns <- c(
     years_of(pair, length(codes[[1]])), list(from = codes[[1]]), from_label = label(1L),
@@ -84,14 +78,11 @@ change_matrix <- function(pairs) {
   head <- c(names(years_of(pairs[[1]], 0L)), "from")
   legends <- c(lapply(pairs, function(pair) pair$legends[[1]]), list(legend_of_columns(pairs)))
   titles <- class_titles(legends, c(before, list(after)), taken = head)
-  is_labelled <- any(vapply(pairs, has_labels, NA))
+  is_labelled <- has_labels(legends)
   frames <- Map(function(pair, before, titles) {
     table <- pair$table
     values <- if (is.null(table$area)) table$cells else table$area
-    matrix <- array(if (is.integer(values)) 0L else 0, c(length(before), length(after)))
-    matrix[cbind(match(table$codes[[1]], before), match(table$codes[[2]], after))] <- values
-    columns <- lapply(seq_along(after), function(place) matrix[, place])
-    names(columns) <- sprintf("to_%d", seq_along(after))
+    columns <- as.data.frame(crossed(values, table$codes, list(before, after)))
     from <- if (is_labelled) titles else before
     frame_of(c(years_of(pair, length(before)), list(from = from), columns))
   }, pairs, before, titles[seq_along(pairs)])
@@ -109,15 +100,11 @@ legend_of_columns <- function(pairs) {
   list(codes = codes[is_first], labels = labels[is_first])
 }
 
-# Summarise changes by class. Cells are added up before they become areas, unless areas differ by
-# row.
+# Summarise changes by class. Cells are added up before they become areas, except in degrees.
 change_summary <- function(pair, area, source) {
   table <- pair$table
   classes <- sort(unique(unlist(table$codes)))
-  by_row <- !is.null(area) && is_in_degrees(source)
-  changes <- matrix(0, length(classes), length(classes))
-  places <- cbind(match(table$codes[[1]], classes), match(table$codes[[2]], classes))
-  changes[places] <- if (by_row) table$area else table$cells
+  changes <- crossed(table$weights, table$codes, list(classes, classes))
   kept <- diag(changes)
   diag(changes) <- 0
   gain <- colSums(changes)
@@ -126,17 +113,15 @@ change_summary <- function(pair, area, source) {
     before = kept + loss, after = kept + gain, gain = gain, loss = loss, net = gain - loss,
     swap = 2 * pmin(gain, loss), persistence = kept
   )
-  if (is.null(area)) {
-    measures <- lapply(measures, as.integer)
-  } else if (!by_row) {
-    measures <- lapply(measures, areas_of, source, area)
-  }
+  measures <- lapply(measures, function(weights) {
+    if (is.null(area)) as.integer(weights) else areas_of(weights, source, area)
+  })
   names(measures) <- paste(names(measures), if (is.null(area)) "cells" else area, sep = "_")
   label <- labels_for(pair$legends[[2]], classes)
   label <- ifelse(is.na(label), labels_for(pair$legends[[1]], classes), label)
   columns <- c(
     years_of(pair, length(classes)), list(class = classes),
-    if (has_labels(pair)) list(label = label), measures
+    if (has_labels(pair$legends)) list(label = label), measures
   )
   frame_of(columns)
 }

@@ -6,8 +6,11 @@ frame_of <- function(columns) {
   structure(columns, class = "data.frame", row.names = seq_along(columns[[1]]))
 }
 
-# Return a column of codes, followed by a column of labels if there are any.
-coded <- function(title, codes, labels, label_title = paste0(title, "_label")) {
+# Return a column of codes, followed by a column of labels if there are any. Unless this is checked
+# elsewhere, warn about codes for which a legend has no label.
+coded <- function(title, codes, labels, label_title = paste0(title, "_label"),
+                  is_checked = FALSE) {
+  if (!is_checked) check_legend(labels, codes)
   columns <- list(codes)
   if (length(labels$codes)) columns[[2]] <- labels_for(labels, codes)
   names(columns) <- c(title, label_title)[seq_along(columns)]
@@ -34,6 +37,15 @@ class_titles <- function(labels, codes, taken = character()) {
   }, labels, titles, codes)
 }
 
+has_labels <- function(legends) any(lengths(lapply(legends, `[[`, "codes")) > 0L)
+
+# Return a matrix of values by two columns of codes, with a row and a column for each known code.
+crossed <- function(values, codes, known) {
+  matrix <- array(if (is.integer(values)) 0L else 0, lengths(known))
+  matrix[do.call(cbind, Map(match, codes, known))] <- values
+  matrix
+}
+
 # Sum values by group; groups are numbers from 1 to `count`.
 summed <- function(values, group, count) {
   total <- numeric(count)
@@ -43,22 +55,27 @@ summed <- function(values, group, count) {
   total
 }
 
+cells_and_area <- function(table, area) {
+  columns <- list(cells = table$cells)
+  if (!is.null(area)) columns[[area_title(area)]] <- table$area
+  columns
+}
+
 # Return a table's cells, their area, and their percentage of the group's area with data (of its
 # cells, without areas). Rows with null get no percentage.
 sized <- function(table, area, group = rep(1L, length(table$cells))) {
-  columns <- list(cells = table$cells)
-  if (!is.null(area)) columns[[area_title(area)]] <- table$area
-  share <- weights_of(table)
+  columns <- cells_and_area(table, area)
+  share <- table$weights
   share[Reduce(`|`, lapply(table$codes, is.na))] <- NA
   columns$percent <- 100 * share / ave(share, group, FUN = function(x) sum(x, na.rm = TRUE))
   columns
 }
 
-# Keep only selected rows of a table.
-kept_rows <- function(table, is_kept) {
-  table$codes <- lapply(table$codes, function(code) code[is_kept])
-  for (column in setdiff(names(table), "codes")) table[[column]] <- table[[column]][is_kept]
-  table
+# Return the position of the largest number of cells in each group, in the order of the groups. Ties
+# go to the smallest code.
+most_frequent <- function(group, cells, code) {
+  order <- order(group, -cells, code)
+  order[!duplicated(group[order])]
 }
 
 # Add `_2`, `_3`, .. to repeated titles.

@@ -4,57 +4,52 @@
 rcell_composition <- function(x, zones = NULL, area, labels = NULL, zone_labels = NULL,
                               zone_field = NULL, layer = NULL, each = FALSE, include_null = FALSE,
                               crs = NULL) {
-  choice <- area_choice(area, missing(area))
   check_flag(include_null, "include_null")
-  sources <- zoned_sources(x, zones, zone_field, layer, crs, each = each)
-  area <- unit_of(choice, sources$map)
-  labels <- labels_from(labels, sources$map$labels)
-  zone_labels <- labels_from(zone_labels, sources$zones$labels, "zone_labels")
-  names <- rev(names(sources))
-  table <- count_cells(sources, list(names), area, include_null = include_null)[[1]]
-  has_zones <- length(names) > 1L
-  if (has_zones) table <- kept_rows(table, !is.na(table$codes[[1]]))
-  zone <- if (has_zones) table$codes[[1]] else rep(1L, length(table$cells))
-  class <- table$codes[[length(names)]]
-  check_legend(labels, class, "map")
-  if (has_zones) check_legend(zone_labels, zone, "zones", "zone_labels")
-  zone_columns <- if (has_zones) coded("zone", zone, zone_labels)
-  frame_of(c(zone_columns, coded("class", class, labels, "label"), sized(table, area, zone)))
+  request <- zoned_request(x, zones, area, labels, zone_labels, zone_field, layer, each, crs)
+  maps <- list(rev(names(request$sources)))
+  table <- count_cells(request$sources, maps, request$area, include_null = include_null)[[1]]
+  is_in_zone <- is.null(zones) | !is.na(table$codes[[1]])
+  table <- rapply(table, function(column) column[is_in_zone], how = "replace")
+  zone <- if (is.null(zones)) rep(1L, length(table$cells)) else table$codes[[1]]
+  columns <- coded("class", table$codes[[length(table$codes)]], request$labels, "label")
+  if (!is.null(zones)) columns <- c(coded("zone", zone, request$zone_labels), columns)
+  frame_of(c(columns, sized(table, request$area, zone)))
 }
 
-# Return the sources of a map and, if given, its zones.
-zoned_sources <- function(x, zones, zone_field, layer, crs, name = "map", each = FALSE) {
+# Return what calls on a map and its zones have in common: the sources, the unit of areas, and the
+# labels of both.
+zoned_request <- function(x, zones, area, labels, zone_labels, zone_field, layer, each, crs,
+                          name = "map") {
   check_flag(each, "each")
-  source <- source_of(name, x)
-  if (is.null(zones)) {
-    if (!is.null(zone_field) || !is.null(layer) || each) {
-      refuse("zone_field=, layer= and each= require zones=", status = 2L)
-    }
-    return(fitted_sources(list(source), crs))
+  if (is.null(zones) && (!is.null(zone_field) || !is.null(layer) || each)) {
+    bad_argument("zone_field=, layer= and each= require zones=")
   }
-  source <- with_stated(source, stated_crs(crs))
-  fitted_sources(list(source, zones_source(zones, zone_field, layer, source, each)), crs)
+  source <- with_stated(source_of(name, x), stated_crs(crs))
+  sources <- list(source)
+  if (!is.null(zones)) sources[[2]] <- zones_source(zones, zone_field, layer, source, each)
+  sources <- fitted_sources(sources, crs)
+  list(
+    sources = sources, area = unit_of(area, sources[[1]]),
+    labels = labels_from(labels, sources[[1]]),
+    zone_labels = labels_from(zone_labels, sources$zones, "zone_labels")
+  )
 }
 
 rcell_cross <- function(..., area, labels = NULL, include_null = FALSE, crs = NULL,
                         maps = list()) {
-  choice <- area_choice(area, missing(area))
   check_flag(include_null, "include_null")
   sources <- sources_of(named_maps(list(...), maps), crs)
-  area <- unit_of(choice, sources[[1]])
+  area <- unit_of(area, sources[[1]])
   by_row <- !is.null(area) && is_in_degrees(sources[[1]])
   if (length(sources) > MAPS_LIMIT - by_row) {
     reason <- if (by_row) " with areas in degrees" else ""
     text <- "%d maps, but a table accepts at most %d%s"
-    refuse(sprintf(text, length(sources), MAPS_LIMIT - by_row, reason), status = 2L)
+    bad_argument(text, length(sources), MAPS_LIMIT - by_row, reason)
   }
   check_legends(labels, names(sources))
-  legends <- lapply(sources, function(source) labels_from(labels[[source$name]], source$labels))
+  legends <- lapply(sources, function(source) labels_from(labels[[source$name]], source))
   table <- count_cells(sources, list(names(sources)), area, include_null = include_null)[[1]]
-  columns <- do.call(c, Map(function(name, codes, legend) {
-    check_legend(legend, codes, name)
-    coded(name, codes, legend)
-  }, names(sources), table$codes, legends, USE.NAMES = FALSE))
+  columns <- do.call(c, unname(Map(coded, names(sources), table$codes, legends)))
   columns <- c(columns, sized(table, area))
   names(columns) <- unique_titles(names(columns))
   frame_of(columns)
@@ -67,5 +62,5 @@ check_legends <- function(labels, names) {
     "labels= must be a list of legends, named after the maps,",
     "for example list(%s = \"legend.csv\")"
   )
-  refuse(sprintf(text, names[[1]]), "labels", status = 2L)
+  bad_input("labels", text, names[[1]], status = 2L)
 }

@@ -9,8 +9,8 @@ PLACES <- as.matrix(expand.grid(x = seq(-175, 175, by = 5), y = seq(-85, 85, by 
 stated_crs <- function(crs) {
   if (is.null(crs)) return("")
   bad <- function(e) {
-    text <- "crs= must be a coordinate reference system; got '%s'"
-    refuse(sprintf(text, paste(format(crs), collapse = " ")), status = 2L)
+    given <- paste(format(crs), collapse = " ")
+    bad_argument("crs= must be a coordinate reference system; got '%s'", given)
   }
   if (!is.character(crs) || length(crs) != 1L || is.na(crs) || !nzchar(crs)) bad()
   text <- tryCatch(crs(crs), error = bad, warning = bad)
@@ -39,8 +39,7 @@ lacks_crs <- function(name, first) {
   code <- crs_facts(first$crs)$code
   stated <- if (nzchar(code)) sprintf("\"%s\"", code) else ""
   text <- "it has no coordinate reference system, but %s has %s: state it with crs=%s"
-  text <- sprintf(text, first$name, crs_name(first$crs), stated)
-  bad_map(name, text, class = "rcell_other_crs")
+  bad_map(name, text, first$name, crs_name(first$crs), stated, class = "rcell_other_crs")
 }
 
 other_crs <- function(source, first, tool = "gdalwarp") {
@@ -51,8 +50,8 @@ other_crs <- function(source, first, tool = "gdalwarp") {
     "its coordinate reference system is %s, but %s %s:",
     "reproject one of them first, for example with terra::project%s"
   )
-  text <- sprintf(text, crs_name(source$crs), other, crs_name(first$crs), command)
-  bad_map(source$name, text, class = "rcell_other_crs")
+  names <- c(crs_name(source$crs), crs_name(first$crs))
+  bad_map(source$name, text, names[[1]], other, names[[2]], command, class = "rcell_other_crs")
 }
 
 # Return the name of a system, its code (or ""), and its PROJ string.

@@ -36,6 +36,18 @@ refuse <- function(text, source = "arguments", line = 0L, status = 1L, content =
   )
 }
 
+# Fill the placeholders of a text, if it has any.
+filled <- function(text, ...) if (...length()) sprintf(text, ...) else text
+
+bad_argument <- function(text, ...) refuse(filled(text, ...), status = 2L)
+
+# Reject a legend, a table or a record.
+bad_input <- function(source, text, ..., status = 1L) {
+  refuse(filled(text, ...), source, status = status)
+}
+
+warn <- function(text, ...) warning(filled(text, ...), call. = FALSE)
+
 # List the known names for a message about an unknown name.
 known_names <- function(noun, names) {
   if (!length(names)) return(sprintf("there are no %ss", noun))
@@ -71,8 +83,9 @@ lines_of_error <- function(content, column) {
 
 # Reject a map that contains decimals or has no regular grid. `row` and `column` locate the first
 # wrong cell, from 1 at the top left.
-bad_map <- function(name, text, row = NA_integer_, column = NA_integer_, value = NA_real_,
+bad_map <- function(name, text, ..., row = NA_integer_, column = NA_integer_, value = NA_real_,
                     class = NULL, status = 1L) {
+  text <- filled(text, ...)
   signal(
     c(class, "rcell_bad_map", "rcell_refused"), paste0(name, ": ", text), name = name, row = row,
     column = column, value = value, source = name, line = 0L, text = text, status = status
@@ -80,8 +93,8 @@ bad_map <- function(name, text, row = NA_integer_, column = NA_integer_, value =
 }
 
 # Report a file that cannot be opened, or that is broken in part.
-read_failed <- function(name, text) {
-  bad_map(name, text, class = "rcell_read_failed", status = 4L)
+read_failed <- function(name, text, ...) {
+  bad_map(name, text, ..., class = "rcell_read_failed", status = 4L)
 }
 
 # Format an argument for a message.
@@ -98,12 +111,27 @@ shortened <- function(items, most = 5L) {
   paste0(paste(head(items, most), collapse = ", "), if (rest > 0L) sprintf(" and %d more", rest))
 }
 
-is_whole <- function(x) is.numeric(x) && length(x) == 1L && is.finite(x) && x == trunc(x)
+are_between <- function(x, low = -Inf, high = Inf) {
+  is.numeric(x) && all(is.finite(x) & x >= low & x <= high)
+}
+
+are_whole <- function(x, ...) are_between(x, ...) && all(x == trunc(x))
+
+is_whole <- function(x, ...) length(x) == 1L && are_whole(x, ...)
+
+# Return whether each number can be the category of a cell.
+is_category <- function(x) !is.na(x) & x == trunc(x) & abs(x) <= CATEGORY_LIMIT
 
 # Reject an argument that breaks a rule; `...` fills the rule's placeholders.
 check_argument <- function(is_right, value, rule, ...) {
   if (is_right) return(invisible())
-  refuse(sprintf(paste0(rule, "; got %s"), ..., shown(value)), status = 2L)
+  bad_argument(paste0(rule, "; got %s"), ..., shown(value))
+}
+
+check_whole_number <- function(value, name, low, high = Inf) {
+  range <- sprintf(", at least %.0f", low)
+  if (high < Inf) range <- sprintf(" from %.0f to %.0f", low, high)
+  check_argument(is_whole(value, low, high), value, "%s= must be a whole number%s", name, range)
 }
 
 check_flag <- function(flag, name) {
@@ -121,8 +149,9 @@ check_text <- function(text, name) {
 }
 
 # Report a file that could not be written completely. No part of it is left.
-write_failed <- function(path, text) {
-  signal("rcell_write_failed", sprintf("%s cannot be written: %s", path, text), path = path)
+write_failed <- function(path, text, ...) {
+  message <- sprintf("%s cannot be written: %s", path, filled(text, ...))
+  signal("rcell_write_failed", message, path = path)
 }
 
 # Report that a signal killed the program.

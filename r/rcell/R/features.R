@@ -2,12 +2,15 @@
 # Read the features of a layer of polygons or points, with the values of one field.
 
 LAYER_MARK <- "|layername="
-# The roles of a layer: its name in messages, and the required kind of features.
+# The roles of a layer: its name in messages, the required kind of features, the argument that names
+# a field, and the fields that are read if the caller names none.
 POLYGONS <- list(
-  name = "zones", are = "polygons", kinds = c("POLYGON", "MULTIPOLYGON"), type = "wkbMultiPolygon"
+  name = "zones", are = "polygons", kinds = c("POLYGON", "MULTIPOLYGON"), type = "wkbMultiPolygon",
+  field = "zone_field"
 )
 POINTS <- list(
-  name = "reference", are = "points", kinds = c("POINT", "MULTIPOINT"), type = "wkbMultiPoint"
+  name = "reference", are = "points", kinds = c("POINT", "MULTIPOINT"), type = "wkbMultiPoint",
+  field = "field", usual_fields = c("class", "reference")
 )
 CURVED_KINDS <- c("CURVEPOLYGON", "MULTISURFACE")
 # The maximum number of feature ranges in a query.
@@ -28,14 +31,15 @@ GEOMETRY_AS <- "<GeometryType>%s</GeometryType>"
 DATE_OF_GDAL <- "^([0-9]{4})/([0-9]{2})/([0-9]{2})( 00:00:00$)?"
 
 # Return the features with a geometry and a value, and their numbers, or NULL if there is no layer.
-# `choose` selects the field to read from a layer's fields, or returns NULL.
-features_of <- function(role, given, layer, choose, is_field_needed) {
+features_of <- function(role, given, layer, field) {
+  check_text(field, role$field)
+  check_text(layer, "layer")
   if (inherits(given, "SpatVector")) {
     if (!is.null(layer)) {
       text <- "layer= must not be given if %s= is a SpatVector, which has one layer"
-      refuse(sprintf(text, role$name), status = 2L)
+      bad_argument(text, role$name)
     }
-    return(features_of_vector(role, given, choose(names(given))))
+    return(features_of_vector(role, given, chosen_field(role, field, names(given))))
   }
   if (!is_path(given)) return(NULL)
   parts <- strsplit(native_path(given), LAYER_MARK, fixed = TRUE)[[1]]
@@ -43,23 +47,22 @@ features_of <- function(role, given, layer, choose, is_field_needed) {
   if (length(parts) > 1L) {
     if (!is.null(layer) && !identical(layer, parts[[2]])) {
       text <- "layer= is %s, but %s= names the layer %s: name only one layer"
-      refuse(sprintf(text, layer, role$name, parts[[2]]), status = 2L)
+      bad_argument(text, layer, role$name, parts[[2]])
     }
     layer <- parts[[2]]
   }
   if (!is_address(path) && !file.exists(path)) no_such_file(role$name, path)
-  is_named <- !is.null(layer) || is_field_needed
+  is_named <- !is.null(layer) || !is.null(field)
   layers <- character()
   if (!is_grid_of_rcell(path) && (is_named || !is_raster(path))) layers <- layers_of(path)
   if (length(layers)) {
-    return(features_of_layer(role, path, chosen_layer(role, path, layers, layer), choose))
+    return(features_of_layer(role, path, chosen_layer(role, path, layers, layer), field))
   }
   if (!is_grid_of_rcell(path) && !is_raster(path)) {
-    text <- "cannot open: %s: neither %s nor a raster"
-    read_failed(role$name, sprintf(text, path, role$are))
+    read_failed(role$name, "cannot open: %s: neither %s nor a raster", path, role$are)
   }
   if (is.null(layer)) return(NULL)
-  refuse(sprintf("no layer %s: %s is a raster", layer, path), role$name, status = 2L)
+  bad_input(role$name, "no layer %s: %s is a raster", layer, path, status = 2L)
 }
 
 is_raster <- function(path) {
@@ -79,31 +82,46 @@ layers_of <- function(path) {
 chosen_layer <- function(role, path, layers, layer) {
   if (!is.null(layer)) {
     if (layer %in% layers) return(layer)
-    text <- sprintf("no layer %s: %s", layer, known_names("layer", layers))
-    refuse(text, role$name, status = 2L)
+    known <- known_names("layer", layers)
+    bad_input(role$name, "no layer %s: %s", layer, known, status = 2L)
   }
   if (length(layers) == 1L) return(layers)
-  text <- sprintf(
-    "has the layers %s: choose one, for example layer = \"%s\" or \"%s%s%s\"",
-    paste(layers, collapse = ", "), layers[[1]], path, LAYER_MARK, layers[[1]]
+  bad_input(
+    role$name, "has the layers %s: choose one, for example layer = \"%s\" or \"%s%s%s\"",
+    paste(layers, collapse = ", "), layers[[1]], path, LAYER_MARK, layers[[1]], status = 2L
   )
-  refuse(text, role$name, status = 2L)
 }
 
-features_of_layer <- function(role, path, layer, choose) {
+# Return the named field, or the only usual one, or NULL if features need no field.
+chosen_field <- function(role, field, known) {
+  if (is.null(field)) {
+    usual <- intersect(role$usual_fields, known)
+    if (is.null(role$usual_fields)) return(NULL)
+    if (length(usual) == 1L) return(usual)
+    if (length(usual)) {
+      text <- "has the fields %s: name one, for example field = \"%s\""
+      bad_map(role$name, text, paste(usual, collapse = " and "), usual[[2]])
+    }
+    field <- paste(role$usual_fields, collapse = " or ")
+  }
+  if (field %in% known) return(field)
+  bad_map(role$name, "no field %s: %s", field, known_names("field", known), status = 2L)
+}
+
+features_of_layer <- function(role, path, layer, field) {
   force(layer)
-  failed <- function(e) read_failed(role$name, sprintf("cannot open: %s: %s", path, told(e)))
+  failed <- function(e) read_failed(role$name, "cannot open: %s: %s", path, told(e))
   ask <- function(query, content = "", what = "attributes") {
     use <- function(file) vect(file, query = paste("SELECT", query), what = what)
     tryCatch(suppressWarnings(with_layer(path, layer, content, use)), error = failed)
   }
   typed <- ask("* FROM features")
-  field <- choose(names(typed))
+  field <- chosen_field(role, field, names(typed))
   # Without a field, keep any field, so that no field named FID hides the feature numbers.
   left <- intersect(c(field, names(typed)), names(typed))
   content <- if (length(left)) sprintf(FIELD_AS_TEXT, xml_text(left[[1]])) else ""
   features <- ask("FID AS id, OGR_GEOMETRY AS kind, OGR_GEOM_AREA AS size FROM features", content)
-  if (!nrow(features)) bad_map(role$name, sprintf("the layer %s has no features", layer))
+  if (!nrow(features)) bad_map(role$name, "the layer %s has no features", layer)
   is_kept <- nzchar(features$kind) & !is.na(features$kind)
   values <- NULL
   if (!is.null(field)) {
@@ -137,8 +155,7 @@ ranges_of_ids <- function(ids) {
   ends <- which(c(diff(ids) != 1, TRUE))
   starts <- c(1L, ends[-length(ends)] + 1L)
   ranges <- sprintf("(FID >= %.0f AND FID <= %.0f)", ids[starts], ids[ends])
-  chunks <- split(ranges, (seq_along(ranges) - 1L) %/% RANGES_OF_A_QUERY)
-  vapply(chunks, paste, "", collapse = " OR ")
+  vapply(chunks_of(ranges, RANGES_OF_A_QUERY), paste, "", collapse = " OR ")
 }
 
 with_layer <- function(path, layer, content, use) {
@@ -165,11 +182,6 @@ check_crs_of_features <- function(role, features, source) {
   other_crs(list(name = role$name, crs = features$crs), map, tool = "ogr2ogr")
 }
 
-no_field <- function(role, field, known) {
-  text <- sprintf("no field %s: %s", field, known_names("field", known))
-  bad_map(role$name, text, status = 2L)
-}
-
 check_kinds <- function(role, ids, kinds) {
   wrong <- which(!(kinds %in% role$kinds))
   if (!length(wrong)) return(invisible())
@@ -190,7 +202,7 @@ features_of_vector <- function(role, vector, field) {
   kind <- geomtype(vector)
   is_kept <- has_geometry(vector)
   if (any(is_kept) && kind != role$are) {
-    bad_map(role$name, sprintf("features must be %s; got %s", role$are, kind))
+    bad_map(role$name, "features must be %s; got %s", role$are, kind)
   }
   values <- NULL
   if (!is.null(field)) {
@@ -222,15 +234,13 @@ check_zeros <- function(role, vector, field, column) {
       "%s: the field %s of feature %d is 0, but terra reads missing numbers in files as 0: pass",
       "the path of the file, or use x$%s <- as.numeric(x$%s) if 0 is correct"
     )
-    warning(sprintf(text, role$name, field, feature, field, field), call. = FALSE)
-    return(invisible())
+    return(warn(text, role$name, field, feature, field, field))
   }
   text <- paste(
     "the field %s has %d missing numbers, which terra reads as 0:",
     "pass the path of its file, %s"
   )
-  path <- shown(sub("::", LAYER_MARK, sources(vector)))
-  bad_map(role$name, sprintf(text, field, missing, path))
+  bad_map(role$name, text, field, missing, shown(sub("::", LAYER_MARK, sources(vector))))
 }
 
 # Count the features in a file that have no value in a field, or return NA if this is unknown.

@@ -47,9 +47,9 @@ check_inputs <- function(filename, inputs) {
   if (!length(same)) return(invisible())
   if (!identical(same[[1]], absolute(target))) {
     text <- "the output file would replace %s, which is an input: give another filename="
-    refuse(sprintf(text, same[[1]]), status = 2L)
+    bad_argument(text, same[[1]])
   }
-  refuse("the output file is the input file: give another filename=", status = 2L)
+  bad_argument("the output file is the input file: give another filename=")
 }
 
 # Write a file. `fill` receives a function that writes bytes or 32-bit integers.
@@ -75,15 +75,15 @@ check_size <- function(path, size) {
   there <- file.size(path)
   if (!identical(as.numeric(there), as.numeric(size))) {
     text <- "only %.0f of its %.0f bytes were written, the disk may be full"
-    write_failed(path, sprintf(text, if (is.na(there)) 0 else there, size))
+    write_failed(path, text, if (is.na(there)) 0 else there, size)
   }
 }
 
 # Return a path as bytes for the system, because R cannot write non-ASCII letters in the C locale.
 native_path <- function(path) {
   if (!validEnc(path)) {
-    text <- "%s: terra only accepts UTF-8 paths: rename the file"
-    refuse(sprintf(text, iconv(path, "UTF-8", "UTF-8", "byte")), status = 2L)
+    shown <- iconv(path, "UTF-8", "UTF-8", "byte")
+    bad_argument("%s: terra only accepts UTF-8 paths: rename the file", shown)
   }
   if (is_ascii_locale() && Encoding(path) == "UTF-8") Encoding(path) <- "unknown"
   path.expand(path)

@@ -9,9 +9,7 @@ CLASSES_OF_AN_EXPRESSION <- 100L
 
 rcell_majority <- function(x, size = 3, fill = FALSE, filename = "", overwrite = FALSE,
                            crs = NULL) {
-  if (!is_whole(size) || !(size %in% SIZES)) {
-    refuse(sprintf("size= must be odd, from 3 to 15; got %s", shown(size)), status = 2L)
-  }
+  check_argument(is_whole(size) && size %in% SIZES, size, "size= must be odd, from 3 to 15")
   check_flag(fill, "fill")
   sources <- map_to_write(x, crs, filename, overwrite)
   if (size <= SIZE_OF_AN_EXPRESSION) {
@@ -48,14 +46,10 @@ class_lines <- function(size, classes) {
     )
   }, classes, seq_len(count)))
   factor <- count + 1L
-  chunks <- split(seq_len(count), (seq_len(count) - 1L) %/% CLASSES_OF_AN_EXPRESSION)
-  best <- paste0("best_", seq_along(chunks))
-  largest <- mapply(function(chunk, name, last) {
-    ranks <- sprintf("count_%d * %d + %d", chunk, factor, count - chunk)
-    sprintf("r.mapcalc %s = max(%s)", name, paste(c(last, 0, ranks), collapse = ", "))
-  }, chunks, best, c(0, best[-length(best)]))
-  last <- best[[length(best)]]
-  place <- sprintf("r.mapcalc place = if(%s < %d, null(), %s %% %d)", last, factor, last, factor)
-  rules <- sprintf("%d = %d", count - seq_len(count), classes)
+  from_end <- count - seq_len(count)
+  ranks <- sprintf("count_%d * %d + %d", seq_len(count), factor, from_end)
+  largest <- combined_lines("best", "max(0, %s)", ranks, ", ", CLASSES_OF_AN_EXPRESSION)
+  place <- sprintf("r.mapcalc place = if(best < %1$d, null(), best %% %1$d)", factor)
+  rules <- sprintf("%d = %d", from_end, classes)
   c(counts, largest, place, "r.reclass input=place output=commonest", rules, "end")
 }

@@ -17,14 +17,10 @@ named_maps <- function(dots, maps) {
   check_argument(is.list(maps), maps, "maps= must be a list of maps by name")
   named <- c(maps, dots)
   if (!length(named) || is.null(names(named)) || any(!nzchar(names(named)))) {
-    refuse(
-      "pass at least one map, and name every map, for example lc = \"landcover.tif\"",
-      status = 2L
-    )
+    bad_argument("pass at least one map, and name every map, for example lc = \"landcover.tif\"")
   }
   twice <- names(named)[duplicated(names(named))]
-  rule <- "maps must have different names; got %s twice"
-  if (length(twice)) refuse(sprintf(rule, twice[[1]]), status = 2L)
+  if (length(twice)) bad_argument("maps must have different names; got %s twice", twice[[1]])
   check_names(names(named))
   for (name in names(dots)) check_spelling(name, dots[[name]])
   named
@@ -37,7 +33,7 @@ check_spelling <- function(name, map) {
     return(invisible())
   }
   text <- "%s= would be a map, but there is no file %s: did you mean %s=?"
-  refuse(sprintf(text, name, map, near[[1]]), status = 2L)
+  bad_argument(text, name, map, near[[1]])
 }
 
 # Return maps by name as sources. `crs` is the reference system to assume for maps without one.
@@ -64,7 +60,7 @@ check_names <- function(names) {
     "maps must have names of 1 to 64 letters, digits, _ and ., beginning with a letter or _; ",
     "got '%s': write %s"
   )
-  refuse(sprintf(text, bad[[1]], better), status = 2L)
+  bad_argument(text, bad[[1]], better)
 }
 
 source_of <- function(name, map) {
@@ -78,14 +74,19 @@ source_of <- function(name, map) {
   }
   if (is.matrix(map) && (is.numeric(map) || is.logical(map))) return(matrix_source(name, map))
   text <- "must be a path, a SpatRaster or a matrix of numbers; got an object of class %s"
-  bad_map(name, sprintf(text, class(map)[[1]]))
+  bad_map(name, text, class(map)[[1]])
+}
+
+# Return a source with new cells on the grid of another source.
+cells_source <- function(name, cells, source, crs, ...) {
+  list(
+    name = name, cells = cells, region = source$region, raster = template_of(source), crs = crs, ...
+  )
 }
 
 # Return a matrix as a source: cells of side 1, bottom left corner at 0, 0, no reference system.
 matrix_source <- function(name, map) {
-  if (!length(map)) {
-    bad_map(name, sprintf("a matrix without cells (%d x %d)", nrow(map), ncol(map)))
-  }
+  if (!length(map)) bad_map(name, "a matrix without cells (%d x %d)", nrow(map), ncol(map))
   raster <- rast(
     nrows = nrow(map), ncols = ncol(map), xmin = 0, xmax = ncol(map), ymin = 0, ymax = nrow(map),
     crs = ""
@@ -100,7 +101,7 @@ path_source <- function(name, path) {
   if (!is_file && !is_address(path)) no_such_file(name, path)
   if (is_file && !dir.exists(path)) {
     if (file.access(path, 4L) != 0L) {
-      read_failed(name, sprintf("cannot open: %s: Permission denied", path))
+      read_failed(name, "cannot open: %s: Permission denied", path)
     }
     if (is_grid_of_rcell(path)) return(grid_source(name, path))
   }
@@ -110,7 +111,7 @@ path_source <- function(name, path) {
 is_address <- function(path) grepl(ADDRESS, path)
 
 no_such_file <- function(name, path) {
-  read_failed(name, sprintf("cannot open: %s: No such file or directory", path))
+  read_failed(name, "cannot open: %s: No such file or directory", path)
 }
 
 is_grid_of_rcell <- function(path) {
@@ -150,7 +151,7 @@ grid_fault <- function(ran) {
   parts <- regmatches(ran$stderr, regexec("^rcell: ([^:]*):([0-9]+): ([^\n]*)", ran$stderr))[[1]]
   if (length(parts) != 4L) {
     text <- "the program rcell ended with status %d and printed: %s"
-    wrong_program(sprintf(text, ran$status, ran$stderr))
+    wrong_program(text, ran$status, ran$stderr)
   }
   class <- if (ran$status == 3L) "rcell_out_of_memory"
   refuse(parts[4], parts[2], as.integer(parts[3]), ran$status, class = class)
@@ -170,8 +171,7 @@ labels_of <- function(raster) {
   if (!is.data.frame(table) || NCOL(table) < 2L) return(NULL)
   labels <- utf8_of(as.character(table[[2]]))
   codes <- suppressWarnings(as.numeric(table[[1]]))
-  is_class <- !is.na(codes) & codes == trunc(codes) & abs(codes) <= CATEGORY_LIMIT
-  is_kept <- is_class & !is.na(labels)
+  is_kept <- is_category(codes) & !is.na(labels)
   list(codes = as.integer(codes[is_kept]), labels = labels[is_kept])
 }
 

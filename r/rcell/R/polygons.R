@@ -3,17 +3,11 @@
 
 # Return the source of zones: a map, or polygons drawn on the grid of the map.
 zones_source <- function(zones, field, layer, source, each = FALSE) {
-  check_text(field, "zone_field")
-  check_text(layer, "layer")
-  choose <- function(known) {
-    if (is.null(field) || field %in% known) return(field)
-    no_field(POLYGONS, field, known)
-  }
-  polygons <- features_of(POLYGONS, zones, layer, choose, !is.null(field))
+  polygons <- features_of(POLYGONS, zones, layer, field)
   if (is.null(polygons)) {
     if (!is.null(field) || each) {
       text <- if (each) "each=" else "zone_field="
-      refuse(paste(text, "requires polygons, but zones= is a raster"), status = 2L)
+      bad_argument("%s requires polygons, but zones= is a raster", text)
     }
     return(source_of("zones", zones))
   }
@@ -29,9 +23,9 @@ zones_source <- function(zones, field, layer, source, each = FALSE) {
     zones$of_feature[winners_of(polygons, zones$of_feature, part, template, state)]
   })
   check_centres(polygons, state$without)
-  list(
-    name = "zones", cells = cells[[1]], parts = if (each) cells, region = source$region,
-    raster = template, crs = polygons$crs, labels = zones$labels, files = polygons$files
+  cells_source(
+    "zones", cells[[1]], source, polygons$crs, parts = if (each) cells, labels = zones$labels,
+    files = polygons$files
   )
 }
 
@@ -43,7 +37,7 @@ zones_of <- function(polygons) {
     return(list(of_feature = as.integer(polygons$ids), labels = NULL))
   }
   numbers <- polygons$values$numbers
-  if (all(!is.na(numbers) & numbers == trunc(numbers) & abs(numbers) <= CATEGORY_LIMIT)) {
+  if (all(is_category(numbers))) {
     return(list(of_feature = as.integer(numbers), labels = NULL))
   }
   texts <- polygons$values$texts
@@ -55,7 +49,7 @@ check_ids <- function(ids) {
   beyond <- ids[abs(ids) > CATEGORY_LIMIT]
   if (!length(beyond)) return(invisible())
   text <- "feature %.0f has a number beyond 2147483647: name a field with zone_field="
-  bad_map("zones", sprintf(text, beyond[[1]]))
+  bad_map("zones", text, beyond[[1]])
 }
 
 # Divide features into parts in which no two zones overlap, judged by their bounding boxes.
@@ -116,7 +110,7 @@ check_centres <- function(polygons, without) {
   if (!length(without)) return(invisible())
   text <- "zones: %d of %d polygons contain no cell centre: %s"
   names <- feature_names(polygons, without)
-  warning(sprintf(text, length(without), length(polygons$ids), names), call. = FALSE)
+  warn(text, length(without), length(polygons$ids), names)
 }
 
 warn_of_losers <- function(polygons, losers, is_contested, columns) {
@@ -128,7 +122,7 @@ warn_of_losers <- function(polygons, losers, is_contested, columns) {
   row <- (is_contested[[1]] - 1L) %/% columns + 1L
   column <- (is_contested[[1]] - 1L) %% columns + 1L
   names <- feature_names(polygons, losers)
-  warning(sprintf(text, length(is_contested), row, column, names), call. = FALSE)
+  warn(text, length(is_contested), row, column, names)
 }
 
 # Name features by their numbers, and by their values if there is a zone field.

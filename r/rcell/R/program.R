@@ -28,7 +28,7 @@ program_path <- function() {
     ))
   }
   if (dir.exists(path) || file.access(path, 1L) != 0L) {
-    missing_program(sprintf("the program %s does not exist or is not executable", path))
+    missing_program("the program %s does not exist or is not executable", path)
   }
   path <- normalizePath(path)
   state <- file.info(path)
@@ -46,8 +46,10 @@ REMEDY <- paste0(
   "or Sys.setenv(RCELL_PIPE = \"/path/to/rcell-pipe\")"
 )
 
-missing_program <- function(text) signal("rcell_missing", paste0(text, REMEDY))
-wrong_program <- function(text) signal("rcell_wrong_program", text)
+missing_program <- function(text, ...) {
+  signal("rcell_missing", paste0(filled(text, ...), REMEDY))
+}
+wrong_program <- function(text, ...) signal("rcell_wrong_program", filled(text, ...))
 
 # Return the first that exists: the option, the environment variable, the program next to the
 # program in RCELL, the program in this package, the program on the path.
@@ -87,7 +89,7 @@ bundled_program <- function(name) {
 probe <- function(path) {
   wrong <- function(e) {
     text <- "%s is not a supported version of the program rcell-pipe"
-    wrong_program(sprintf(text, path))
+    wrong_program(text, path)
   }
   frames <- tryCatch(
     run_pipe(path, list(small_map("g", c(7L, NA, 12L))), PROBE_SCRIPT),
@@ -134,7 +136,7 @@ guard_words <- function() {
 execute <- function(path, folder, words = character(), input = NULL) {
   command <- c(guard_words(), path, words)
   failed <- function(text) {
-    missing_program(sprintf("the program %s cannot be executed: %s", path, trimws(text)))
+    missing_program("the program %s cannot be executed: %s", path, trimws(text))
   }
   from <- if (!is.null(input)) file.path(folder, input)
   to <- file.path(folder, "out")
@@ -171,10 +173,10 @@ ask_pipe <- function(path, request) {
   wrong <- function() {
     if (ran$status == 4L) write_failed(out, "the disk may be full")
     if (ran$status == 0L) {
-      wrong_program(sprintf("%s returned a response that this package cannot read", path))
+      wrong_program("%s returned a response that this package cannot read", path)
     }
     printed <- if (nzchar(ran$stderr)) ran$stderr else "nothing"
-    wrong_program(sprintf("the program ended with status %d and printed: %s", ran$status, printed))
+    wrong_program("the program ended with status %d and printed: %s", ran$status, printed)
   }
   frames <- tryCatch(
     read_response(out, wrong), rcell_error = function(e) stop(e), error = function(e) wrong()

@@ -18,9 +18,11 @@ raster_source <- function(name, raster, is_opened_here = FALSE) {
   if (!hasValues(raster)) bad_map(name, "a raster without values")
   scale <- scoff(raster)
   if (any(scale != c(1, 0))) {
-    text <- "its values are scaled: each cell times %g, plus %g; %s"
-    remedy <- "write them out as whole numbers first"
-    bad_map(name, sprintf(text, scale[[1]], scale[[2]], remedy))
+    text <- paste(
+      "its values are scaled: each cell times %g, plus %g;",
+      "write them out as whole numbers first"
+    )
+    bad_map(name, text, scale[[1]], scale[[2]])
   }
   check_file(name, raster, chosen$facts, chosen$band)
   list(
@@ -39,7 +41,7 @@ opaque_layer <- function(name, raster) {
   is_alpha <- if (is.null(facts)) rep(FALSE, nlyr(raster)) else bands$bands %in% facts$alpha
   layers <- if (nlyr(raster) > 1L && any(is_alpha)) which(!is_alpha) else seq_len(nlyr(raster))
   if (length(layers) != 1L) {
-    bad_map(name, sprintf("has %d layers: choose one, for example x[[1]]", length(layers)))
+    bad_map(name, "has %d layers: choose one, for example x[[1]]", length(layers))
   }
   if (nlyr(raster) > 1L) raster <- raster[[layers]]
   opaque <- list(raster = raster, files = paths, facts = facts)
@@ -111,7 +113,7 @@ check_file <- function(name, raster, facts, band) {
   if (is.null(facts)) return(invisible())
   # After reading the cells, GDAL would overwrite the file's table without these rows.
   if (length(facts$loose_rows)) {
-    read_failed(name, sprintf("its attribute table cannot be read: %s", facts$loose_rows))
+    read_failed(name, "its attribute table cannot be read: %s", facts$loose_rows)
   }
   if (facts$is_rotated) bad_map(name, ROTATED)
   if (facts$has_points_alone) {
@@ -120,23 +122,21 @@ check_file <- function(name, raster, facts, band) {
   lines <- if (band <= length(facts$bands)) facts$bands[[band]] else character()
   type <- sub("^.*Type=([A-Za-z0-9]+).*$", "\\1", lines[1])
   if (type %in% COMPLEX_TYPES) {
-    bad_map(name, sprintf("not a map of whole numbers: its cells are of type %s", type))
+    bad_map(name, "not a map of whole numbers: its cells are of type %s", type)
   }
   if (type %in% c("Int64", "UInt64")) check_wide_null(name, lines)
   if (any(grepl("PIXELTYPE=SIGNEDBYTE", lines, fixed = TRUE)) && "INT1U" %in% datatype(raster)) {
-    text <- paste(
+    bad_map(name, paste(
       "its bytes are signed, but terra reads them as 0 to 255:",
       "first write it with 16 bits per cell in another program"
-    )
-    bad_map(name, text)
+    ))
   }
   has_mask <- grepl("Mask Flags:", lines, fixed = TRUE) & !grepl("ALPHA", lines, fixed = TRUE)
   if (any(has_mask)) {
-    text <- paste(
+    bad_map(name, paste(
       "has its own mask, but terra reads the cells beneath the mask:",
       "write it with a nodata value first"
-    )
-    bad_map(name, text)
+    ))
   }
 }
 
@@ -153,14 +153,14 @@ check_wide_null <- function(name, lines) {
       "its cells have 64 bits and its nodata value is %s,",
       "which terra cannot distinguish from its neighbours: write it with 32 bits per cell first"
     )
-    bad_map(name, sprintf(reason, text))
+    bad_map(name, reason, text)
   }
 }
 
 # Open a raster. Reject rotated rasters, which terra reads as if they were not rotated, with a
 # warning.
 open_raster <- function(name, path) {
-  failed <- function(e) read_failed(name, sprintf("cannot open: %s: %s", path, told(e)))
+  failed <- function(e) read_failed(name, "cannot open: %s: %s", path, told(e))
   withCallingHandlers(
     tryCatch(with_path(path, rast(path)), error = failed),
     warning = function(w) {

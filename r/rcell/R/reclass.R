@@ -24,58 +24,37 @@ rcell_reclass <- function(x, rules, other = NULL, filename = "", overwrite = FAL
 # Return rules sorted by value: the first and last value, the new class (NA for null), and its
 # label.
 rules_of <- function(rules) {
-  if (is_path(rules) || is.data.frame(rules)) {
-    table <- table_of_columns(rules, "rules", c("value", "new"), "label")
-    table <- list(
-      values = table$columns$value, new = table$columns$new, labels = table$columns$label,
-      places = table$places
-    )
-  } else if ((is.atomic(rules) || is.list(rules)) && length(rules) && !is.null(names(rules))) {
-    if (any(lengths(rules) != 1L)) {
-      refuse("each class must have one new class", "rules", status = 2L)
-    }
-    new <- vapply(rules, as.character, "")
-    places <- sprintf("element %d: ", seq_along(rules))
-    table <- list(values = names(rules), new = unname(new), labels = NULL, places = places)
-  } else {
+  given <- columns_given(rules, "rules", c("value", "new"), "label")
+  if (is.null(given)) {
     text <- paste(
       "must be a CSV file or a data frame with the columns value, new and optionally label,",
       "or a vector of new classes with the old classes as names; got %s"
     )
-    refuse(sprintf(text, shown(rules)), "rules", status = 2L)
+    bad_input("rules", text, shown(rules), status = 2L)
   }
-  checked_rules(table)
-}
-
-checked_rules <- function(table) {
-  values <- trimmed(table$values)
+  values <- trimmed(given$columns$value)
   low <- suppressWarnings(as.numeric(sub(VALUES, "\\1", values, perl = TRUE)))
   high <- suppressWarnings(as.numeric(sub(VALUES, "\\2", values, perl = TRUE)))
   high[is.na(high)] <- low[is.na(high)]
   is_range <- grepl(VALUES, values, perl = TRUE) & abs(low) <= CATEGORY_LIMIT &
     abs(high) <= CATEGORY_LIMIT & low <= high
-  reason <- "is not a class or a range of classes such as 31-39"
-  check_rule(is_range %in% TRUE, table, values, reason)
-  new <- trimmed(table$new)
+  text <- "%s is not a class or a range of classes such as 31-39"
+  check_rows(is_range, given$places, sprintf(text, quoted_if_empty(values)), "rules")
+  new <- trimmed(given$columns$new)
   new[is.na(new)] <- ""
   codes <- suppressWarnings(as.numeric(new))
   is_class <- !nzchar(new) | (grepl(WHOLE, new) & abs(codes) <= CATEGORY_LIMIT)
-  check_rule(is_class %in% TRUE, table, new, "is not a class: a whole number, or empty for null")
+  text <- "%s is not a class: a whole number, or empty for null"
+  check_rows(is_class, given$places, sprintf(text, quoted_if_empty(new)), "rules")
   order <- order(low)
   again <- which(low[order][-1] <= high[order][-length(low)])
   if (length(again)) {
-    refuse(sprintf("two rules for class %.0f", low[order][[again[[1]] + 1L]]), "rules")
+    bad_input("rules", "two rules for class %.0f", low[order][[again[[1]] + 1L]])
   }
-  labels <- if (is.null(table$labels)) rep("", length(low)) else trimmed(table$labels)
+  labels <- given$columns$label
+  labels <- if (is.null(labels)) rep("", length(low)) else trimmed(labels)
   labels[is.na(labels)] <- ""
   list(low = low[order], high = high[order], new = codes[order], labels = labels[order])
-}
-
-check_rule <- function(is_right, table, texts, reason) {
-  bad <- which(!is_right)
-  if (!length(bad)) return(invisible())
-  text <- sprintf("%s%s %s", table$places[[bad[[1]]]], quoted_if_empty(texts[[bad[[1]]]]), reason)
-  refuse(text, "rules")
 }
 
 # Return lines for r.reclass. Consecutive values with the same new class share a line.
@@ -90,7 +69,7 @@ rule_lines <- function(rules) {
   lines <- paste(ifelse(low == high, low, paste(low, "thru", high)), "=", new[is_first])
   if (sum(nchar(lines) + 1L) > RULES_BYTES) {
     text <- "%d ranges of classes do not fit into a script: use fewer ranges"
-    refuse(sprintf(text, length(lines)), "rules")
+    bad_input("rules", text, length(lines))
   }
   lines
 }
@@ -102,7 +81,7 @@ check_covered <- function(classes, rules) {
   if (all(is_covered)) return(invisible())
   text <- "no rule for the %s %s: add rules, or use other = \"keep\" or other = \"null\""
   noun <- if (sum(!is_covered) > 1L) "classes" else "class"
-  refuse(sprintf(text, noun, shortened(classes[!is_covered])), "map")
+  bad_input("map", text, noun, shortened(classes[!is_covered]))
 }
 
 # Return the labels of new classes, in the order of the rules.

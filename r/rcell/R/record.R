@@ -69,16 +69,15 @@ record_of <- function(path) {
   beside <- paste0(path, ".json")
   if (!file.exists(native_path(beside))) {
     text <- "%s has no record (%s): write it with rcell_record"
-    refuse(sprintf(text, path, beside), "record", status = 4L)
+    bad_input("record", text, path, beside, status = 4L)
   }
   wrong <- function() {
-    text <- "%s is not a record from this version of the R package"
-    refuse(sprintf(text, beside), "record")
+    bad_input("record", "%s is not a record from this version of the R package", beside)
   }
   record <- list_of_json(utf8_text(native_path(beside), "record"), wrong)
   if (is.list(record) && is.list(record$versions) && !is.null(record$versions$python)) {
     text <- "%s was not recorded in R: verify it in Python or QGIS, or with rcell-gis verify %s"
-    refuse(sprintf(text, path, path), "record")
+    bad_input("record", text, path, path)
   }
   if (!is_record(record)) wrong()
   record
@@ -128,8 +127,7 @@ table_in <- function(result, part) {
   tables <- if (is.data.frame(result)) list(table = result)
   if (is.list(result) && is.null(tables)) tables <- Filter(is.data.frame, result)
   if (!length(tables)) {
-    text <- "the call must return a table; got a %s"
-    refuse(sprintf(text, class(result)[[1]]), status = 2L)
+    bad_argument("the call must return a table; got a %s", class(result)[[1]])
   }
   if (identical(part, "summary") && is.null(tables$summary) && "kappa" %in% names(result)) {
     return(as.data.frame(result[-(1:2)]))
@@ -173,7 +171,7 @@ write_record <- function(path, text, record) {
 
 # Return the SHA-256 of a file.
 sum_of <- function(path) {
-  failed <- function(e) read_failed("record", sprintf("cannot open: %s", path))
+  failed <- function(e) read_failed("record", "cannot open: %s", path)
   tryCatch(digest(path, "sha256", file = TRUE), error = failed)
 }
 
@@ -203,7 +201,7 @@ plain_argument <- function(name, value, folder) {
   if (!(is.numeric(value) || is.logical(value) || is.character(value) || is.list(value)) ||
     is.object(value) || !is.null(dim(value))) {
     text <- "arguments must be paths, numbers or strings to be recorded; got an object of class %s"
-    refuse(sprintf(text, class(value)[[1]]), status = 2L)
+    bad_argument(text, class(value)[[1]])
   }
   if (is.null(names(value)) && !is.list(value) && length(value) == 1L) return(value)
   parts <- unname(lapply(as.list(value), function(part) plain_argument(name, part, folder)))

@@ -16,17 +16,14 @@ region_of <- function(name, raster) {
   edges <- as.vector(ext(raster))[c("ymax", "ymin", "xmax", "xmin")]
   spelled <- paste(EDGES, format(edges, digits = 15, trim = TRUE), collapse = ", ")
   if (any(!is.finite(edges))) {
-    text <- sprintf("its transform must have finite numbers; its edges are %s", spelled)
-    bad_map(name, text)
+    bad_map(name, "its transform must have finite numbers; its edges are %s", spelled)
   }
   if (edges[[3]] < edges[[4]]) {
-    text <- sprintf("its transform must have columns from west to east; its edges are %s", spelled)
-    bad_map(name, text)
+    bad_map(name, "its transform must have columns from west to east; its edges are %s", spelled)
   }
   if (any(abs(edges) >= EDGE_LIMIT)) {
     bad <- which(abs(edges) >= EDGE_LIMIT)[[1]]
-    text <- "%s must have at most ten digits; got %g"
-    bad_map(name, sprintf(text, EDGES[[bad]], edges[[bad]]))
+    bad_map(name, "%s must have at most ten digits; got %g", EDGES[[bad]], edges[[bad]])
   }
   region <- list(
     edges = edge_text(edges), rows = as.integer(nrow(raster)), cols = as.integer(ncol(raster))
@@ -39,15 +36,25 @@ check_region <- function(name, region) {
   is_long <- region$rows > SIDE_LIMIT || region$cols > SIDE_LIMIT
   if (is_long || as.numeric(region$rows) * region$cols > CELL_LIMIT) {
     text <- "%d rows and %d columns: there must be 1 to %d of each, and at most %.0f cells"
-    bad_map(name, sprintf(text, region$rows, region$cols, SIDE_LIMIT, CELL_LIMIT))
+    bad_map(name, text, region$rows, region$cols, SIDE_LIMIT, CELL_LIMIT)
   }
   numbers <- as.numeric(region$edges)
   is_flat <- c(numbers[[1]] <= numbers[[2]], numbers[[3]] <= numbers[[4]])
   if (any(is_flat)) {
     sides <- if (is_flat[[1]]) c("north", "south") else c("east", "west")
     text <- "%s must exceed %s after rounding to %d decimals; got %s"
-    bad_map(name, sprintf(text, sides[[1]], sides[[2]], DECIMALS, region_text(region)))
+    bad_map(name, text, sides[[1]], sides[[2]], DECIMALS, region_text(region))
   }
+}
+
+# Return the number of the cell that contains each point, or NA. A cell includes its northern and
+# western edges; with a tolerance, as a fraction of a cell, points near an edge are in the cell to
+# the south or east.
+cells_at <- function(grid, x, y, tolerance = 0) {
+  row <- floor((ymax(grid) - y) / res(grid)[[2]] + tolerance)
+  col <- floor((x - xmin(grid)) / res(grid)[[1]] + tolerance)
+  is_in <- row >= 0 & row < nrow(grid) & col >= 0 & col < ncol(grid)
+  ifelse(is_in %in% TRUE, row * ncol(grid) + col + 1, NA)
 }
 
 # Remove trailing zeros.

@@ -4,8 +4,6 @@
 ALLOCATIONS <- c("equal", "proportional")
 # The largest sample: its product with a map's number of cells is exact as a double.
 POINTS_LIMIT <- 1e6
-# The largest number of cells that one run lists.
-LISTED_LIMIT <- 2^22
 # Random numbers use this many bits of a hash.
 NUMBERS_OF_A_HASH <- 2^48
 
@@ -14,11 +12,10 @@ rcell_sample <- function(x, n, seed, allocation = "equal", labels = NULL, crs = 
   check_argument(is_seed, seed, "seed= must be a whole number or a string")
   check_numbers(n, allocation)
   sources <- sources_of(list(map = x), crs)
-  labels <- labels_from(labels, sources$map$labels)
+  labels <- labels_from(labels, sources$map)
   frame <- run_own(c("r.mapcalc row = row()", "r.stats -cn input=map,row"), sources)[[1]]
   class <- unique(frame$codes[[1]])
-  member <- match(frame$codes[[1]], class)
-  sizes <- summed(frame$cells, member, length(class))
+  sizes <- summed(frame$cells, match(frame$codes[[1]], class), length(class))
   wanted <- divided(n, allocation, class, sizes)
   warn_of_few(class, sizes, wanted)
   seed <- if (is.character(seed)) enc2utf8(seed) else sprintf("%.0f", seed)
@@ -28,33 +25,27 @@ rcell_sample <- function(x, n, seed, allocation = "equal", labels = NULL, crs = 
   }, class, sizes, wanted, cumsum(sizes) - sizes))
   until <- cumsum(as.numeric(frame$cells))
   entry <- findInterval(places, until) + 1L
+  class <- frame$codes[[1]][entry]
   row <- frame$codes[[2]][entry]
-  place <- as.integer(places - (until - frame$cells)[entry])
-  col <- columns_of(sources, frame$codes[[1]][entry], row, place)
-  check_legend(labels, class, "map")
+  col <- columns_of(sources$map, class, row, places - (until - frame$cells)[entry])
   template <- template_of(sources$map)
-  frame_of(c(
-    list(point = seq_along(row)), coded("class", frame$codes[[1]][entry], labels, "label"),
-    list(
-      row = row, col = col, x = xmin(template) + res(template)[[1]] * (col - 0.5),
-      y = ymax(template) - res(template)[[2]] * (row - 0.5)
-    )
-  ))
+  frame_of(c(list(point = seq_along(row)), coded("class", class, labels, "label"), list(
+    row = row, col = col, x = xFromCol(template, col), y = yFromRow(template, row)
+  )))
 }
 
 check_numbers <- function(n, allocation) {
   check_one_of(allocation, "allocation", ALLOCATIONS)
-  fewest <- if (is.null(names(n))) 1 else 0
-  is_right <- is.numeric(n) && length(n) && all(is.finite(n)) && all(n == trunc(n)) &&
-    all(n >= fewest & n <= POINTS_LIMIT) && (length(n) == 1L || !is.null(names(n)))
-  is_right <- is_right && (is.null(names(n)) || all(grepl(WHOLE, names(n))))
+  by_class <- !is.null(names(n))
+  is_right <- length(n) && are_whole(n, if (by_class) 0 else 1, POINTS_LIMIT) &&
+    if (by_class) all(grepl(WHOLE, names(n))) else length(n) == 1L
   rule <- paste(
     "n= must be a whole number up to %.0f, or one for each class, for example",
     "c(\"11\" = 50, \"31\" = 100)"
   )
   check_argument(is_right, n, rule, POINTS_LIMIT)
   rule <- "allocation= must be left out if n= has a number for each class"
-  check_argument(is.null(names(n)) || allocation == ALLOCATIONS[[1]], allocation, rule)
+  check_argument(!by_class || allocation == ALLOCATIONS[[1]], allocation, rule)
 }
 
 # Return how many cells to draw from each class. The remainder goes to the largest fractions.
@@ -63,17 +54,15 @@ divided <- function(n, allocation, class, sizes) {
     codes <- as.numeric(names(n))
     lacking <- sort(setdiff(codes, class))
     if (length(lacking)) {
-      text <- "n= must name classes that occur in the map; got %.0f"
-      refuse(sprintf(text, lacking[[1]]), status = 2L)
+      bad_argument("n= must name classes that occur in the map; got %.0f", lacking[[1]])
     }
-    wanted <- n[match(class, codes)]
-    return(unname(ifelse(is.na(wanted), 0, wanted)))
+    wanted <- unname(n[match(class, codes)])
+    return(replace(wanted, is.na(wanted), 0))
   }
   parts <- if (allocation == "proportional") sizes else rep(1, length(sizes))
   whole <- max(sum(parts), 1)
   counts <- (n * parts) %/% whole
-  order <- order(-((n * parts) %% whole))
-  more <- order[seq_len(min(n - sum(counts), length(order)))]
+  more <- head(order(-((n * parts) %% whole)), n - sum(counts))
   counts[more] <- counts[more] + 1
   counts
 }
@@ -81,26 +70,24 @@ divided <- function(n, allocation, class, sizes) {
 warn_of_few <- function(class, sizes, wanted) {
   few <- which(sizes < wanted)
   if (!length(few)) return(invisible())
-  listed <- shortened(sprintf("%d (%.0f of %.0f)", class[few], sizes[few], wanted[few]))
-  warning(sprintf("some classes have fewer cells than requested: %s", listed), call. = FALSE)
+  listed <- sprintf("%d (%.0f of %.0f)", class[few], sizes[few], wanted[few])
+  warn("some classes have fewer cells than requested: %s", shortened(listed))
 }
 
-# Return the columns of cells that are identified by class, row, and position among the cells of
-# this class in the row. The program lists a limited number of cells at a time.
-columns_of <- function(sources, class, row, place) {
-  rows <- sort(unique(row))
-  step <- max(1, LISTED_LIMIT %/% sources$map$region$cols)
+# Return the columns of cells that are identified by class, row, and position (from 0) among the
+# cells of this class in the row.
+columns_of <- function(source, class, row, place) {
   col <- integer(length(row))
-  for (some in split(rows, (seq_along(rows) - 1L) %/% step)) {
-    script <- c(
-      "r.mapcalc every = row()", "r.reclass input=every output=row", sprintf("%d = %d", some, some),
-      "end", "r.mapcalc col = col()", "r.stats -n input=map,row,col"
-    )
-    codes <- run_own(script, sources)[[1]]$codes
-    wanted <- which(row %in% some)
-    first <- match(paste(class, row)[wanted], paste(codes[[1]], codes[[2]]))
-    col[wanted] <- codes[[3]][first + place[wanted]]
-  }
+  width <- source$region$cols
+  before <- 0
+  each_block(source, function(cells) {
+    until <- before + length(cells) %/% width
+    for (point in which(row > before & row <= until)) {
+      in_row <- cells[(row[[point]] - before - 1) * width + seq_len(width)]
+      col[[point]] <<- which(in_row == class[[point]])[[place[[point]] + 1]]
+    }
+    before <<- until
+  })
   col
 }
 

@@ -17,7 +17,7 @@ is_ascii_locale <- function() Sys.getlocale("LC_CTYPE") %in% c("C", "POSIX")
 
 # Return the lines of a script, which may be one text or a vector of lines.
 lines_of <- function(script) {
-  if (!is.character(script) || anyNA(script)) refuse("the script is not text", "script")
+  if (!is.character(script) || anyNA(script)) bad_input("script", "the script is not text")
   text <- paste(utf8_of(script), collapse = "\n")
   lines <- strsplit(text, "\n", fixed = TRUE, useBytes = TRUE)[[1]]
   if (length(lines)) lines else ""
@@ -58,6 +58,20 @@ statement_of <- function(output) {
     paste0("input=", paste(output$maps, collapse = ",")), if (nzchar(after)) paste0("after=", after)
   )
   paste(words, collapse = " ")
+}
+
+chunks_of <- function(items, size) split(items, (seq_along(items) - 1L) %/% size)
+
+# Return lines that make a map by filling terms, with a separator, into a form. If an expression
+# cannot contain all terms, parts of them are combined first.
+combined_lines <- function(map, form, terms, separator, limit) {
+  if (length(terms) <= limit) {
+    return(sprintf("r.mapcalc %s = %s", map, sprintf(form, paste(terms, collapse = separator))))
+  }
+  chunks <- chunks_of(terms, limit)
+  parts <- sprintf("%s_%d", map, seq_along(chunks))
+  lines <- unlist(Map(combined_lines, parts, form, chunks, separator, limit), use.names = FALSE)
+  c(lines, combined_lines(map, form, parts, separator, limit))
 }
 
 unused_name <- function(name, lines, names) {

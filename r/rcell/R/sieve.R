@@ -13,16 +13,15 @@ rcell_sieve <- function(x, min_cells = NULL, min_ha = NULL, connectivity = 4, dr
   check_flag(drop, "drop")
   sources <- map_to_write(x, crs, filename, overwrite)
   fewest <- fewest_cells(min_cells, min_ha, sources$map)
-  steps <- c(SIDES, if (connectivity == 8) CORNERS)
-  lines <- touching_lines("map", connectivity, "patch,map", if (!drop) steps)
+  steps <- if (!drop) c(SIDES, if (connectivity == 8) CORNERS)
+  lines <- touching_lines("map", connectivity, "patch,map", steps)
   frames <- run_own(c(lines, "r.out.ascii input=patch"), sources)
   class <- frames[[1]]$codes[[2]]
-  cells <- frames[[1]]$cells
-  if (drop) {
-    new <- replace(class, cells < fewest, NA)
-  } else {
-    corners <- frames[-c(1:3, length(frames))]
-    new <- merged_classes(class, cells, frames[2:3], corners, fewest)
+  is_small <- frames[[1]]$cells < fewest
+  new <- replace(class, is_small, NA)
+  if (!drop) {
+    touching <- touching_of(frames[seq_along(steps) + 1L], is_small)
+    new <- merged_classes(class, frames[[1]]$cells, touching, fewest)
   }
   raster <- raster_of(frames[[length(frames)]], sources$map, sources$map$labels, "sieved", new)
   sources$new <- sources$map
@@ -30,7 +29,7 @@ rcell_sieve <- function(x, min_cells = NULL, min_ha = NULL, connectivity = 4, dr
   lines <- touching_lines("new", connectivity, c("patch", "changed"), if (!drop) SIDES)
   frames <- run_own(c(CHANGED, lines), sources)
   raster <- written(raster, filename)
-  attr(raster, "sieved") <- account_of(frames, fewest, length(cells))
+  attr(raster, "sieved") <- account_of(frames, fewest, length(class))
   raster
 }
 
@@ -38,14 +37,13 @@ rcell_sieve <- function(x, min_cells = NULL, min_ha = NULL, connectivity = 4, dr
 fewest_cells <- function(min_cells, min_ha, source) {
   if (is.null(min_cells) == is.null(min_ha)) {
     met <- if (is.null(min_cells)) "neither" else "both"
-    refuse(sprintf("one of min_cells= and min_ha= must be given; got %s", met), status = 2L)
+    bad_argument("one of min_cells= and min_ha= must be given; got %s", met)
   }
   if (is.null(min_ha)) {
-    is_size <- is_whole(min_cells) && min_cells >= 1
-    check_argument(is_size, min_cells, "min_cells= must be a whole number, at least 1")
+    check_whole_number(min_cells, "min_cells", 1)
     return(min_cells)
   }
-  is_size <- is.numeric(min_ha) && length(min_ha) == 1L && is.finite(min_ha) && min_ha > 0
+  is_size <- length(min_ha) == 1L && are_between(min_ha) && min_ha > 0
   check_argument(is_size, min_ha, "min_ha= must be a number above 0")
   check_metres(source, "min_ha=", ": use min_cells=")
   max(1, ceiling(round(min_ha * UNITS[["ha"]] / cell_sizes(source), DIGITS_OF_CELLS)))
@@ -61,14 +59,29 @@ touching_lines <- function(name, connectivity, tables, steps) {
   )
 }
 
+# Return the patches that each small patch touches, and how many sides they share (0 at a corner).
+# `starts` and `counts` locate a patch's entries in `near` and `sides`.
+touching_of <- function(frames, is_small) {
+  one <- unlist(lapply(frames, function(frame) frame$codes[[1]]))
+  other <- unlist(lapply(frames, function(frame) frame$codes[[2]]))
+  has_sides <- rep(seq_along(frames) <= length(SIDES), lengths(lapply(frames, `[[`, "cells")))
+  sides <- unlist(lapply(frames, `[[`, "cells")) * has_sides
+  from <- as.integer(c(one, other))
+  order <- order(from)
+  order <- order[is_small[from[order]]]
+  counts <- tabulate(from[order], length(is_small))
+  list(
+    near = c(other, one)[order], sides = c(sides, sides)[order], counts = counts,
+    starts = cumsum(counts) - counts + 1L
+  )
+}
+
 # Return the final class of each patch. While a patch below the size shares a side with another
 # class, the smallest patch (ties: the first) gets the class of the neighbour with which it shares
 # most sides (ties: the first). It then merges with all patches of this class that it touches. A
 # merged patch keeps the smallest number of its parts, which follow the order of first cells.
-merged_classes <- function(class, cells, sides, corners, fewest) {
+merged_classes <- function(class, cells, touching, fewest) {
   fewest <- min(fewest, sum(as.numeric(cells)) + 1)
-  sides <- touching_of(sides, cells < fewest)
-  corners <- touching_of(corners, cells < fewest)
   into <- seq_along(class)
   parts <- as.list(into)
   # Process patches by size, since a patch that grows is larger than all patches processed so far.
@@ -80,22 +93,15 @@ merged_classes <- function(class, cells, sides, corners, fewest) {
     for (patch in sort(waiting[[size]])) {
       if (into[[patch]] != patch || cells[[patch]] != size) next
       own <- parts[[patch]]
-      from <- sequence(sides$counts[own], sides$starts[own])
-      near <- sides$near[from]
+      from <- sequence(touching$counts[own], touching$starts[own])
+      near <- touching$near[from]
       while (any((up <- into[near]) != near)) near <- up
-      into[sides$near[from]] <- near
-      is_other <- near != patch
-      if (!any(is_other)) next
-      near <- near[is_other]
-      touched <- unique(near)
-      shared <- tabulate(rep.int(match(near, touched), sides$times[from][is_other]))
+      into[touching$near[from]] <- near
+      touched <- setdiff(near, patch)
+      shared <- tabulate(rep.int(match(near, touched, 0L), touching$sides[from]), length(touched))
+      if (!any(shared > 0L)) next
       code <- class[[min(touched[shared == max(shared)])]]
-      if (length(corners$near)) {
-        near <- corners$near[sequence(corners$counts[own], corners$starts[own])]
-        while (any((up <- into[near]) != near)) near <- up
-        touched <- unique(c(touched, near))
-      }
-      joined <- unique(c(patch, touched[class[touched] == code]))
+      joined <- c(patch, touched[class[touched] == code])
       grown <- min(joined)
       count <- sum(cells[joined])
       if (count < fewest) {
@@ -111,32 +117,17 @@ merged_classes <- function(class, cells, sides, corners, fewest) {
   class[into]
 }
 
-# Return the patches that each small patch touches, and how often. `starts` and `counts` locate a
-# patch's entries in `near` and `times`.
-touching_of <- function(frames, is_small) {
-  one <- unlist(lapply(frames, function(frame) frame$codes[[1]]))
-  other <- unlist(lapply(frames, function(frame) frame$codes[[2]]))
-  times <- rep(unlist(lapply(frames, `[[`, "cells")), 2L)
-  from <- as.integer(c(one, other))
-  near <- c(other, one)
-  order <- order(from)
-  order <- order[is_small[from[order]]]
-  counts <- tabulate(from[order], length(is_small))
-  starts <- cumsum(counts) - counts + 1L
-  list(near = near[order], times = times[order], counts = counts, starts = starts)
-}
-
 # Return the counts of the result, and check that no remaining small patch shares a side with
 # another class.
 account_of <- function(frames, fewest, before) {
   cells <- frames[[1]]$cells
-  small <- frames[[1]]$codes[[1]][cells < fewest]
+  small <- which(cells < fewest)
   if (any(small %in% unlist(lapply(frames[-(1:2)], `[[`, "codes")))) {
     stop("a small patch still has a neighbour: this is a bug in rcell")
   }
-  is_changed <- frames[[2]]$codes[[1]] == 1L
   data.frame(
     patches_before = before, patches_after = length(cells),
-    cells_changed = sum(frames[[2]]$cells[is_changed]), patches_below = length(small)
+    cells_changed = sum(frames[[2]]$cells[frames[[2]]$codes[[1]] == 1L]),
+    patches_below = length(small)
   )
 }

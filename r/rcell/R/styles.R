@@ -16,7 +16,7 @@ LAST_LETTER <- 0x10FFFF
 legend_of_style <- function(path, name) {
   text <- utf8_text(path, name)
   wrong <- function(place, reason) {
-    refuse(sprintf("%s, line %d: %s", path, lines_at(text, place), reason), name)
+    bad_input(name, "%s, line %d: %s", path, lines_at(text, place), reason)
   }
   encoding <- regmatches(text, regexec(XML_ENCODING, text))[[1]]
   if (length(encoding) == 2L && !(tolower(encoding[[2]]) %in% c("utf-8", "us-ascii"))) {
@@ -25,7 +25,7 @@ legend_of_style <- function(path, name) {
   tags <- tags_of(text, wrong)
   is_class <- tags$name == "paletteEntry"
   if (!any(is_class)) is_class <- tags$name == "item" & tags$parent == "colorrampshader"
-  if (!any(is_class)) refuse(sprintf("%s: the style has no classes", path), name)
+  if (!any(is_class)) bad_input(name, "%s: the style has no classes", path)
   entries <- Map(attributes_of, tags$text[is_class], tags$place[is_class], list(wrong))
   attribute <- function(key) {
     texts <- vapply(entries, function(entry) unname(entry[key]), "")

@@ -25,9 +25,7 @@ wide_of <- function(table, statement, labels, numbers) {
   has_labels <- "l" %in% statement$flags
   sides <- list(table[[1]], table[[if (has_labels) 3L else 2L]])
   codes <- lapply(sides, function(side) sort(unique(side), na.last = TRUE))
-  places <- Map(match, sides, codes)
-  matrix <- array(if (is.integer(numbers)) 0L else 0, lengths(codes))
-  matrix[do.call(cbind, places)] <- numbers
+  matrix <- crossed(numbers, sides, codes)
   legends <- lapply(statement$maps, function(map) if (has_labels) labels[[map]])
   # The rows and columns of this matrix are different maps, which may have equal labels.
   dimnames(matrix) <- Map(function(legend, codes) {

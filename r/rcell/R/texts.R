@@ -10,15 +10,15 @@ FIELD_FORM <- paste0(
 # Return the text of a file, which must be UTF-8.
 utf8_text <- function(path, name) {
   if (!file.exists(path)) no_such_file(name, path)
-  if (dir.exists(path)) read_failed(name, sprintf("cannot open: %s: Is a directory", path))
-  failed <- function(e) read_failed(name, sprintf("cannot open: %s: Permission denied", path))
+  if (dir.exists(path)) read_failed(name, "cannot open: %s: Is a directory", path)
+  failed <- function(e) read_failed(name, "cannot open: %s: Permission denied", path)
   bytes <- tryCatch(suppressWarnings(readBin(path, "raw", file.size(path))), error = failed)
   if (identical(head(bytes, 3L), BYTE_ORDER_MARK)) bytes <- bytes[-(1:3)]
   null <- match(as.raw(0L), bytes)
   if (!is.na(null)) {
     line <- sum(bytes[seq_len(null)] == as.raw(10L)) + 1L
     reason <- "%s, line %d: a null byte, so this is not text: save the file as UTF-8"
-    refuse(sprintf(reason, path, line), name)
+    bad_input(name, reason, path, line)
   }
   text <- rawToChar(bytes)
   if (!validUTF8(text)) {
@@ -27,10 +27,10 @@ utf8_text <- function(path, name) {
       "%s, line %d: not in UTF-8: save the file as UTF-8, in a spreadsheet as \"CSV UTF-8\",",
       "or convert it with iconv -f latin1 -t utf8"
     )
-    refuse(sprintf(reason, path, which(!validUTF8(lines))[[1]]), name)
+    bad_input(name, reason, path, which(!validUTF8(lines))[[1]])
   }
   Encoding(text) <- "UTF-8"
-  if (!grepl("[^ \t\r\n]", text)) refuse(sprintf("%s is empty", path), name)
+  if (!grepl("[^ \t\r\n]", text)) bad_input(name, "%s is empty", path)
   text
 }
 
@@ -72,7 +72,7 @@ separated_values <- function(path, name) {
   fields <- parts_of(text, sprintf(FIELD_FORM, separator, separator, separator))
   if (fields$end <= nchar(text, "bytes")) {
     line <- lines_at(text, fields$end)
-    refuse(sprintf("%s, line %d: a quotation mark is not closed", path, line), name)
+    bad_input(name, "%s, line %d: a quotation mark is not closed", path, line)
   }
   quoted <- gsub("\"\"", "\"", fields$groups[[1]], fixed = TRUE)
   content <- paste0(quoted, fields$groups[[2]])
@@ -91,12 +91,38 @@ table_of_columns <- function(given, name, needed, optional = character()) {
   table <- columns_of(given, name, needed)
   columns <- lapply(c(needed, optional), function(title) {
     place <- which(table$titles == title)
-    if (length(place) > 1L) refuse(sprintf("has two columns named %s", title), name)
+    if (length(place) > 1L) bad_input(name, "has two columns named %s", title)
     if (length(place)) table$column(place)
   })
   names(columns) <- c(needed, optional)
   list(columns = Filter(Negate(is.null), columns), places = table$places)
 }
+
+# Return the columns of a table (see `table_of_columns`), or of a named vector, whose names are the
+# first column and whose values are the second one. Return NULL for anything else.
+columns_given <- function(given, name, needed, optional = character()) {
+  if (is_path(given) || is.data.frame(given)) {
+    return(table_of_columns(given, name, needed, optional))
+  }
+  is_vector <- is.atomic(given) || is.list(given)
+  if (!is_vector || !length(given) || is.null(names(given))) return(NULL)
+  bad <- match(TRUE, lengths(given) != 1L)
+  if (!is.na(bad)) {
+    text <- "each class must have one value; got %d for %s"
+    bad_input(name, text, lengths(given)[[bad]], names(given)[[bad]], status = 2L)
+  }
+  columns <- list(names(given), vapply(given, as.character, "", USE.NAMES = FALSE))
+  names(columns) <- needed
+  list(columns = columns, places = sprintf("element %d: ", seq_along(given)))
+}
+
+# Reject the first row that breaks a rule, with its place and its problem.
+check_rows <- function(is_right, places, problems, name) {
+  bad <- match(FALSE, is_right %in% TRUE)
+  if (!is.na(bad)) bad_input(name, "%s%s", places[[bad]], problems[[bad]])
+}
+
+quoted_if_empty <- function(texts) ifelse(is.na(texts) | !nzchar(texts), "\"\"", texts)
 
 file_columns <- function(path, name, needed) {
   path <- native_path(path)
@@ -105,11 +131,11 @@ file_columns <- function(path, name, needed) {
   if (!all(needed %in% titles)) {
     text <- "%s, line %d: the header must contain %s, separated by commas or tabs; got %s"
     listed <- paste(needed, collapse = " and ")
-    refuse(sprintf(text, path, table$lines[[1]], listed, table$first), name)
+    bad_input(name, text, path, table$lines[[1]], listed, table$first)
   }
   rows <- table$rows[-1]
   places <- sprintf("%s, line %d: ", path, table$lines[-1])
-  if (!length(rows)) refuse(sprintf("%s has no values below its header", path), name)
+  if (!length(rows)) bad_input(name, "%s has no values below its header", path)
   check_widths(rows, length(titles), places, name)
   column <- function(place) {
     trimmed(vapply(rows, function(row) if (length(row) < place) "" else row[[place]], ""))
@@ -122,7 +148,7 @@ frame_columns <- function(frame, name, needed) {
   if (!all(needed %in% titles)) {
     text <- "a data frame must have the columns %s; got %s"
     listed <- paste(needed, collapse = " and ")
-    refuse(sprintf(text, listed, paste(names(frame), collapse = ", ")), name, status = 2L)
+    bad_input(name, text, listed, paste(names(frame), collapse = ", "), status = 2L)
   }
   column <- function(place) as.character(frame[[place]])
   list(titles = titles, column = column, places = sprintf("row %d: ", seq_len(nrow(frame))))
@@ -130,11 +156,9 @@ frame_columns <- function(frame, name, needed) {
 
 # Check that no label was split at a comma.
 check_widths <- function(rows, width, places, name) {
-  for (place in seq_along(rows)) {
-    row <- rows[[place]]
-    if (length(row) > width && any(nzchar(trimmed(row[-seq_len(width)])))) {
-      text <- "%s%d fields, but the header has %d: put labels that contain commas in quotes"
-      refuse(sprintf(text, places[[place]], length(row), width), name)
-    }
-  }
+  is_right <- vapply(rows, function(row) {
+    length(row) <= width || !any(nzchar(trimmed(row[-seq_len(width)])))
+  }, NA)
+  text <- "%d fields, but the header has %d: put labels that contain commas in quotes"
+  check_rows(is_right, places, sprintf(text, lengths(rows), width), name)
 }

@@ -5,21 +5,20 @@ MEASURES <- c("cells", "sum", "mean", "minimum", "maximum", "variance")
 
 rcell_zonal <- function(values, zones, quantiles = 0.5, scale = NULL, zone_labels = NULL,
                         zone_field = NULL, layer = NULL, each = FALSE, crs = NULL) {
-  is_share <- is.numeric(quantiles) && all(quantiles >= 0 & quantiles <= 1) %in% TRUE
-  is_right <- !length(quantiles) || is_share
+  is_right <- !length(quantiles) || are_between(quantiles, 0, 1)
   check_argument(is_right, quantiles, "quantiles= must be from 0 to 1")
   check_argument(!is.null(zones), zones, "zones= must be a map or polygons")
-  is_right <- is.null(scale) || (is_whole(scale) && scale >= 1 && scale <= CATEGORY_LIMIT)
-  rule <- "scale= must be a whole number from 1 to %.0f"
-  check_argument(is_right, scale, rule, CATEGORY_LIMIT)
-  sources <- zoned_sources(values, zones, zone_field, layer, crs, "values", each)
+  if (!is.null(scale)) check_whole_number(scale, "scale", 1, CATEGORY_LIMIT)
+  request <- zoned_request(
+    values, zones, NULL, NULL, zone_labels, zone_field, layer, each, crs, "values"
+  )
+  sources <- request$sources
   sources$values$scale <- scale
   sources$values$remedy <- "; scale = 100 rounds to 1/100"
-  zone_labels <- labels_from(zone_labels, sources$zones$labels, "zone_labels")
   table <- count_cells(sources, list(c("zones", "values")))[[1]]
-  if (!is.null(scale)) warning(sprintf("values: rounded to 1/%.0f", scale), call. = FALSE)
+  if (!is.null(scale)) warn("values: rounded to 1/%.0f", scale)
   zone <- unique(table$codes[[1]])
-  check_legend(zone_labels, zone, "zones", "zone_labels")
+  zone_columns <- coded("zone", zone, request$zone_labels)
   rows <- split(seq_along(table$cells), match(table$codes[[1]], zone))
   numbers <- as.numeric(table$codes[[2]])
   statistics <- vapply(unname(rows), function(row) {
@@ -32,7 +31,7 @@ rcell_zonal <- function(values, zones, quantiles = 0.5, scale = NULL, zone_label
     divisor <- ifelse(names(columns) == "variance", scale^2, scale)
     columns[-1] <- Map(`/`, columns[-1], divisor[-1])
   }
-  frame_of(c(coded("zone", zone, zone_labels), columns))
+  frame_of(c(zone_columns, columns))
 }
 
 # Return the statistics of values in ascending order with their numbers of cells.

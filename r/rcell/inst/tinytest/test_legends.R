@@ -50,7 +50,7 @@ items <- "<colorrampshader><item value=\"1\" label=\"a\"/><item value=\"inf\" la
 expect_identical(fault(style(items)), "line 3: inf is not a whole number from -2147483647 to 2147483647")
 expect_identical(labels_by(style(sub("inf", "2", items))), c("a", "b", NA))
 expect_true(startsWith(refusal(rcell_composition(land, labels = 7))$text, "must be the path of a CSV, TSV or QML file"))
-expect_identical(refusal(rcell_composition(land, labels = list("1" = c("a", "b"))))$text, "each class must have one label")
+expect_identical(refusal(rcell_composition(land, labels = list("1" = c("a", "b"))))$text, "each class must have one value; got 2 for 1")
 
 # Two classes with the same label have separate rows and columns.
 matrix <- rcell_change(land, matrix(c(2, 2, 1), 1), labels = c("1" = "wood", "2" = "wood", "3" = "2"))$matrix

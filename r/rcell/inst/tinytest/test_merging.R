@@ -95,7 +95,7 @@ path <- file.path(room, "blocks.tif")
 expect_equal(values(rcell_aggregate(map, 4, filename = path)), values(blocks))
 expect_identical(levels(rast(path))[[1]]$majority, c("wood", "field", "wood"))
 fault <- function(...) refusal(rcell_aggregate(...))$text
-expect_identical(fault(map, 0), "factor= must be a whole number, at least 1; got 0")
+expect_identical(fault(map, 0), "factor= must be a whole number from 1 to 2147483647; got 0")
 expect_identical(fault(map, 2, min_percent = 101), "min_percent= must be a number from 0 to 100; got 101")
 
 unlink(room, recursive = TRUE)
