@@ -1,21 +1,24 @@
 \name{rcell_adjacency}
 \alias{rcell_adjacency}
-\title{Adjacency of Classes}
-\description{Count the cell sides that each pair of classes shares, and measure their border.}
+\title{Adjacency of classes}
+\description{Count the cell sides that each pair of classes shares, and measure the length of their border.}
 \usage{
 rcell_adjacency(x, labels = NULL, crs = NULL)
 }
 \arguments{
-\item{x}{a map (a \code{SpatRaster}, a path or a matrix); see \code{\link{rcell-package}}.}
-\item{labels}{see \code{\link{rcell_composition}}.}
-\item{crs}{see \code{\link{rcell_run}}.}
+\item{x}{A map (a \code{SpatRaster}, a path or a matrix); see \code{\link{rcell-package}}.}
+\item{labels}{The labels of the classes; see \code{\link{rcell_composition}}.}
+\item{crs}{The coordinate reference system of maps that have none; see \code{\link{rcell_run}}.}
 }
 \value{
-A data frame with \code{class}, \code{label}, \code{neighbour}, \code{neighbour_label} (if there are labels),
-\code{sides} and \code{border_m}, the length of these sides in metres. Each pair of classes is listed once, with the
-smaller class first. The pair of a class with itself counts each side between its own cells once. Sides to null and
-along the edge of the map are left out. \code{border_m} is \code{NA} in degrees (with a warning) and without a reference
-system.
+A data frame with a row for each pair of classes that share a side. Each pair is listed once, with the smaller class
+first. A class is also paired with itself; this row counts the sides between cells of the class. Sides next to \code{NA}
+cells and along the edge of the map are left out. The columns are:
+\item{class, label}{The smaller class, and its label if there are labels.}
+\item{neighbour, neighbour_label}{The larger class, and its label if there are labels.}
+\item{sides}{The number of cell sides that both classes share.}
+\item{border_m}{The length of these sides in metres. It is \code{NA} if the map has no coordinate reference system or,
+with a warning, if the map is in degrees.}
 }
 \examples{
 rcell_adjacency(matrix(c(5, 7, 5, 5, 5, 7), 2, byrow = TRUE))

@@ -1,24 +1,29 @@
 \name{rcell_aggregate}
 \alias{rcell_aggregate}
-\title{Aggregation to Larger Cells}
-\description{Make a coarser map from blocks of cells, with the most frequent class and the share of each class.}
+\title{Aggregate a map to larger cells}
+\description{
+Combine blocks of cells into larger cells, and return the most frequent class and the share of each class in each block.
+}
 \usage{
 rcell_aggregate(x, factor, min_percent = 0, filename = "", overwrite = FALSE,
                 crs = NULL)
 }
 \arguments{
-\item{x}{a map (a \code{SpatRaster}, a path or a matrix); see \code{\link{rcell-package}}.}
-\item{factor}{the number of rows and columns of a block. Blocks begin at the north-western corner, and may extend beyond
-the southern and eastern edges of the map.}
-\item{min_percent}{the percentage of a block's cells that must be in the map and have data; blocks below it, and blocks
-without data, are null.}
-\item{filename, overwrite}{see \code{\link{rcell_grid}}; the file has the cell type FLT8S.}
-\item{crs}{see \code{\link{rcell_run}}.}
+\item{x}{A map (a \code{SpatRaster}, a path or a matrix); see \code{\link{rcell-package}}.}
+\item{factor}{The number of rows and columns in a block, as a whole number. The first block is in the north-western
+corner of the map. Blocks may extend beyond the southern and eastern edges.}
+\item{min_percent}{The percentage of a block's cells that must be inside the map and not \code{NA}, from 0 (the default)
+to 100. Blocks with fewer such cells are \code{NA}, and so are blocks in which all cells are \code{NA}.}
+\item{filename, overwrite}{The output file; see \code{\link{rcell_grid}}. Its data type is FLT8S.}
+\item{crs}{The coordinate reference system of maps that have none; see \code{\link{rcell_run}}.}
 }
 \value{
-A \code{SpatRaster} with the layers \code{majority} (the most frequent class, ties going to the smallest, with the
-labels of \code{x}), \code{cells} (the number of cells that have data), and a layer for each class with its percentage
-of these cells, named after the label or number of the class.
+A \code{SpatRaster} with the following layers:
+\item{majority}{The most frequent class of the block, with the labels of \code{x}. In a tie, the smallest class is
+used.}
+\item{cells}{The number of cells that are not \code{NA}.}
+\item{one layer per class}{The percentage of these cells that belong to the class. The layer is named after the label
+of the class or, without a label, its number.}
 }
 \examples{
 lc <- matrix(c(1, 1, 2, 1, 3, 2), 2, byrow = TRUE)

@@ -1,24 +1,27 @@
 \name{rcell_align}
 \alias{rcell_align}
-\title{Align a Map with Another}
-\description{Move a map onto the grid of another map, so that both can be used in the same call.}
+\title{Align a map with another map}
+\description{Move a map onto the grid of another map, so that both maps can be used in the same call.}
 \usage{
 rcell_align(x, to, resample = NULL, filename = "", overwrite = FALSE, crs = NULL)
 }
 \arguments{
-\item{x}{the map to move (a \code{SpatRaster}, a path or a matrix); see \code{\link{rcell-package}}.}
-\item{to}{the map with the target grid; it needs no values.}
-\item{resample}{\code{NULL}: crop and extend by whole cells only; a shift by part of a cell, a different cell size or a
-different coordinate reference system is an error. \code{"nearest"}: each new cell gets the value of the cell that
-contains its centre, or on a border of the southern or eastern cell.}
-\item{filename, overwrite}{see \code{\link{rcell_grid}}.}
-\item{crs}{see \code{\link{rcell_run}}.}
+\item{x}{The map to move (a \code{SpatRaster}, a path or a matrix); see \code{\link{rcell-package}}.}
+\item{to}{The map whose grid is used. A \code{SpatRaster} without values is also accepted.}
+\item{resample}{If \code{NULL} (the default), \code{x} is only cropped and extended by whole rows and columns. It is an
+error if the grids are shifted by part of a cell or have different cell sizes or coordinate reference systems. If
+\code{"nearest"}, each new cell gets the value of the cell of \code{x} that contains its centre. A centre on a border
+belongs to the southern or eastern cell.}
+\item{filename, overwrite}{The output file; see \code{\link{rcell_grid}}.}
+\item{crs}{The coordinate reference system of maps that have none; see \code{\link{rcell_run}}.}
 }
 \value{
-A \code{SpatRaster} with the labels of \code{x}. Its attribute \code{"aligned"} is a data frame with one row:
-\code{shift_rows} and \code{shift_columns}, the row and column of \code{x} at which \code{to} begins (\code{NA} if the
-reference systems differ), and the numbers of cells of \code{x} with data that are in the result (\code{cells_used}),
-are in it more than once (\code{cells_repeated}), and are not in it (\code{cells_lost}).
+A \code{SpatRaster} on the grid of \code{to}, with the labels of \code{x}. Its attribute \code{"aligned"} is a data
+frame with one row and the columns:
+\item{shift_rows, shift_columns}{The row and the column of \code{x}, counted from 0, at which \code{to} begins. They
+are \code{NA} if the coordinate reference systems differ.}
+\item{cells_used, cells_repeated, cells_lost}{The numbers of cells of \code{x}, other than \code{NA}, that the result
+contains, contains more than once, and does not contain.}
 }
 \examples{
 lc <- terra::rast(matrix(1:6, 2), extent = terra::ext(0, 3, 0, 2), crs = "EPSG:32632")

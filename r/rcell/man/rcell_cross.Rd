@@ -1,23 +1,27 @@
 \name{rcell_cross}
 \alias{rcell_cross}
-\title{Cross Table of Maps}
-\description{Count the cells of each combination of classes in two or more maps.}
+\title{Cross table of maps}
+\description{
+Count the cells of each combination of classes in two or more maps, with areas, percentages and labels.
+}
 \usage{
 rcell_cross(..., area, labels = NULL, include_null = FALSE, crs = NULL, maps = list())
 }
 \arguments{
-\item{...}{maps by name, for example \code{lc = "landcover.tif"}; see \code{\link{rcell-package}}. At most 16, or 15
-with areas in degrees.}
-\item{area}{see \code{\link{rcell_composition}}.}
-\item{labels}{a list of legends, named after the maps, for example \code{list(lc = "legend.csv")}; each as in
+\item{...}{The maps, as named arguments, for example \code{lc = "landcover.tif"}; see \code{\link{rcell-package}}. At
+most 16 maps, or 15 with areas in degrees.}
+\item{area}{The unit of areas; see \code{\link{rcell_composition}}.}
+\item{labels}{A list of labels, named after the maps, for example \code{list(lc = "legend.csv")}. Each element is as in
 \code{\link{rcell_composition}}.}
-\item{include_null}{whether to list combinations with null.}
-\item{crs, maps}{see \code{\link{rcell_run}}.}
+\item{include_null}{Whether to list combinations that contain \code{NA}.}
+\item{crs, maps}{See \code{\link{rcell_run}}.}
 }
 \value{
-A data frame with a column for each map, followed by \code{NAME_label} if the map has labels; then \code{cells},
-\code{area_ha} (or another unit) and \code{percent}, each row's share of the area (without areas, of the cells) that
-has data in every map. Combinations that do not occur have no row.
+A data frame with a row for each combination that occurs. The columns are:
+\item{the name of each map}{The class in this map, followed by its label in \code{NAME_label} if the map has labels.}
+\item{cells, area_ha}{The number of cells, and their area. The name of the column ends in the unit.}
+\item{percent}{The combination's percentage of the area that is not \code{NA} in any map. Without areas, the percentage
+of the cells.}
 }
 \examples{
 lc <- matrix(c(1, 1, 2, 3, 2, 2), 2, byrow = TRUE)

@@ -1,26 +1,28 @@
 \name{rcell_grid}
 \alias{rcell_grid}
-\title{One Map of a Script}
-\description{Run a script and return one of its maps as a raster.}
+\title{Map of a script}
+\description{Run a script, and return one of its maps as a raster.}
 \usage{
 rcell_grid(.script, .name, ..., filename = "", overwrite = FALSE,
            crs = NULL, maps = list())
 }
 \arguments{
-\item{.script}{the lines of the script. It needs no outputs, and any outputs are ignored.}
-\item{.name}{a map that the script makes, or an input map.}
-\item{...}{maps by name, for example \code{lc = "landcover.tif"}; see \code{\link{rcell-package}}.}
-\item{filename}{the file to write, with terra's \code{writeRaster} and the type INT4S. The file gets its name only after
-it is complete and was read back. After an error, no part of it is left and an old file is unchanged. Links are
-followed. A device or pipe is written to, not replaced. The file cannot be one that the call reads: a raster, a file
-next to it, or the source of a virtual raster.}
-\item{overwrite}{whether an existing file may be replaced. The new file keeps its permissions; masks, labels and
-overviews next to the old file (\code{.msk}, \code{.aux.xml}, \code{.ovr}) are removed.}
-\item{crs, maps}{see \code{\link{rcell_run}}.}
+\item{.script}{The script; see \code{\link{rcell_run}}. Its outputs are ignored, and it needs none.}
+\item{.name}{The name of a map that the script makes, or of an input map.}
+\item{...}{The input maps, as named arguments, for example \code{lc = "landcover.tif"}; see
+\code{\link{rcell-package}}.}
+\item{filename}{The path of the file to write, or \code{""} (the default) to keep the raster in memory. The file is
+written with \code{terra::writeRaster} and the data type INT4S. It appears under its name only after it has been
+completed and verified; after an error, an existing file is unchanged. Links are followed. Devices and pipes are written
+to, not replaced. The file must not be an input of the call, a file that belongs to an input, or the source of a virtual
+raster.}
+\item{overwrite}{Whether an existing file may be replaced. The new file keeps the permissions of the old file. The old
+file's mask, labels and overviews (\code{.msk}, \code{.aux.xml}, \code{.ovr}) are removed.}
+\item{crs, maps}{See \code{\link{rcell_run}}.}
 }
 \value{
-A \code{SpatRaster} with the extent and reference system of the first map. Its levels are the labels of the rules that
-made the map, or the labels of the input map. Geometry is never read back from text.
+A \code{SpatRaster} with the extent and the coordinate reference system of the first map. Its levels are the labels in
+the rules that made the map, or the labels of the input map.
 }
 \examples{
 lc <- matrix(c(1, 1, 2, 3, 2, 2), 2, byrow = TRUE)

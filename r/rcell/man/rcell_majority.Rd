@@ -1,21 +1,20 @@
 \name{rcell_majority}
 \alias{rcell_majority}
-\title{Majority of a Neighbourhood}
-\description{Give each cell the most frequent class in the square around it.}
+\title{Majority filter}
+\description{Assign to each cell the most frequent class in the square around it.}
 \usage{
 rcell_majority(x, size = 3, fill = FALSE, filename = "", overwrite = FALSE,
                crs = NULL)
 }
 \arguments{
-\item{x}{a map (a \code{SpatRaster}, a path or a matrix); see \code{\link{rcell-package}}.}
-\item{size}{the side of the square in cells; must be odd, from 3 to 15.}
-\item{fill}{whether cells without data get the class of their neighbours; otherwise they stay without data.}
-\item{filename, overwrite}{see \code{\link{rcell_grid}}.}
-\item{crs}{see \code{\link{rcell_run}}.}
+\item{x}{A map (a \code{SpatRaster}, a path or a matrix); see \code{\link{rcell-package}}.}
+\item{size}{The number of rows and columns in the square. It must be odd, from 3 (the default) to 15.}
+\item{fill}{Whether \code{NA} cells also get a class. If \code{FALSE} (the default), they stay \code{NA}.}
+\item{filename, overwrite}{The output file; see \code{\link{rcell_grid}}.}
+\item{crs}{The coordinate reference system of maps that have none; see \code{\link{rcell_run}}.}
 }
 \details{
-Cells without data and cells outside the map are not counted. If several classes are equally frequent, the smallest is
-used.
+\code{NA} cells and cells outside the map are not counted. In a tie, the smallest class is used.
 }
 \value{A \code{SpatRaster} with the labels of \code{x}.}
 \examples{

@@ -1,23 +1,23 @@
 \name{rcell_reclass}
 \alias{rcell_reclass}
-\title{New Classes from a Crosswalk}
-\description{Give each class of a map a new class.}
+\title{Reclassify a map}
+\description{Replace each class of a map with a new class, using a crosswalk.}
 \usage{
 rcell_reclass(x, rules, other = NULL, filename = "", overwrite = FALSE, crs = NULL)
 }
 \arguments{
-\item{x}{a map (a \code{SpatRaster}, a path or a matrix); see \code{\link{rcell-package}}.}
-\item{rules}{the path of a CSV or TSV file, or a data frame, with the columns \code{value}, \code{new} and optionally
-\code{label}; or a vector of new classes with the old classes as names. A value is a class, or a range such as
-\code{31-39}. An empty \code{new} means null.}
-\item{other}{what to do with classes that have no rule: \code{"keep"} or \code{"null"}. By default, an error names
-them.}
-\item{filename, overwrite}{see \code{\link{rcell_grid}}.}
-\item{crs}{see \code{\link{rcell_run}}.}
+\item{x}{A map (a \code{SpatRaster}, a path or a matrix); see \code{\link{rcell-package}}.}
+\item{rules}{The crosswalk: the path of a CSV or TSV file, or a data frame, with the columns \code{value}, \code{new}
+and, optionally, \code{label}; or a vector of new classes with the old classes as names. A \code{value} is a class or a
+range of classes, for example \code{31-39}. If \code{new} is empty, the class becomes \code{NA}.}
+\item{other}{What to do with classes that have no rule: \code{"keep"} keeps them, and \code{"null"} replaces them with
+\code{NA}. By default, an error lists them.}
+\item{filename, overwrite}{The output file; see \code{\link{rcell_grid}}.}
+\item{crs}{The coordinate reference system of maps that have none; see \code{\link{rcell_run}}.}
 }
 \value{
-A \code{SpatRaster} with the labels of the rules, or with the labels of \code{x} if the rules have none and \code{other}
-is \code{"keep"}. Null stays null.
+A \code{SpatRaster} with the labels of the rules. If the rules have no labels and \code{other} is \code{"keep"}, it has
+the labels of \code{x}. \code{NA} cells stay \code{NA}.
 }
 \examples{
 lc <- matrix(c(1, 1, 2, 3, 2, 2), 2, byrow = TRUE)

@@ -1,31 +1,36 @@
 \name{rcell_record}
 \alias{rcell_record}
 \alias{rcell_verify}
-\title{Tables That Can Be Verified}
-\description{Write the table of a call to a CSV file, with a record of its inputs, and verify it later.}
+\title{Record and verify tables}
+\description{
+\code{rcell_record} writes the table that a call returns to a CSV file, with a record of the inputs.
+\code{rcell_verify} repeats the call later, and reports any differences.
+}
 \usage{
 rcell_record(.path, .call, ..., .table = NULL)
 rcell_verify(path)
 }
 \arguments{
-\item{.path, path}{the path of the CSV file. The record is written next to it, with a name that ends in
-\code{.csv.json}.}
-\item{.call}{a function of this package that returns tables, or its name.}
-\item{...}{the arguments of the call: paths, numbers, texts, and lists and vectors of these. Paths are recorded relative
-to the CSV file.}
-\item{.table}{the table to write if the call returns several, for example \code{"summary"} of
-\code{\link{rcell_change}}; by default the first table.}
+\item{.path, path}{The path of the CSV file. The record is next to it, in a file whose name ends in \code{.csv.json}.}
+\item{.call}{A function of this package that returns a table, or the name of the function.}
+\item{...}{The arguments of the call: paths, numbers, texts, and vectors and lists of these. Paths are recorded relative
+to the folder of the CSV file.}
+\item{.table}{The name of the table to write, if the call returns several, for example \code{"summary"} for
+\code{\link{rcell_change}}. By default, the first table.}
 }
 \details{
-The record contains the call, each script that was run, the SHA-256 checksums of each map's cells as sent, of the
-program and of the CSV file, and the versions. The type, nodata value, compression and folder of a raster do not affect
-the checksum of its cells. Verify tables recorded in Python, QGIS or the shell with these packages. \command{rcell-gis
-report} in the Python package makes a page of tables from all packages.
+The record contains the call, the scripts that were run, and the versions of the packages. It also contains the SHA-256
+checksums of the cells of each map, of the program and of the CSV file. The checksum of cells does not depend on the
+data type, the nodata value, the compression or the folder of a raster.
+
+A table that was recorded in Python, in QGIS or with \command{rcell-gis} must be verified there. The command
+\command{rcell-gis report} of the Python package makes a page of recorded tables from all packages.
 }
 \value{
-\code{rcell_record} returns the result of the call, invisibly. \code{rcell_verify} runs the call again and returns a
-text for each difference: in the CSV file, a map's cells, a legend, a script, the program, or the result. If nothing
-differs, it returns no text.
+\code{rcell_record} invisibly returns the result of the call.
+
+\code{rcell_verify} returns a character vector with an element for each difference: in the CSV file, a legend, the
+program, the cells of a map, a script or the result. The vector is empty if there are no differences.
 }
 \examples{
 folder <- tempfile("records")
