@@ -8,10 +8,8 @@ BORDER_TOLERANCE <- 1e-6
 TRY_NEAREST <- "use resample=\"nearest\" to get the nearest cells"
 
 rcell_align <- function(x, to, resample = NULL, filename = "", overwrite = FALSE, crs = NULL) {
-  if (!is.null(resample) && !identical(resample, "nearest")) {
-    given <- paste(format(resample), collapse = " ")
-    bad_argument("resample= must be \"nearest\"; got '%s'", given)
-  }
+  is_known <- is.null(resample) || identical(resample, "nearest")
+  check_argument(is_known, resample, "resample= must be \"nearest\" or NULL")
   check_filename(filename, overwrite)
   stated <- stated_crs(crs)
   map <- with_stated(source_of("map", x), stated)

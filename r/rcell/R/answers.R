@@ -38,8 +38,8 @@ rcell_table <- function(.script, ..., area = NULL, percent = FALSE, wide = FALSE
 # would otherwise be taken for the script.
 no_script <- function() {
   bad_argument(paste(
-    "pass the script first, without a name, and in rcell_grid a map's name second:",
-    "rcell_table(\"r.stats -c input=lc\", lc = x)"
+    "pass the script as the first argument, without a name (in rcell_grid, the name of a map is",
+    "the second), for example rcell_table(\"r.stats -c input=lc\", lc = x)"
   ))
 }
 
@@ -54,7 +54,7 @@ rcell_grid <- function(.script, .name, ..., filename = "", overwrite = FALSE, cr
                        maps = list()) {
   if (missing(.script) || missing(.name)) no_script()
   check_filename(filename, overwrite)
-  check_text(.name, "the name of a map")
+  check_text(.name, ".name")
   request <- request_of(.script, list(...), maps)
   known <- c(names(request$maps), request$made)
   if (!(.name %in% known)) {

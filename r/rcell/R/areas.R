@@ -25,15 +25,15 @@ unit_of <- function(area, source, argument = "area=") {
     if (missing(area)) return(NULL)
     text <- paste(
       "%s requires a coordinate reference system, but %s has none:",
-      "state it, for example crs = \"EPSG:25832\"%s"
+      "state one, for example crs = \"EPSG:25832\"%s"
     )
     bad_argument(text, argument, source$name, instead)
   }
   metres <- metres_of_unit(source)
   if (kind == "other" || (kind == "projected" && is.na(metres))) {
     text <- paste(
-      "%s needs a map in metres, feet or degrees, and %s does not say how much of the earth",
-      "a cell covers%s"
+      "%s requires a map in metres, feet or degrees, but %s does not define the area of a",
+      "cell%s"
     )
     instead <- sub("^, or", ":", instead)
     bad_argument(text, argument, crs_name(source$crs), instead)

@@ -57,7 +57,7 @@ border_of <- function(source) {
     if (!length(value) || isTRUE(source$state$is_warned)) return(invisible())
     if (!is.null(source$state)) source$state$is_warned <- TRUE
     text <- paste(
-      "%s: %d fills more than half of the border of the map: if it means no data, declare it,",
+      "%s: %d fills more than half of the map's border: if it means no data, declare it,",
       "for example with terra::NAflag(x) <- %d"
     )
     warn(text, source$name, value, value)

@@ -3,7 +3,7 @@
 
 rcell_change <- function(before, after = NULL, years = NULL, area, labels = NULL, crs = NULL) {
   maps <- if (is.null(after)) before else list(before, after)
-  rule <- "two or more maps are required: rcell_change(before, after), or a list of maps"
+  rule <- "before= must be a list of two or more maps unless after= is given"
   check_argument(is.list(maps) && length(maps) > 1L, before, rule)
   check_years(years, length(maps))
   is_pair <- length(maps) == 2L
@@ -27,7 +27,7 @@ rcell_change <- function(before, after = NULL, years = NULL, area, labels = NULL
 check_years <- function(years, count) {
   if (is.null(years)) {
     if (count > 2L) {
-      bad_argument("years= must be given for more than two maps: one whole number for each map")
+      bad_argument("years= must list one year for each map; got none for %d maps", count)
     }
     return(invisible())
   }

@@ -43,8 +43,8 @@ rcell_cross <- function(..., area, labels = NULL, include_null = FALSE, crs = NU
   by_row <- !is.null(area) && is_in_degrees(sources[[1]])
   if (length(sources) > MAPS_LIMIT - by_row) {
     reason <- if (by_row) " with areas in degrees" else ""
-    text <- "%d maps, but a table accepts at most %d%s"
-    bad_argument(text, length(sources), MAPS_LIMIT - by_row, reason)
+    text <- "a cross table must have at most %d maps%s; got %d"
+    bad_argument(text, MAPS_LIMIT - by_row, reason, length(sources))
   }
   check_legends(labels, names(sources))
   legends <- lapply(sources, function(source) labels_from(labels[[source$name]], source))
@@ -57,10 +57,7 @@ rcell_cross <- function(..., area, labels = NULL, include_null = FALSE, crs = NU
 
 check_legends <- function(labels, names) {
   is_named <- is.list(labels) && !is.data.frame(labels) && !is.null(names(labels))
-  if (is.null(labels) || (is_named && all(names(labels) %in% names))) return(invisible())
-  text <- paste(
-    "labels= must be a list of legends, named after the maps,",
-    "for example list(%s = \"legend.csv\")"
-  )
-  bad_input("labels", text, names[[1]], status = 2L)
+  is_right <- is.null(labels) || (is_named && all(names(labels) %in% names))
+  rule <- "labels= must be a list of legends by map name, for example list(%s = \"legend.csv\")"
+  check_argument(is_right, labels, rule, names[[1]])
 }

@@ -145,7 +145,7 @@ check_one_of <- function(choice, name, known) {
 
 check_text <- function(text, name) {
   is_text <- is.character(text) && length(text) == 1L && isTRUE(nzchar(text))
-  check_argument(is.null(text) || is_text, text, "%s= must be a single text", name)
+  check_argument(is.null(text) || is_text, text, "%s= must be a single string", name)
 }
 
 # Report a file that could not be written completely. No part of it is left.

@@ -36,7 +36,7 @@ features_of <- function(role, given, layer, field) {
   check_text(layer, "layer")
   if (inherits(given, "SpatVector")) {
     if (!is.null(layer)) {
-      text <- "layer= must not be given if %s= is a SpatVector, which has one layer"
+      text <- "layer= must be left out if %s= is a SpatVector, which has only one layer"
       bad_argument(text, role$name)
     }
     return(features_of_vector(role, given, chosen_field(role, field, names(given))))
@@ -59,7 +59,7 @@ features_of <- function(role, given, layer, field) {
     return(features_of_layer(role, path, chosen_layer(role, path, layers, layer), field))
   }
   if (!is_grid_of_rcell(path) && !is_raster(path)) {
-    read_failed(role$name, "cannot open: %s: neither %s nor a raster", path, role$are)
+    read_failed(role$name, "cannot open: %s: it contains neither %s nor a raster", path, role$are)
   }
   if (is.null(layer)) return(NULL)
   bad_input(role$name, "no layer %s: %s is a raster", layer, path, status = 2L)
@@ -190,7 +190,7 @@ check_kinds <- function(role, ids, kinds) {
   text <- sprintf(text, role$are, ids[[wrong[[1]]]], kind)
   if (kind %in% CURVED_KINDS) {
     text <- paste0(
-      text, ", but terra does not read curves: convert the layer first, with ogr2ogr -nlt ",
+      text, ", which terra does not read: convert the layer first, with ogr2ogr -nlt ",
       "CONVERT_TO_LINEAR"
     )
   }
@@ -238,7 +238,7 @@ check_zeros <- function(role, vector, field, column) {
   }
   text <- paste(
     "the field %s has %d missing numbers, which terra reads as 0:",
-    "pass the path of its file, %s"
+    "pass the path of the file instead: %s"
   )
   bad_map(role$name, text, field, missing, shown(sub("::", LAYER_MARK, sources(vector))))
 }

@@ -9,7 +9,7 @@ SIDECARS <- c(".msk", ".aux.xml", ".ovr")
 
 check_filename <- function(filename, overwrite) {
   is_one <- is.character(filename) && length(filename) == 1L && !is.na(filename)
-  check_argument(is_one, filename, "filename= must be one path")
+  check_argument(is_one, filename, "filename= must be a single path")
   check_flag(overwrite, "overwrite")
   if (!nzchar(filename)) return(invisible())
   filename <- native_path(filename)
@@ -19,7 +19,7 @@ check_filename <- function(filename, overwrite) {
   folder <- dirname(target)
   if (!dir.exists(folder)) write_failed(filename, "No such file or directory")
   if (file.access(folder, 2L) != 0L) write_failed(filename, "Permission denied")
-  if (file.exists(target) && !overwrite) write_failed(filename, "it exists and overwrite is FALSE")
+  if (file.exists(target) && !overwrite) write_failed(filename, "it exists: use overwrite = TRUE")
   if (file.exists(target) && file.access(target, 2L) != 0L) {
     write_failed(filename, "Permission denied")
   }
@@ -74,7 +74,7 @@ write_file <- function(path, fill) {
 check_size <- function(path, size) {
   there <- file.size(path)
   if (!identical(as.numeric(there), as.numeric(size))) {
-    text <- "only %.0f of its %.0f bytes were written, the disk may be full"
+    text <- "only %.0f of its %.0f bytes were written: the disk may be full"
     write_failed(path, text, if (is.na(there)) 0 else there, size)
   }
 }
@@ -180,7 +180,7 @@ replace_files <- function(room, target, filename) {
     if (all(is_moved) && suppressWarnings(file.rename(file.path(room, name), place))) next
     unlink(file.path(dirname(target), setdiff(made, main)))
     suppressWarnings(file.rename(aside[is_moved], old[is_moved]))
-    write_failed(filename, "it cannot be renamed")
+    write_failed(filename, "the new file cannot be renamed")
   }
 }
 

@@ -14,7 +14,7 @@ ADDRESS <- "^/vsi|^[A-Za-z][A-Za-z0-9+.-]+:"
 
 # Return the maps of a call by name, from `...` and `maps`.
 named_maps <- function(dots, maps) {
-  check_argument(is.list(maps), maps, "maps= must be a list of maps by name")
+  check_argument(is.list(maps), maps, "maps= must be a named list of maps")
   named <- c(maps, dots)
   if (!length(named) || is.null(names(named)) || any(!nzchar(names(named)))) {
     bad_argument("pass at least one map, and name every map, for example lc = \"landcover.tif\"")
@@ -32,7 +32,7 @@ check_spelling <- function(name, map) {
   if (!length(near) || !is_path(map) || is_address(map) || file.exists(native_path(map))) {
     return(invisible())
   }
-  text <- "%s= would be a map, but there is no file %s: did you mean %s=?"
+  text <- "%s= is taken for a map, but there is no file %s: did you mean %s=?"
   bad_argument(text, name, map, near[[1]])
 }
 
@@ -70,7 +70,7 @@ source_of <- function(name, map) {
   }
   # R would read the bits of integer64 values as doubles.
   if (inherits(map, "integer64")) {
-    bad_map(name, "a matrix of integer64: convert it with matrix(as.integer(x), nrow(x))")
+    bad_map(name, "must not be of class integer64: convert it with matrix(as.integer(x), nrow(x))")
   }
   if (is.matrix(map) && (is.numeric(map) || is.logical(map))) return(matrix_source(name, map))
   text <- "must be a path, a SpatRaster or a matrix of numbers; got an object of class %s"
@@ -86,7 +86,9 @@ cells_source <- function(name, cells, source, crs, ...) {
 
 # Return a matrix as a source: cells of side 1, bottom left corner at 0, 0, no reference system.
 matrix_source <- function(name, map) {
-  if (!length(map)) bad_map(name, "a matrix without cells (%d x %d)", nrow(map), ncol(map))
+  if (!length(map)) {
+    bad_map(name, "a matrix must have at least one cell; got %d x %d", nrow(map), ncol(map))
+  }
   raster <- rast(
     nrows = nrow(map), ncols = ncol(map), xmin = 0, xmax = ncol(map), ymin = 0, ymax = nrow(map),
     crs = ""

@@ -20,8 +20,7 @@ rcell_patches <- function(x, connectivity = 4, area, zones = NULL, classes = NUL
 check_selection <- function(connectivity, classes, min_cells) {
   is_known <- is_whole(connectivity) && connectivity %in% CONNECTIVITIES
   check_argument(is_known, connectivity, "connectivity= must be 4 or 8")
-  is_count <- is.null(min_cells) || is_whole(min_cells, 0)
-  check_argument(is_count, min_cells, "min_cells= must be a number of cells")
+  if (!is.null(min_cells)) check_whole_number(min_cells, "min_cells", 0)
   is_right <- is.null(classes) || (is.numeric(classes) && all(is_category(classes)))
   rule <- "classes= must be whole numbers from -2147483647 to 2147483647"
   check_argument(is_right, classes, rule)

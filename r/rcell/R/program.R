@@ -19,12 +19,11 @@ rcell_program <- function() {
 program_path <- function() {
   path <- find_program()
   is_one <- is.character(path) && length(path) == 1L && !is.na(path)
-  check_argument(is_one, path, "options(rcell.program) must be the path of a program")
+  check_argument(is_one, path, "the option rcell.program must be the path of a program")
   if (!nzchar(path)) {
     missing_program(paste(
-      "the program rcell-pipe was not found: not in the option rcell.program,",
-      "the environment variable RCELL_PIPE, next to the program in RCELL,",
-      "in this package or on the path"
+      "the program rcell-pipe was not found in the option rcell.program, the environment",
+      "variable RCELL_PIPE, the folder of RCELL, this package or the search path"
     ))
   }
   if (dir.exists(path) || file.access(path, 1L) != 0L) {

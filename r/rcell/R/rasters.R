@@ -15,7 +15,7 @@ raster_source <- function(name, raster, is_opened_here = FALSE) {
   raster <- chosen$raster
   # terra assumes degrees for a map without a system if its edges are within 180 by 90.
   if (is_opened_here && isFALSE(chosen$facts$has_crs)) crs(raster) <- ""
-  if (!hasValues(raster)) bad_map(name, "a raster without values")
+  if (!hasValues(raster)) bad_map(name, "the raster has no values")
   scale <- scoff(raster)
   if (any(scale != c(1, 0))) {
     text <- paste(
@@ -128,7 +128,7 @@ check_file <- function(name, raster, facts, band) {
   if (any(grepl("PIXELTYPE=SIGNEDBYTE", lines, fixed = TRUE)) && "INT1U" %in% datatype(raster)) {
     bad_map(name, paste(
       "its bytes are signed, but terra reads them as 0 to 255:",
-      "first write it with 16 bits per cell in another program"
+      "first convert it to 16 bits per cell in another program"
     ))
   }
   has_mask <- grepl("Mask Flags:", lines, fixed = TRUE) & !grepl("ALPHA", lines, fixed = TRUE)
@@ -151,7 +151,7 @@ check_wide_null <- function(name, lines) {
   if (length(value) == 1L && !is.na(value) && abs(value) >= INEXACT_FLOAT) {
     reason <- paste(
       "its cells have 64 bits and its nodata value is %s,",
-      "which terra cannot distinguish from its neighbours: write it with 32 bits per cell first"
+      "which terra cannot distinguish from other numbers: write it with 32 bits per cell first"
     )
     bad_map(name, reason, text)
   }

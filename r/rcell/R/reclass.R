@@ -27,8 +27,8 @@ rules_of <- function(rules) {
   given <- columns_given(rules, "rules", c("value", "new"), "label")
   if (is.null(given)) {
     text <- paste(
-      "must be a CSV file or a data frame with the columns value, new and optionally label,",
-      "or a vector of new classes with the old classes as names; got %s"
+      "must be the path of a CSV file or a data frame with the columns value, new and",
+      "optionally label, or a vector of new classes with the old classes as names; got %s"
     )
     bad_input("rules", text, shown(rules), status = 2L)
   }
@@ -44,12 +44,13 @@ rules_of <- function(rules) {
   new[is.na(new)] <- ""
   codes <- suppressWarnings(as.numeric(new))
   is_class <- !nzchar(new) | (grepl(WHOLE, new) & abs(codes) <= CATEGORY_LIMIT)
-  text <- "%s is not a class: a whole number, or empty for null"
+  text <- "%s is not a class, and must be empty for null"
   check_rows(is_class, given$places, sprintf(text, quoted_if_empty(new)), "rules")
   order <- order(low)
   again <- which(low[order][-1] <= high[order][-length(low)])
   if (length(again)) {
-    bad_input("rules", "two rules for class %.0f", low[order][[again[[1]] + 1L]])
+    text <- "must have at most one rule for each class; got two for %.0f"
+    bad_input("rules", text, low[order][[again[[1]] + 1L]])
   }
   labels <- given$columns$label
   labels <- if (is.null(labels)) rep("", length(low)) else trimmed(labels)

@@ -15,7 +15,7 @@ recorder <- new.env(parent = emptyenv())
 rcell_record <- function(.path, .call, ..., .table = NULL) {
   check_text(.table, ".table")
   is_csv <- is_path(.path) && grepl("[.]csv$", .path, ignore.case = TRUE)
-  check_argument(is_csv, .path, "the path must end in .csv")
+  check_argument(is_csv, .path, ".path= must be a path that ends in .csv")
   check_filename(.path, TRUE)
   folder <- normalizePath(dirname(native_path(.path)))
   arguments <- list(...)
@@ -102,7 +102,7 @@ name_of_call <- function(call) {
   } else if (is_path(call)) {
     names <- intersect(call, names)
   }
-  rule <- "the call must be one of this package, for example rcell_composition"
+  rule <- ".call= must be a function of this package, for example rcell_composition"
   check_argument(length(names) > 0L, call, rule)
   names
 }

@@ -35,8 +35,8 @@ region_of <- function(name, raster) {
 check_region <- function(name, region) {
   is_long <- region$rows > SIDE_LIMIT || region$cols > SIDE_LIMIT
   if (is_long || as.numeric(region$rows) * region$cols > CELL_LIMIT) {
-    text <- "%d rows and %d columns: there must be 1 to %d of each, and at most %.0f cells"
-    bad_map(name, text, region$rows, region$cols, SIDE_LIMIT, CELL_LIMIT)
+    text <- "must have at most %d rows, %d columns and %.0f cells; got %d rows and %d columns"
+    bad_map(name, text, SIDE_LIMIT, SIDE_LIMIT, CELL_LIMIT, region$rows, region$cols)
   }
   numbers <- as.numeric(region$edges)
   is_flat <- c(numbers[[1]] <= numbers[[2]], numbers[[3]] <= numbers[[4]])

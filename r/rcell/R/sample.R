@@ -40,7 +40,7 @@ check_numbers <- function(n, allocation) {
   is_right <- length(n) && are_whole(n, if (by_class) 0 else 1, POINTS_LIMIT) &&
     if (by_class) all(grepl(WHOLE, names(n))) else length(n) == 1L
   rule <- paste(
-    "n= must be a whole number up to %.0f, or one for each class, for example",
+    "n= must be a whole number from 1 to %.0f, or one for each class, for example",
     "c(\"11\" = 50, \"31\" = 100)"
   )
   check_argument(is_right, n, rule, POINTS_LIMIT)

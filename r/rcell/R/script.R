@@ -17,7 +17,9 @@ is_ascii_locale <- function() Sys.getlocale("LC_CTYPE") %in% c("C", "POSIX")
 
 # Return the lines of a script, which may be one text or a vector of lines.
 lines_of <- function(script) {
-  if (!is.character(script) || anyNA(script)) bad_input("script", "the script is not text")
+  if (!is.character(script) || anyNA(script)) {
+    bad_input("script", "must be a character vector without NA; got %s", shown(script))
+  }
   text <- paste(utf8_of(script), collapse = "\n")
   lines <- strsplit(text, "\n", fixed = TRUE, useBytes = TRUE)[[1]]
   if (length(lines)) lines else ""

@@ -25,7 +25,9 @@ legend_of_style <- function(path, name) {
   tags <- tags_of(text, wrong)
   is_class <- tags$name == "paletteEntry"
   if (!any(is_class)) is_class <- tags$name == "item" & tags$parent == "colorrampshader"
-  if (!any(is_class)) bad_input(name, "%s: the style has no classes", path)
+  if (!any(is_class)) {
+    bad_input(name, "%s has no classes: it contains neither a palette nor a colour ramp", path)
+  }
   entries <- Map(attributes_of, tags$text[is_class], tags$place[is_class], list(wrong))
   attribute <- function(key) {
     texts <- vapply(entries, function(entry) unname(entry[key]), "")

@@ -17,14 +17,14 @@ utf8_text <- function(path, name) {
   null <- match(as.raw(0L), bytes)
   if (!is.na(null)) {
     line <- sum(bytes[seq_len(null)] == as.raw(10L)) + 1L
-    reason <- "%s, line %d: a null byte, so this is not text: save the file as UTF-8"
+    reason <- "%s, line %d contains a null byte, so this is not text: save the file as UTF-8"
     bad_input(name, reason, path, line)
   }
   text <- rawToChar(bytes)
   if (!validUTF8(text)) {
     lines <- strsplit(text, "\n", fixed = TRUE, useBytes = TRUE)[[1]]
     reason <- paste(
-      "%s, line %d: not in UTF-8: save the file as UTF-8, in a spreadsheet as \"CSV UTF-8\",",
+      "%s, line %d is not UTF-8: save the file as UTF-8, in a spreadsheet as \"CSV UTF-8\",",
       "or convert it with iconv -f latin1 -t utf8"
     )
     bad_input(name, reason, path, which(!validUTF8(lines))[[1]])

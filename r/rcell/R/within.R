@@ -108,8 +108,10 @@ within_lines <- function(classes, rings) {
     lines <- c(lines, combined_lines(map, "nmax(0,%s)", windows, ",", TERMS_OF_AN_EXPRESSION))
   }
   numbers <- sprintf("if(ring_%1$d, %1$d, null())", seq_along(rings))
+  # These terms are longer than windows.
+  limit <- TERMS_OF_AN_EXPRESSION / 2
   c(
-    lines, combined_lines("nearest", "nmin(null(),%s)", numbers, ",", TERMS_OF_AN_EXPRESSION),
+    lines, combined_lines("nearest", "nmin(null(),%s)", numbers, ",", limit),
     "r.mapcalc within = if(v_0, 0, nearest)"
   )
 }

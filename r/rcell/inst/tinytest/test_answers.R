@@ -47,7 +47,7 @@ expect_identical(names(found$matrix), c("year_from", "year_to", "from", "1", "2"
 same(found$matrix[found$matrix$year_from == 2000, -(1:3)], t(counts) * 0.09)
 expect_identical(names(found$table), c("year_from", "year_to", "from", "to", "cells", "area_ha", "percent"))
 expect_identical(rcell_change(land, land)$summary$gain_ha, c(0, 0, 0, 0))
-expect_true(grepl("years= must be given", refusal(rcell_change(list(land, later, land)))$text))
+expect_true(grepl("years= must list one year for each map; got none for 3 maps", refusal(rcell_change(list(land, later, land)))$text))
 
 # Zonal statistics equal terra's, and quantiles equal R's.
 found <- rcell_zonal(land, zones, quantiles = c(0, 0.025, 0.5, 0.9))
@@ -138,7 +138,7 @@ expect_equal(rows(near), rows(resample(land, rast(shift(land, 10, 10)), method =
 other <- project(rast(land), "EPSG:3035")
 expect_true(mean(rows(rcell_align(land, to = init(other, 1), resample = "nearest")) == rows(project(land, other, method = "near")), na.rm = TRUE) > 0.99)
 expect_inherits(refusal(rcell_align(land, to = init(other, 1))), "rcell_other_crs")
-expect_identical(refusal(rcell_align(land, to = land, resample = "cubic"))$text, "resample= must be \"nearest\"; got 'cubic'")
+expect_identical(refusal(rcell_align(land, to = land, resample = "cubic"))$text, "resample= must be \"nearest\" or NULL; got \"cubic\"")
 message <- conditionMessage(refusal(rcell_cross(a = land, b = moved)))
 expect_identical(sub("^.*\n", "", message), "  try: b <- rcell_align(b, to = a)")
 message <- conditionMessage(refusal(rcell_cross(a = land, b = shift(land, 15, 0))))

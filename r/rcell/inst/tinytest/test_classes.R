@@ -18,11 +18,11 @@ expect_equal(as_rows(rcell_reclass(land, c("1" = 7), other = "keep")), replace(a
 expect_identical(levels(rcell_reclass(land, c("1" = 7), other = "keep"))[[1]]$new, c("wood", "water", "town", "moor"))
 expect_equal(as_rows(rcell_reclass(land, c("1" = 7), other = "null")), matrix(c(7, 7, NA, NA, NA, NA, NA, NA), 2, byrow = TRUE))
 fault <- function(...) refusal(rcell_reclass(land, ...))$text
-expect_identical(fault(c("1" = 1, "0-3" = 2)), "two rules for class 1")
+expect_identical(fault(c("1" = 1, "0-3" = 2)), "must have at most one rule for each class; got two for 1")
 expect_identical(fault(c("x" = 1)), "element 1: x is not a class or a range of classes such as 31-39")
-expect_identical(fault(c("1" = 1.5)), "element 1: 1.5 is not a class: a whole number, or empty for null")
+expect_identical(fault(c("1" = 1.5)), "element 1: 1.5 is not a class, and must be empty for null")
 expect_identical(fault(data.frame(value = 1)), "a data frame must have the columns value and new; got value")
-expect_true(startsWith(fault(7), "must be a CSV file or a data frame"))
+expect_true(startsWith(fault(7), "must be the path of a CSV file or a data frame"))
 expect_identical(fault(rules, other = "drop"), "other= must be one of keep, null; got \"drop\"")
 writeLines(c("value,new", "1,2", "x,3"), file)
 expect_identical(fault(file), paste0(file, ", line 3: x is not a class or a range of classes such as 31-39"))
@@ -53,7 +53,7 @@ bad <- list(
   quote(rcell_table("r.stats -c input=lc", lc = land, percent = NA)), quote(rcell_table("r.stats -c input=lc", lc = land, areas = "ha")),
   quote(rcell_clump(land, min_cells = -1)), quote(rcell_clump(land, filename = 7)), quote(rcell_adjacency(land, labels = 1)))
 expect_identical(refusal(rcell_table("r.stats -c input=lc", lc = land, areas = "ha"))$text,
-  "areas= would be a map, but there is no file ha: did you mean area=?")
+  "areas= is taken for a map, but there is no file ha: did you mean area=?")
 for (call in bad) expect_inherits(refusal(eval(call)), "rcell_error", info = deparse(call))
 unlink(room, recursive = TRUE)
 expect_identical(leftovers(), character())

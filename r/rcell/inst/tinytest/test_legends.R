@@ -31,9 +31,9 @@ expect_identical(fault(written("a.csv", "value,label\n1,\"a\n")), "line 2: a quo
 expect_identical(fault(written("a.csv", " \n")), "is empty")
 path <- written("a.csv", "value,label\n1,a\n")
 writeBin(c(charToRaw("value,label\n1,a"), as.raw(0), charToRaw("b\n")), path)
-expect_identical(fault(path), "line 2: a null byte, so this is not text: save the file as UTF-8")
+expect_identical(fault(path), "line 2 contains a null byte, so this is not text: save the file as UTF-8")
 writeBin(c(charToRaw("value,label\n1,a"), as.raw(0xe4), charToRaw("b\n")), path)
-expect_true(startsWith(fault(path), "line 2: not in UTF-8: save the file as UTF-8"))
+expect_true(startsWith(fault(path), "line 2 is not UTF-8: save the file as UTF-8"))
 
 # Styles: XML with both kinds of quotes, character references and comments, but no custom entities.
 style <- function(...) written("a.qml", "<!DOCTYPE qgis PUBLIC 'http://mrcc.com/qgis.dtd' 'SYSTEM'>\n<qgis><colorPalette>\n", ..., "</colorPalette></qgis>\n")
@@ -43,7 +43,7 @@ expect_identical(fault(style(sprintf(entry, "1.5", "a"))), "line 3: 1.5 is not a
 expect_identical(fault(style(sprintf(entry, "1", "&own;"))), "line 3: &own; is not one of XML's own entities")
 expect_identical(fault(style(sprintf(entry, "1", "&#0;"))), "line 3: &#0; is not a character")
 expect_identical(fault(style("<paletteEntry value=\"1\">")), "line 3: found </colorPalette>, expected the end of <paletteEntry>")
-expect_identical(fault(style()), "the style has no classes")
+expect_identical(fault(style()), "has no classes: it contains neither a palette nor a colour ramp")
 expect_identical(fault(written("a.qml", "<!DOCTYPE q [<!ENTITY a \"b\">]><q/>")), "line 1: not XML, or XML with custom entities, which are not supported")
 expect_identical(fault(written("a.qml", "<?xml version=\"1.0\" encoding=\"ISO-8859-1\"?><q/>")), "line 1: its encoding is ISO-8859-1: save the file as UTF-8")
 items <- "<colorrampshader><item value=\"1\" label=\"a\"/><item value=\"inf\" label=\"b\"/></colorrampshader>"

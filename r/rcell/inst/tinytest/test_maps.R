@@ -95,7 +95,7 @@ expect_inherits(refusal(counts(twice)), "rcell_bad_map")
 
 # Several layers, no values, a file that is not a raster, and a truncated file.
 expect_identical(refusal(counts(c(first, first)))$text, "has 2 layers: choose one, for example x[[1]]")
-expect_identical(refusal(counts(rast(first)))$text, "a raster without values")
+expect_identical(refusal(counts(rast(first)))$text, "the raster has no values")
 expect_inherits(refusal(counts(file("nowhere.tif"))), "rcell_read_failed")
 expect_identical(refusal(counts(file("nowhere.tif")))$status, 4L)
 writeLines("nothing", file("text.tif"))

@@ -67,6 +67,8 @@ for (cell in list(c(30, 30), c(20, 50))) {
 expect_identical(levels(found)[[1]]$within, c("inside", "up to 30 m", "30 to 75 m", "75 to 100.5 m"))
 far <- rast(matrix(c(7, rep(1, 299)), 1), extent = ext(0, 3000, 0, 10), crs = "EPSG:32632")
 expect_identical(sum(values(rcell_within(far, 7, 2550)) %in% 1), 255L)
+# Many distances, and windows of many columns, do not fit into one expression.
+expect_identical(as.integer(values(rcell_within(far, 7, seq(10, 1500, 10)))), c(0:150, rep(NA, 149)))
 # Distances are exact: with decimal sides 0.3 and 0.4, cells are within 0.5, but not as floating-point numbers.
 expect_identical(rcell:::reaches(0.5, c(0.1, 0.1)), c(4, 4, 4, 3, 2))
 expect_identical(rcell:::reaches(150, c(30, 30)), c(5, 4, 4, 4, 3, 0))

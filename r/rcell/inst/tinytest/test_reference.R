@@ -99,7 +99,7 @@ expect_identical(few$class, 1:2)
 draws <- vapply(1:60, function(seed) rcell:::drawn(sprintf("%d:1", seed), 6, 2), numeric(2))
 expect_true(all(table(draws) > 8))
 fault <- function(...) refusal(rcell_sample(...))$text
-expect_true(startsWith(fault(noise, 0, 1), "n= must be a whole number up to 1000000, or one for each class"))
+expect_true(startsWith(fault(noise, 0, 1), "n= must be a whole number from 1 to 1000000, or one for each class"))
 expect_identical(fault(noise, c("9" = 1), 1), "n= must name classes that occur in the map; got 9")
 expect_identical(fault(noise, 5, 1.5), "seed= must be a whole number or a string; got 1.5")
 expect_identical(fault(noise, 5, 1, "half"), "allocation= must be one of equal, proportional; got \"half\"")

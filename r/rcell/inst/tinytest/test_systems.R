@@ -8,7 +8,7 @@ plain <- matrix(c(1, 1, 2, 2), 2)
 expect_identical(names(rcell_composition(plain)), c("class", "cells", "percent"))
 expect_identical(names(rcell_composition(plain, crs = "EPSG:25832")), c("class", "cells", "area_ha", "percent"))
 expect_identical(refusal(rcell_composition(plain, area = "ha"))$text,
-  "area= requires a coordinate reference system, but map has none: state it, for example crs = \"EPSG:25832\", or use area = NULL")
+  "area= requires a coordinate reference system, but map has none: state one, for example crs = \"EPSG:25832\", or use area = NULL")
 expect_identical(refusal(rcell_table("r.stats -c input=x", x = plain, area = "ha"))$status, 2L)
 expect_identical(names(rcell_patches(plain))[4:5], c("perimeter_m", "core_cells"))
 expect_identical(rcell_patches(plain)$perimeter_m, c(NA_real_, NA_real_))
@@ -17,7 +17,7 @@ expect_identical(names(rcell_change(plain, plain)$summary)[[2]], "before_cells")
 # Local, geocentric and vertical systems do not define areas.
 site <- map("ENGCRS[\"site\",EDATUM[\"\"],CS[Cartesian,2],AXIS[\"x\",east,LENGTHUNIT[\"foot\",0.3048]],AXIS[\"y\",north,LENGTHUNIT[\"foot\",0.3048]]]")
 for (system in list(site, map("EPSG:4978"))) {
-  expect_true(grepl("does not say how much of the earth", refusal(rcell_composition(system))$text))
+  expect_true(grepl("does not define the area of a cell", refusal(rcell_composition(system))$text))
   expect_identical(rcell_composition(system, area = NULL)$cells, c(2L, 2L))
 }
 
@@ -50,7 +50,7 @@ expect_false(same("EPSG:4326", "EPSG:4978"))
 for (value in c(255, -9999, -32768)) {
   frame <- matrix(value, 5, 5)
   frame[2:4, 2:4] <- 1
-  expect_warning(rcell_composition(frame), sprintf("map: %d fills more than half of the border of the map", value))
+  expect_warning(rcell_composition(frame), sprintf("map: %d fills more than half of the map's border", value))
   frame[1, ] <- 2
   frame[2:5, 1] <- 2
   expect_silent(rcell_composition(frame))

@@ -81,6 +81,11 @@ for (count in c(2, 3, 20)) {
   expect_identical(names(found$maps), c("changes", "first_change", "last_change"))
   expect_identical(as.integer(table(values(found$maps$changes))), found$changes$cells)
 }
+# Changes over more years than fit into one expression.
+series <- lapply(1:60, function(year) matrix(c(1, year %% 2, year > 20, year > 55), 1))
+found <- rcell_trajectories(series, 2001:2060, include_maps = TRUE)$maps
+expect_equal(lapply(found, values, mat = FALSE), list(changes = c(0, 59, 1, 1), first_change = c(NaN, 2002, 2021, 2056), last_change = c(NaN, 2060, 2021, 2056)))
+series <- rep(series, length.out = 20)
 years <- function(...) refusal(rcell_trajectories(series, ...))$text
 expect_identical(years(20:1), "years= must be ascending, one for each map; got 20, 19, 18, 17, 16 and 15 more")
 expect_identical(refusal(rcell_trajectories(series[1], 2000))$text, "maps= must be a list of two or more maps; got a list")

@@ -98,7 +98,7 @@ expect_silent(rcell_composition(land, zones = counted, zone_field = "number"))
 counted$number <- c(NA, 5L)
 lacking <- stored(counted, "lacking.gpkg")
 if (!anyNA(vect(lacking)$number)) {
-  text <- sprintf("the field number has 1 missing numbers, which terra reads as 0: pass the path of its file, \"%s\"", lacking)
+  text <- sprintf("the field number has 1 missing numbers, which terra reads as 0: pass the path of the file instead: \"%s\"", lacking)
   expect_identical(refusal(rcell_composition(land, zones = vect(lacking), zone_field = "number"))$text, text)
 }
 
