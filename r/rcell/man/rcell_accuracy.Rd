@@ -2,7 +2,7 @@
 \alias{rcell_accuracy}
 \title{Accuracy of a map}
 \description{
-Compare a map with reference data, and estimate the accuracy and the area of each class, with standard errors.
+Compare a map with a reference sample, and estimate each class's accuracy and area, with standard errors.
 }
 \usage{
 rcell_accuracy(x, reference, areas = NULL, area, field = NULL, layer = NULL,
@@ -11,20 +11,19 @@ rcell_accuracy(x, reference, areas = NULL, area, field = NULL, layer = NULL,
 \arguments{
 \item{x}{The map to assess (a \code{SpatRaster}, a path or a matrix); see \code{\link{rcell-package}}. It can be
 \code{NULL} if \code{reference} is a table.}
-\item{reference}{The reference data: a map; points, as a \code{SpatVector} or the path of a vector file; or a table of
-sample counts, as a data frame or the path of a CSV or TSV file, with the columns \code{map}, \code{reference} and,
-optionally, \code{cells}.}
-\item{areas}{The areas of the map's classes, if the sample was drawn class by class. \code{"map"} computes them from
-\code{x}. Otherwise, a numeric vector with the classes as names, or a data frame or the path of a CSV file with the
-columns \code{value} and \code{area}. If \code{NULL} (the default), the sample is treated as a simple random sample,
-and no areas are estimated.}
+\item{reference}{The reference sample: a map, whose \code{NA} cells are ignored; points, as a \code{SpatVector} or the
+path of a vector file; or a table, as a data frame or the path of a CSV or TSV file, with the columns \code{map},
+\code{reference} and, optionally, \code{cells}.}
+\item{areas}{The areas of the map's classes, required if the sample was drawn class by class. Use \code{"map"} to
+compute the areas from \code{x}, or list them by class in a named numeric vector, a data frame or a CSV file with the
+columns \code{value} and \code{area}. If \code{NULL} (the default), the sample is treated as a simple random sample, and
+no areas are estimated.}
 \item{area}{The unit of areas; see \code{\link{rcell_composition}}. Areas that you pass must be in this unit, by default
 in hectares.}
-\item{field}{The name of the field that contains the class of each point. By default, \code{class} or
-\code{reference}.}
-\item{layer}{The name of the layer to read, if the file of points has several layers.}
-\item{labels}{The labels of the classes; see \code{\link{rcell_composition}}.}
-\item{crs}{The coordinate reference system of maps that have none; see \code{\link{rcell_run}}.}
+\item{field}{The field that contains each point's class, as a string. By default, \code{class} or \code{reference}.}
+\item{layer}{The layer to read if the point file has several layers, as a string.}
+\item{labels}{A legend; see \code{\link{rcell_composition}}.}
+\item{crs}{The coordinate reference system to assume for maps that do not have one; see \code{\link{rcell_run}}.}
 }
 \details{
 Accuracies, areas and standard errors are computed with equations 1 to 11 of Olofsson et al. (2014). All points count,
@@ -32,8 +31,8 @@ even if several are in the same cell. A point on the border between cells belong
 Points without a class, outside the map or on \code{NA} cells are left out, with a warning that counts them. It is an
 error if a class has an area but no sample cells.
 
-Without \code{areas}, the standard errors are valid for a random sample, but meaningless if the reference covers the
-full map. A warning is issued if the class shares of the points are implausible for a random sample.
+Without \code{areas}, the standard errors are correct for a random sample, but meaningless if the reference covers the
+full map. A warning is issued if points do not look like a random sample.
 }
 \value{
 A list with the following elements. Accuracies are shares from 0 to 1, and undefined values are \code{NaN}.

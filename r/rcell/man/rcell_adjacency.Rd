@@ -1,19 +1,19 @@
 \name{rcell_adjacency}
 \alias{rcell_adjacency}
 \title{Adjacency of classes}
-\description{Count the cell sides that each pair of classes shares, and measure the length of their border.}
+\description{Count the cell sides that each pair of classes shares, and compute the length of their border.}
 \usage{
 rcell_adjacency(x, labels = NULL, crs = NULL)
 }
 \arguments{
 \item{x}{A map (a \code{SpatRaster}, a path or a matrix); see \code{\link{rcell-package}}.}
-\item{labels}{The labels of the classes; see \code{\link{rcell_composition}}.}
-\item{crs}{The coordinate reference system of maps that have none; see \code{\link{rcell_run}}.}
+\item{labels}{A legend; see \code{\link{rcell_composition}}.}
+\item{crs}{The coordinate reference system to assume for maps that do not have one; see \code{\link{rcell_run}}.}
 }
 \value{
 A data frame with a row for each pair of classes that share a side. Each pair is listed once, with the smaller class
-first. A class is also paired with itself; this row counts the sides between cells of the class. Sides next to \code{NA}
-cells and along the edge of the map are left out. The columns are:
+first. A class is also paired with itself, to count the sides between its own cells. Sides next to \code{NA} cells and
+along the map's edge are not counted. The columns are:
 \item{class, label}{The smaller class, and its label if there are labels.}
 \item{neighbour, neighbour_label}{The larger class, and its label if there are labels.}
 \item{sides}{The number of cell sides that both classes share.}

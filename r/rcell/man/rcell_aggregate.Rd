@@ -10,20 +10,20 @@ rcell_aggregate(x, factor, min_percent = 0, filename = "", overwrite = FALSE,
 }
 \arguments{
 \item{x}{A map (a \code{SpatRaster}, a path or a matrix); see \code{\link{rcell-package}}.}
-\item{factor}{The number of rows and columns in a block, as a whole number. The first block is in the north-western
-corner of the map. Blocks may extend beyond the southern and eastern edges.}
-\item{min_percent}{The percentage of a block's cells that must be inside the map and not \code{NA}, from 0 (the default)
-to 100. Blocks with fewer such cells are \code{NA}, and so are blocks in which all cells are \code{NA}.}
+\item{factor}{The number of rows and columns in a block, as a whole number. The first block is in the north-west corner.
+Blocks at the southern and eastern edges may extend beyond the map.}
+\item{min_percent}{The minimum percentage of a block's cells that must be inside the map and not \code{NA}, from 0 (the
+default) to 100. Blocks with a lower percentage are \code{NA}. A block with only \code{NA} cells is always \code{NA}.}
 \item{filename, overwrite}{The output file; see \code{\link{rcell_grid}}. Its data type is FLT8S.}
-\item{crs}{The coordinate reference system of maps that have none; see \code{\link{rcell_run}}.}
+\item{crs}{The coordinate reference system to assume for maps that do not have one; see \code{\link{rcell_run}}.}
 }
 \value{
 A \code{SpatRaster} with the following layers:
 \item{majority}{The most frequent class of the block, with the labels of \code{x}. In a tie, the smallest class is
 used.}
 \item{cells}{The number of cells that are not \code{NA}.}
-\item{one layer per class}{The percentage of these cells that belong to the class. The layer is named after the label
-of the class or, without a label, its number.}
+\item{one layer per class}{The class's percentage of these cells. The layer is named after the label of the class or,
+without a label, its number.}
 }
 \examples{
 lc <- matrix(c(1, 1, 2, 1, 3, 2), 2, byrow = TRUE)

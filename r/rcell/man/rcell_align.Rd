@@ -1,19 +1,22 @@
 \name{rcell_align}
 \alias{rcell_align}
 \title{Align a map with another map}
-\description{Move a map onto the grid of another map, so that both maps can be used in the same call.}
+\description{
+Align a map with another map's grid, by whole-cell shifts or nearest-neighbour resampling, so that both maps can be used
+in the same call.
+}
 \usage{
 rcell_align(x, to, resample = NULL, filename = "", overwrite = FALSE, crs = NULL)
 }
 \arguments{
-\item{x}{The map to move (a \code{SpatRaster}, a path or a matrix); see \code{\link{rcell-package}}.}
-\item{to}{The map whose grid is used. A \code{SpatRaster} without values is also accepted.}
-\item{resample}{If \code{NULL} (the default), \code{x} is only cropped and extended by whole rows and columns. It is an
-error if the grids are shifted by part of a cell or have different cell sizes or coordinate reference systems. If
-\code{"nearest"}, each new cell gets the value of the cell of \code{x} that contains its centre. A centre on a border
+\item{x}{The map to align (a \code{SpatRaster}, a path or a matrix); see \code{\link{rcell-package}}.}
+\item{to}{The map with the new grid. A \code{SpatRaster} without values is also accepted.}
+\item{resample}{By default (\code{NULL}), whole rows and columns are cropped or, with \code{NA} cells, added. It is an
+error if the grids are shifted by part of a cell, or if the cell sizes or the coordinate reference systems differ.
+\code{"nearest"} gives each new cell the value of the old cell that contains the new cell's centre. A centre on a border
 belongs to the southern or eastern cell.}
 \item{filename, overwrite}{The output file; see \code{\link{rcell_grid}}.}
-\item{crs}{The coordinate reference system of maps that have none; see \code{\link{rcell_run}}.}
+\item{crs}{The coordinate reference system to assume for maps that do not have one; see \code{\link{rcell_run}}.}
 }
 \value{
 A \code{SpatRaster} on the grid of \code{to}, with the labels of \code{x}. Its attribute \code{"aligned"} is a data

@@ -14,9 +14,9 @@ then compared with the next one.}
 \item{years}{The year of each map, as a vector of whole numbers. Required for more than two maps.}
 \item{area}{The unit of areas; see \code{\link{rcell_composition}}. Without areas, \code{matrix} and \code{summary}
 contain numbers of cells.}
-\item{labels}{The labels of the classes in all maps; see \code{\link{rcell_composition}}. By default, each map keeps its
-own labels, and maps without labels get the labels of the first map that has some.}
-\item{crs}{The coordinate reference system of maps that have none; see \code{\link{rcell_run}}.}
+\item{labels}{A legend for all maps, which replaces the maps' own labels; see \code{\link{rcell_composition}}. By
+default, maps without labels get the labels of the first map with labels.}
+\item{crs}{The coordinate reference system to assume for maps that do not have one; see \code{\link{rcell_run}}.}
 }
 \value{
 A list of three data frames, which refer to the cells that are not \code{NA} in either year. With \code{years}, each
@@ -25,7 +25,7 @@ data frame begins with the columns \code{year_from} and \code{year_to}.
 \code{to_label}, \code{cells}, \code{area_ha} and \code{percent}.}
 \item{matrix}{The areas (without areas, the numbers of cells), with a row for each earlier class (in the column
 \code{from}) and a column for each later class. Classes are named by their labels. If several classes have the same
-label, the class is appended, for example \code{wood (31)}.}
+label, their numbers are appended, for example \code{wood (31)}.}
 \item{summary}{A row for each class: \code{class}, \code{label} (from the later map or, if it has none, from the earlier
 map), \code{before_ha}, \code{after_ha}, \code{gain_ha}, \code{loss_ha}, \code{net_ha} (gain minus loss),
 \code{swap_ha} (twice the smaller of gain and loss) and \code{persistence_ha}.}

@@ -1,7 +1,7 @@
 \name{rcell_composition}
 \alias{rcell_composition}
 \title{Composition of a map}
-\description{Count the cells of each class in a map or in each of its zones, with areas, percentages and labels.}
+\description{Count the cells of each class, with areas and percentages, in the full map or by zone.}
 \usage{
 rcell_composition(x, zones = NULL, area, labels = NULL, zone_labels = NULL,
                   zone_field = NULL, layer = NULL, each = FALSE, include_null = FALSE,
@@ -9,21 +9,22 @@ rcell_composition(x, zones = NULL, area, labels = NULL, zone_labels = NULL,
 }
 \arguments{
 \item{x}{A map (a \code{SpatRaster}, a path or a matrix); see \code{\link{rcell-package}}.}
-\item{zones}{A map of zones on the grid of \code{x}, or polygons: a \code{SpatVector} or the path of a vector file, which
-may end in the name of a layer (\code{"FILE|layername=NAME"}). See the section on polygons.}
+\item{zones}{A map of zones on the grid of \code{x}, or polygons: a \code{SpatVector} or the path of a vector file,
+which may end in the name of a layer (\code{"FILE|layername=NAME"}). See the section on polygons.}
 \item{area}{The unit of areas: \code{"ha"}, \code{"km2"} or \code{"m2"}, or \code{NULL} to omit areas. By default, areas
 are in hectares, and are omitted if \code{x} has no coordinate reference system. A local, geocentric or vertical system
 does not define the area of a cell, and is an error unless \code{area} is \code{NULL}.}
-\item{labels, zone_labels}{The labels of the classes and of the zones, which replace the maps' own labels. Each is one of
-the following: the path of a CSV or TSV file in UTF-8, or a data frame, with the columns \code{value} and \code{label};
-the path of a QGIS style (\code{.qml}); a vector of labels with the classes as names; or a \code{SpatRaster} with
-labels.}
-\item{zone_field}{The name of the field that contains the zones, if \code{zones} are polygons.}
-\item{layer}{The name of the layer to read, if the file of polygons has several layers.}
-\item{each}{Whether each polygon counts all of its cells. If \code{FALSE} (the default), a cell in several polygons
-belongs only to the last of them.}
-\item{include_null}{Whether to count \code{NA} cells in a row of their own, which is the last row of each zone.}
-\item{crs}{The coordinate reference system of maps that have none; see \code{\link{rcell_run}}.}
+\item{labels, zone_labels}{A legend that replaces the map's or the zones' labels: the path of a CSV or TSV file in
+UTF-8, or a data frame, with the columns \code{value} and \code{label}; the path of a QGIS style (\code{.qml}); a vector
+of labels with the classes as names; or a \code{SpatRaster} with labels. A warning lists the classes that a file, a data
+frame or a vector does not label.}
+\item{zone_field}{The polygon field that contains the ids or names of the zones, as a string. By default, zones are
+identified by feature number.}
+\item{layer}{The layer to read if the polygon file has several layers, as a string.}
+\item{each}{Whether to process overlapping polygons separately, so that each polygon counts all of its cells. By default
+(\code{FALSE}), cells in several polygons belong to the last polygon, and a warning is issued.}
+\item{include_null}{Whether to also count \code{NA} cells. Their row is the last one of each zone.}
+\item{crs}{The coordinate reference system to assume for maps that do not have one; see \code{\link{rcell_run}}.}
 }
 \section{Polygons}{
 A cell belongs to the polygon that contains its centre. If several polygons contain it, the last one wins, and a warning

@@ -2,7 +2,7 @@
 \alias{rcell_cross}
 \title{Cross table of maps}
 \description{
-Count the cells of each combination of classes in two or more maps, with areas, percentages and labels.
+Count the cells of each combination of classes in several maps, with areas and percentages.
 }
 \usage{
 rcell_cross(..., area, labels = NULL, include_null = FALSE, crs = NULL, maps = list())
@@ -11,9 +11,9 @@ rcell_cross(..., area, labels = NULL, include_null = FALSE, crs = NULL, maps = l
 \item{...}{The maps, as named arguments, for example \code{lc = "landcover.tif"}; see \code{\link{rcell-package}}. At
 most 16 maps, or 15 with areas in degrees.}
 \item{area}{The unit of areas; see \code{\link{rcell_composition}}.}
-\item{labels}{A list of labels, named after the maps, for example \code{list(lc = "legend.csv")}. Each element is as in
+\item{labels}{A list of legends by map name, for example \code{list(lc = "legend.csv")}; each as in
 \code{\link{rcell_composition}}.}
-\item{include_null}{Whether to list combinations that contain \code{NA}.}
+\item{include_null}{Whether to also count combinations that contain \code{NA}.}
 \item{crs, maps}{See \code{\link{rcell_run}}.}
 }
 \value{

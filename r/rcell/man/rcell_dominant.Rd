@@ -1,7 +1,7 @@
 \name{rcell_dominant}
 \alias{rcell_dominant}
 \title{Dominant class of each zone}
-\description{Find the most frequent class and the rarest class of each zone, and count its classes.}
+\description{Find the most frequent and the rarest class of each zone, and count the classes.}
 \usage{
 rcell_dominant(x, zones, area, labels = NULL, zone_labels = NULL, zone_field = NULL,
                layer = NULL, each = FALSE, crs = NULL)
@@ -9,7 +9,7 @@ rcell_dominant(x, zones, area, labels = NULL, zone_labels = NULL, zone_field = N
 \arguments{
 \item{x}{A map (a \code{SpatRaster}, a path or a matrix); see \code{\link{rcell-package}}.}
 \item{zones, area, labels, zone_labels, zone_field, layer, each}{See \code{\link{rcell_composition}}.}
-\item{crs}{The coordinate reference system of maps that have none; see \code{\link{rcell_run}}.}
+\item{crs}{The coordinate reference system to assume for maps that do not have one; see \code{\link{rcell_run}}.}
 }
 \value{
 A data frame with a row for each zone that has cells other than \code{NA}. The columns are:

@@ -2,8 +2,8 @@
 \alias{rcell_metrics}
 \title{Landscape metrics}
 \description{
-Compute landscape metrics for each class, for the landscape, or for each patch of a map or of its zones. The metrics are
-defined as in FRAGSTATS 4, without a border.
+Compute landscape metrics of each class, each patch or each landscape. The metrics are defined as in FRAGSTATS 4,
+without a border.
 }
 \usage{
 rcell_metrics(x, level = "class", connectivity = 4, area, zones = NULL, labels = NULL,
@@ -12,19 +12,20 @@ rcell_metrics(x, level = "class", connectivity = 4, area, zones = NULL, labels =
 }
 \arguments{
 \item{x}{A map (a \code{SpatRaster}, a path or a matrix); see \code{\link{rcell-package}}.}
-\item{level}{What to describe: \code{"class"} (the default), \code{"landscape"} or \code{"patch"}.}
-\item{connectivity}{Which cells belong to the same patch: 4 (the default) connects cells that share an edge, 8 also
-connects cells that share a corner.}
-\item{zones}{A map of zones or polygons; see \code{\link{rcell_composition}}. Each zone is a separate landscape. Patches
-end at the border of a zone, and sides across the border are not edges.}
+\item{level}{What each row of the table describes: a \code{"class"} (the default), a \code{"landscape"} or a
+\code{"patch"}.}
+\item{connectivity}{4 (the default) connects cells that share an edge, and 8 also connects cells that share a corner.}
+\item{zones}{The zones, each of which is a separate landscape; see \code{\link{rcell_composition}}. Patches end at a
+zone's border and are numbered from 1 in each zone. Cell sides along a zone's border are not edges.}
 \item{area}{The unit of areas; see \code{\link{rcell_composition}}. Without areas, sizes are in cells, and
 \code{patches_km2} and the edge density are omitted.}
 \item{labels, zone_labels, zone_field, layer, each}{See \code{\link{rcell_composition}}.}
-\item{crs}{The coordinate reference system of maps that have none; see \code{\link{rcell_run}}.}
+\item{crs}{The coordinate reference system to assume for maps that do not have one; see \code{\link{rcell_run}}.}
 }
 \details{
-The landscape consists of all cells of the map or zone that are not \code{NA}. Undefined metrics are \code{NaN}. Metrics
-that require a length are missing if the map has no coordinate reference system or, with a warning, if it is in degrees.
+A landscape consists of all cells of the map or zone that are not \code{NA}. Undefined metrics are \code{NaN}. Metrics
+that depend on a length are missing if the map has no coordinate reference system or, with a warning, if the map is in
+degrees.
 }
 \value{
 A data frame that begins with the columns \code{zone} and \code{zone_label} (with \code{zones}), \code{patch} (for

@@ -1,7 +1,7 @@
 \name{rcell_reclass}
 \alias{rcell_reclass}
 \title{Reclassify a map}
-\description{Replace each class of a map with a new class, using a crosswalk.}
+\description{Replace the classes of a map with new classes, using a crosswalk.}
 \usage{
 rcell_reclass(x, rules, other = NULL, filename = "", overwrite = FALSE, crs = NULL)
 }
@@ -10,10 +10,10 @@ rcell_reclass(x, rules, other = NULL, filename = "", overwrite = FALSE, crs = NU
 \item{rules}{The crosswalk: the path of a CSV or TSV file, or a data frame, with the columns \code{value}, \code{new}
 and, optionally, \code{label}; or a vector of new classes with the old classes as names. A \code{value} is a class or a
 range of classes, for example \code{31-39}. If \code{new} is empty, the class becomes \code{NA}.}
-\item{other}{What to do with classes that have no rule: \code{"keep"} keeps them, and \code{"null"} replaces them with
-\code{NA}. By default, an error lists them.}
+\item{other}{Whether to keep classes without a rule (\code{"keep"}) or set them to \code{NA} (\code{"null"}). By
+default, the call raises an error that lists these classes.}
 \item{filename, overwrite}{The output file; see \code{\link{rcell_grid}}.}
-\item{crs}{The coordinate reference system of maps that have none; see \code{\link{rcell_run}}.}
+\item{crs}{The coordinate reference system to assume for maps that do not have one; see \code{\link{rcell_run}}.}
 }
 \value{
 A \code{SpatRaster} with the labels of the rules. If the rules have no labels and \code{other} is \code{"keep"}, it has

@@ -20,11 +20,11 @@ of the script. The package then sends the maps and the script to the program as 
 \code{NA} cells are null in the program. Labels are joined by the package.
 }
 \value{
-A list of the outputs, in the order of the script and named after their maps: a data frame for each \code{r.stats}, and a
-\code{SpatRaster} for each \code{r.out.ascii}. A data frame has an integer column for each map, followed by its labels in
-\code{NAME_label} if the flag \code{-l} is given, and the column \code{cells} if \code{-c} is given. Null is \code{NA}.
-With \code{-1}, the data frame has a row for each cell. Repeated names get the suffix \code{_2}. Counts are integers;
-convert them with \code{as.numeric} if their sum may exceed 2147483647.
+A list of the outputs, in the order of the script and named after their maps: a data frame for each \code{r.stats}, and
+a \code{SpatRaster} for each \code{r.out.ascii}. A data frame has an integer column for each map, followed by its labels
+in \code{NAME_label} if the flag \code{-l} is given, and the column \code{cells} if \code{-c} is given. Null is
+\code{NA}. With \code{-1}, the data frame has a row for each cell. Repeated names get the suffix \code{_2}. Counts are
+integers; convert them with \code{as.numeric} if their sum may exceed 2147483647.
 }
 \examples{
 lc <- matrix(c(1, 1, 2, 3, 2, 2), 2, byrow = TRUE)

@@ -12,9 +12,9 @@ rcell_table(.script, ..., area = NULL, percent = FALSE, wide = FALSE,
 \item{.script}{The script; see \code{\link{rcell_run}}. It must contain at least one line with \code{r.stats}. Other
 outputs are ignored.}
 \item{...}{The maps, as named arguments, for example \code{lc = "landcover.tif"}; see \code{\link{rcell-package}}.}
-\item{area}{The unit of a column of areas: \code{"m2"}, \code{"ha"} or \code{"km2"}. By default, there is no such column.
-Areas are an error if the map has no coordinate reference system, unless \code{crs} states one, or if it is in degrees,
-because the area of a cell then differs from row to row. Use \code{\link{rcell_composition}} or
+\item{area}{The unit of a column of areas: \code{"m2"}, \code{"ha"} or \code{"km2"}. By default, there is no such
+column. Areas are an error if the map has no coordinate reference system, unless \code{crs} states one, or if it is in
+degrees, because the area of a cell then differs from row to row. Use \code{\link{rcell_composition}} or
 \code{\link{rcell_cross}} for maps in degrees.}
 \item{percent}{Whether to add a column of percentages of all cells in the table.}
 \item{wide}{Whether to return the table of two maps as a matrix.}

@@ -2,7 +2,7 @@
 \alias{rcell_trajectories}
 \title{Sequences of classes over years}
 \description{
-Count each sequence of classes over several years. Only cells that are not \code{NA} in any year are counted.
+Count each sequence of classes over the years, in cells that are not \code{NA} in any year.
 }
 \usage{
 rcell_trajectories(maps, years = NULL, area, labels = NULL, include_maps = FALSE,
@@ -13,8 +13,9 @@ rcell_trajectories(maps, years = NULL, area, labels = NULL, include_maps = FALSE
 \code{\link{rcell-package}}. More than 16 maps, or 15 in degrees, are accepted only if they contain few classes.}
 \item{years}{The year of each map, as a vector of whole numbers in ascending order.}
 \item{area, labels}{See \code{\link{rcell_change}}.}
-\item{include_maps}{Whether to return maps of the changes as well.}
-\item{crs}{The coordinate reference system of maps that have none; see \code{\link{rcell_run}}.}
+\item{include_maps}{Whether to compute maps of the number of changes, of the year of the first change, and of the year
+of the last change.}
+\item{crs}{The coordinate reference system to assume for maps that do not have one; see \code{\link{rcell_run}}.}
 }
 \value{
 A list of data frames and, with \code{include_maps}, maps:
