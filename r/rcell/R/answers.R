@@ -83,7 +83,8 @@ answer_of <- function(request, sources, outputs = list(), wanted = character()) 
 }
 
 # Run a script that this package has written, and return its frames. If polygons are counted
-# separately, the script runs once for each part, and the rows of its tables are merged in order.
+# separately, the script runs once for each part: the rows of tables are merged in order, and
+# patches are listed part by part.
 run_own <- function(script, sources, questions = list()) {
   path <- program_path()
   parts <- sources$zones$parts

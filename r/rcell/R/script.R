@@ -64,8 +64,8 @@ statement_of <- function(output) {
 
 chunks_of <- function(items, size) split(items, (seq_along(items) - 1L) %/% size)
 
-# Return lines that make a map by filling terms, with a separator, into a form. If an expression
-# cannot contain all terms, parts of them are combined first.
+# Return lines that make a map from terms, joined with a separator and inserted into a form. If an
+# expression cannot contain all terms, they are first combined in parts.
 combined_lines <- function(map, form, terms, separator, limit) {
   if (length(terms) <= limit) {
     return(sprintf("r.mapcalc %s = %s", map, sprintf(form, paste(terms, collapse = separator))))

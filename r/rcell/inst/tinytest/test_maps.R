@@ -122,7 +122,7 @@ expect_true(grepl("east is 9.00000007, not 9 (0.00000007 more)", shifted$text, f
 thirds <- rast(nrows = 60, ncols = 60, xmin = 1 / 3, xmax = 1 / 3 + 0.5, ymin = -0.5, ymax = 0, vals = 1)
 expect_identical(as.vector(ext(rcell_grid("", "x", x = thirds))), as.vector(ext(thirds)))
 expect_identical(counts(rast(matrix(1), extent = ext(500000, 600000, 5e6, 6e6)))$cells, 1L)
-expect_true(grepl("^an edge of more", refusal(counts(rast(matrix(1), extent = ext(0, 1e10, 0, 1), crs = "EPSG:32632")))$text))
+expect_true(grepl("^east must have at most ten digits", refusal(counts(rast(matrix(1), extent = ext(0, 1e10, 0, 1), crs = "EPSG:32632")))$text))
 expect_true(grepl("^east must exceed west", refusal(counts(rast(matrix(1), extent = ext(0, 1e-9, 0, 1), crs = "EPSG:32632")))$text))
 expect_inherits(refusal(counts(rast(nrows = 1, ncols = 65536, vals = 1))), "rcell_bad_map")
 
