@@ -19,8 +19,8 @@ default, maps without labels get the labels of the first map with labels.}
 \item{crs}{The coordinate reference system to assume for maps that do not have one; see \code{\link{rcell_run}}.}
 }
 \value{
-A list of three data frames, which refer to the cells that are not \code{NA} in either year. With \code{years}, each
-data frame begins with the columns \code{year_from} and \code{year_to}.
+A list of three data frames, which count the cells that have data in both years. With \code{years}, each data frame
+begins with the columns \code{year_from} and \code{year_to}.
 \item{table}{A row for each pair of an earlier and a later class: \code{from}, \code{from_label}, \code{to},
 \code{to_label}, \code{cells}, \code{area_ha} and \code{percent}.}
 \item{matrix}{The areas (without areas, the numbers of cells), with a row for each earlier class (in the column

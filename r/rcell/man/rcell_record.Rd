@@ -11,10 +11,11 @@ rcell_record(.path, .call, ..., .table = NULL)
 rcell_verify(path)
 }
 \arguments{
-\item{.path, path}{The path of the CSV file. The record is next to it, in a file whose name ends in \code{.csv.json}.}
+\item{.path, path}{The path of the CSV file, which is replaced if it exists. The record is next to it, in a file whose
+name ends in \code{.csv.json}.}
 \item{.call}{A function of this package that returns a table, or the name of the function.}
-\item{...}{The arguments of the call: paths, numbers, texts, and vectors and lists of these. Paths are recorded relative
-to the folder of the CSV file.}
+\item{...}{The arguments of the call: paths, numbers, strings, and vectors and lists of these. Paths are recorded
+relative to the folder of the CSV file.}
 \item{.table}{The name of the table to write, if the call returns several, for example \code{"summary"} for
 \code{\link{rcell_change}}. By default, the first table.}
 }

@@ -6,9 +6,9 @@
 rcell_run(.script, ..., crs = NULL, maps = list())
 }
 \arguments{
-\item{.script}{The script, as a single text or as a vector of lines. It must be the first argument, without a name.}
+\item{.script}{The script, as a single string or as a vector of lines. It must be the first argument, without a name.}
 \item{...}{The maps, as named arguments, for example \code{lc = "landcover.tif"}; see \code{\link{rcell-package}}.}
-\item{crs}{The coordinate reference system to assume for maps that have none, as a text that terra accepts, for example
+\item{crs}{The coordinate reference system to assume for maps that do not have one, as a string, for example
 \code{"EPSG:3035"} or well-known text. It is required if only some maps of a call have a system. A matrix or an rcell
 grid has none.}
 \item{maps}{A named list of further maps. Use it for maps whose names are also arguments of this function.}
