@@ -108,7 +108,7 @@ def test_a_script_and_a_program_are_named(folder: pathlib.Path) -> None:
     beside.write_text(json.dumps(told))
     program, script = rcell.verify(path)
     assert program.startswith("the program has changed: it was rcell ")
-    assert script == "the scripts differ: the call ran other lines"
+    assert script == "the scripts differ: the call ran different lines"
 
 
 def test_a_map_that_is_gone_is_named(folder: pathlib.Path) -> None:

@@ -160,8 +160,8 @@ class MosaicMap:
     transform : tuple of six float
     crs : any
     is_masked : bool
-        Whether the map's blocks have masks. They have masks if a file has a mask, or if there may
-        be gaps but no nodata value.
+        Whether the map's blocks have masks. They have masks if a file has a mask, or if the map may
+        have gaps and has no nodata value.
     """
 
     name: str

@@ -120,7 +120,7 @@ def points_of(layer: Layer, field: Optional[str], like: Source, crs: Any = None)
 def _field_of(layer: Layer, field: Optional[str]) -> str:
     """Return the name of the field that contains the classes.
 
-    If no field is given, this is the only field with a usual name.
+    If no field is given, it is the only field that has one of the usual names.
     """
     usual = [name for name in _FIELDS if name in layer.fields]
     if field is None and len(usual) == 1:

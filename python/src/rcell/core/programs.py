@@ -35,7 +35,7 @@ Path = Union[str, "os.PathLike[str]"]
 
 
 def candidates(name: str) -> Iterator[str]:
-    """Yield possible paths of a program: in Python's scripts, next to Python, and on PATH."""
+    """Yield a program's paths in the scripts folder of Python, next to Python, and on PATH."""
     folders = [sysconfig.get_path("scripts")]
     if "posix_user" in sysconfig.get_scheme_names():
         folders.append(sysconfig.get_path("scripts", "posix_user"))

@@ -606,7 +606,7 @@ _PROBE_CELLS = [struct.pack("<4i", 12, 2, NULL, NULL), struct.pack("<3i", 1, NUL
 
 
 def is_known(program: str, seconds: float) -> bool:
-    """Return whether a program is this version's rcell-pipe, after a test run over three cells.
+    """Test a program on three cells and return whether it is this version's rcell-pipe.
 
     Raises
     ------

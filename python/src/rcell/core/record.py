@@ -279,7 +279,7 @@ def _other_runs(
                 maps[f"the cells of {title} differ"] = None
     yield from maps
     if [run["script"] for run in runs] != [run["script"] for run in recorded_runs]:
-        yield "the scripts differ: the call ran other lines"
+        yield "the scripts differ: the call ran different lines"
 
 
 def _other_lines(recorded: bytes, returned: bytes) -> Iterator[str]:

@@ -98,9 +98,10 @@ class Run:
     Parameters
     ----------
     script : str
-    maps : mapping, optional
-    named : mapping
+    maps, named : mapping
+        Maps by name, as in `run`. `maps` may be None.
     crs : any, optional
+        The coordinate reference system to assume for maps that do not have one.
     """
 
     def __init__(self, script: Any, maps: Any, named: Mapping[str, Any], crs: Any = None) -> None:

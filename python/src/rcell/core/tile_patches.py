@@ -250,7 +250,7 @@ class PatchSum:
         return numbers[order[first]][kept], joined[kept]
 
     def _fill(self, indices: Integers, rows: Integers) -> None:
-        """Write the measures of patches to their indices among all patches."""
+        """Store the measures of patches at the given indices of the arrays in `counts`."""
         for start in range(0, indices.size, PIECE):
             piece = slice(start, start + PIECE)
             for name, counts in self.counts.items():

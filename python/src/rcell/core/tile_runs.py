@@ -344,7 +344,10 @@ class _Tiles:
             del self._unread[name]
 
     def clumps(self, output: Statement) -> Output:
-        """Return the clump map that a statement writes, after the map's last use."""
+        """Return the clump map that a statement writes.
+
+        Null becomes `NULL` in place. Call this method after the last use of the map.
+        """
         source = self._maps[output.inputs[0]]
         assert isinstance(source, ArrayMap)
         for place in self._places if source.nodata_value == NO_CLUMP else ():

@@ -19,7 +19,7 @@ _one_at_a_time = threading.Lock()
 def of_this_thread(path: str, open_path: Callable[[], Any]) -> Any:
     """Return this thread's open dataset for a path, opening it if necessary.
 
-    If too many datasets are open, the dataset that has been unused for longest is closed.
+    If too many datasets are open, the dataset that has gone unused the longest is closed.
 
     Examples
     --------

@@ -357,7 +357,7 @@ def _transform_of(name: str, array: Any) -> Transform | None:
 
 
 def _stated_transform(name: str, array: Any) -> Transform | None:
-    """Return the transform that rioxarray stored, which is outdated if the array was cut since."""
+    """Return the transform that rioxarray stored, which is wrong if the array was cropped later."""
     reference = array.coords.get("spatial_ref")
     text = None if reference is None else reference.attrs.get("GeoTransform")
     if not text:
