@@ -265,7 +265,7 @@ other_runs <- function(now, then) {
   scripts <- lapply(list(now, then), function(runs) lapply(runs, `[[`, "script"))
   c(
     if (length(maps)) sprintf("the cells of %s differ", unique(maps)),
-    if (!identical(scripts[[1]], scripts[[2]])) "the scripts differ: the call ran other lines"
+    if (!identical(scripts[[1]], scripts[[2]])) "the scripts differ: the call ran different lines"
   )
 }
 
