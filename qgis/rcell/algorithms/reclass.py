@@ -54,7 +54,7 @@ class ReclassAlgorithm(RcellAlgorithm):
         """Declare the parameters."""
         self.add_raster()
         self.add_lines("RULES", tr("Rules, one per line"), "1 thru 3 = 1 low\n* = 2 high")
-        self.add_file("RULES_FILE", tr("A crosswalk instead of rules: a CSV with value,new,label"))
+        self.add_file("RULES_FILE", tr("Crosswalk instead of rules: a CSV with value,new,label"))
         self.add_choice("OTHER", tr("Classes without a rule in the crosswalk"), OTHERS)
         self.add_map(tr("Reclassified map"))
 

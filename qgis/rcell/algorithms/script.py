@@ -38,7 +38,7 @@ class ScriptAlgorithm(RcellAlgorithm):
     """Runs a map algebra script over rasters."""
 
     NAME = "script"
-    TITLE = noop("Script of map algebra")
+    TITLE = noop("Map algebra script")
     SHORT = noop(
         "Runs a script of r.mapcalc, r.reclass, r.clump, r.stats and r.out.ascii over "
         "rasters, and writes a map, a table, or all outputs."
