@@ -1,4 +1,4 @@
--- Pairs that were added to others.
+-- Pairs of labels that are added to other pairs.
 use Rattle.std.proofs.Common.{◌≡◌, ℕ, zero, suc, [], ◌∷◌, ◌++◌, List, None, get_or, refl, sym, subst, arith, inl, inr, ⊎_elim}
 use Rattle.std.specs.Prelude.{Contains}
 use Rattle.std.proofs.lemmas.List.Elements.{Contains-append_left, Contains-append_right, Contains-append_cases}
@@ -22,7 +22,7 @@ adds-pushed old new pair e x = (
   λ h. subst (λ (l : List (ℕ × ℕ)). Contains l x) (sym e) (⊎_elim (λ in_old. Contains-append_left old (pair ∷ []) x in_old) (λ is. Contains-append_right old (pair ∷ []) x is) h),
 )
 
--- a pair that was there
+-- adding a pair that is already known changes nothing
 pub adds-known : (old : List (ℕ × ℕ)) (pair : ℕ × ℕ) → Contains old pair → Adds old old (pair ∷ [])
 adds-known old pair known x = (
   λ h. inl h,
@@ -33,7 +33,7 @@ adds-known old pair known x = (
     only pair x (zero, lt, e) = e
     only pair x (suc i, lt, e) = absurd (omega (arith, lt))
 
--- by edges alone
+-- when only edges connect, a place adds only the meeting of its two marks
 pub edges-only : (j : Joining) (one other : Line) (k : ℕ) (old new : List (ℕ × ℕ)) → (j ≡ EdgesAndCorners → ⊥) → Adds old new (line_meeting (get_or one k None) (get_or other k None)) → Adds old new (line_meetings_at j one other k)
 edges-only Edges one other k old new apart h = h
 edges-only EdgesAndCorners one other k old new apart h = absurd (apart refl)

@@ -3,7 +3,7 @@ use Rattle.std.proofs.Common.{◌≡◌, ℕ, ◌+◌, ◌<◌, ◌≤◌, List,
 use Rattle.cell_join_tiles.specs.Beginnings.{begun_before, row_begun}
 use Rattle.cell_join_tiles.proofs.StretchLemmas.{stretch-is}
 
--- a clump begins in no row so far
+-- the number of a clump is what is left plus the clumps that begin in earlier rows
 pub record IsSoFar (begun : List ℕ) (clump row left : ℕ) : Type 0 where
   pub inside : row < length begun
   pub rest : left + begun_before begun row ≡ clump
@@ -11,7 +11,7 @@ pub record IsSoFar (begun : List ℕ) (clump row left : ℕ) : Type 0 where
 pub row-found : (begun : List ℕ) (clump row left : ℕ) → IsSoFar begun clump row left → left < get_or begun row 0 → row_begun begun clump ≡ row
 row-found begun clump row left h lt = stretch-is begun row clump (record { inside = h.inside; low = omega (arith, h.rest); high = omega (arith, h.rest, lt) })
 
--- the rows so far are passed, the others as they were
+-- the entries of the rows before this one are moved past the clumps that begin there; the others are unchanged
 pub record IsPassed (old begun : List ℕ) (row : ℕ) (line : List ℕ) : Type 0 where
   pub long : length line ≡ length old
   pub passed : (i : ℕ) → i < row → get_or line i 0 ≡ get_or old i 0 + get_or begun i 0

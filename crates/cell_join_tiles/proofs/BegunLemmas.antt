@@ -9,7 +9,7 @@ use Rattle.cell_join_tiles.specs.Beginnings.{Begun, begun_before}
 use Rattle.cell_join_tiles.proofs.StretchLemmas.{Lies}
 use Rattle.cell_join_tiles.proofs.LabelSums.{begun-next, all-of}
 
--- those above a row, and those in it
+-- the number of first cells above a row, and the number in it
 abbrev pub above : List Position → ℕ → ℕ
 above firsts i = count_by (λ p. ltb p.row i) firsts
 
@@ -53,7 +53,7 @@ above-next (p ∷ firsts) i = by (above-next firsts i) (cases_order p.row i)
         let own : once (eqb p.row i) ≡ 0 = ap once (ne_eqb p.row i (λ e. omega (arith, e, more))) in
         omega (arith, rest, among-cons p firsts i, own, above-out p firsts (suc i) (omega (arith, more)), above-out p firsts i (omega (arith, more)))
 
--- counts of those in each row add up to those above a row
+-- the counts of first cells per row add up to the number of first cells above a row
 pub counted-above : (firsts : List Position) (begun : Begun) (rows : ℕ) → ((i : ℕ) → i < rows → get_or begun i 0 ≡ among firsts i) → (i : ℕ) → i ≤ rows → begun_before begun i ≡ above firsts i
 counted-above firsts begun rows counts zero le = omega (arith, above-none firsts)
 counted-above firsts begun rows counts (suc i) le =
@@ -65,7 +65,7 @@ all-past : (firsts : List Position) (i : ℕ) → ((k : ℕ) (d : Position) → 
 all-past [] i past = refl
 all-past (p ∷ firsts) i past = above-out p firsts i (past 0 p (omega arith)) ∙ all-past firsts i (λ k d lt. past (suc k) d (omega (arith, lt)))
 
--- as many are above a row as come before the first one that is not
+-- the k-th first cell is above a row exactly if more than k first cells are above that row
 pub record Parts (firsts : List Position) (k i : ℕ) (p : Position) : Type 0 where
   pub above_it : p.row < i → k < above firsts i
   pub not_above : i ≤ p.row → above firsts i ≤ k
@@ -93,7 +93,7 @@ parts (p ∷ firsts) order (suc k) i d lt =
 
 -- ---- the row of a clump
 
--- it is the row of its first cell
+-- the row in which a clump begins is the row of its first cell
 pub begun-at : (firsts : List Position) → AllPairs IsEarlierCell firsts → (begun : Begun) (rows : ℕ) → length begun ≡ rows → ((i : ℕ) → i < rows → get_or begun i 0 ≡ among firsts i) → (k : ℕ) (d : Position) → k < length firsts → (get_or firsts k d).row < rows → Lies begun k (get_or firsts k d).row
 begun-at firsts order begun rows long counts k d lt inside =
     let p : Position = get_or firsts k d in

@@ -1,4 +1,4 @@
--- The labels of clumps go by their first cells in the full map.
+-- The labels of clumps have the order of their first cells in the full map.
 use Rattle.std.proofs.Common.{◌≡◌, ℕ, suc, pos, ◌+◌, ◌-◌, ◌<◌, ◌≤◌, List, [], Some, IsSome, map, take, length, get_or, ap, sym, ◌∙◌, arith, subst, inl, inr}
 use Rattle.std.specs.Prelude.{sum}
 use Rattle.std.specs.List.{AllPairs}
@@ -85,7 +85,7 @@ module _ (j : Joining) (whole : Grid) (heights widths : List ℕ) (map_of number
         };
       }
 
-  -- row order of the labels is row order of the first cells
+  -- labels in row order have first cells in row order
   in-order : (r c k s d l : ℕ) → Clump r c k → Clump s d l → At r c k → At s d l → IsBefore r (line_of grid r c k) c k s (line_of grid s d l) d l → IsEarlierCell (first_of r c k) (first_of s d l)
   in-order r c k s d l x y a b (inl h) = inl (omega (arith, a.row, ends-before heights r s h (let t = y.r_in in omega (arith, t))))
   in-order r c k s d l x y a b (inr (e, inl h)) = inl (let top : sum (take r heights) ≡ sum (take s heights) = ap (λ (n : ℕ). sum (take n heights)) e in omega (arith, top, h, a.line, b.line))
@@ -126,7 +126,7 @@ module _ (j : Joining) (whole : Grid) (heights widths : List ℕ) (map_of number
       let many = sum-begun (firsts_of r c) (begun_of r c) (high_of r) t.long t.counts (λ i d lt. first-inside r c i d r_in c_in lt) in
       record { r_in = r_in; c_in = c_in; k_in = omega (arith, x.k_in, many) }
 
-  -- a clump by its tile and its number
+  -- a clump, named by its tile and its number
   pub record Name : Type 0 where
     pub r : ℕ
     pub c : ℕ
@@ -193,7 +193,7 @@ module _ (j : Joining) (whole : Grid) (heights widths : List ℕ) (map_of number
       (subst (λ (v : CellValue). IsSome v) (tile.cells (first_in x.r x.c x.k) a.row a.col) a.some)
 
   module _ (label_of : Position → ℕ) (bear : BearLabels heights widths numbers_of grid label_of) where
-    -- where a cell of the full map lies, and the clump of its tile that it is of
+    -- the tile and the place in it of a cell of the full map, and the cell's clump in that tile
     pub record InTile (p : Position) : Type 0 where
       pub r : ℕ
       pub c : ℕ
@@ -249,7 +249,7 @@ module _ (j : Joining) (whole : Grid) (heights widths : List ℕ) (map_of number
         let a = at-of t.r t.c s.place (clump-at p t) in
         omega (arith, t.label, label-within grid high_of short t.r t.c s.place a.clump, many-starts)
 
-    -- the first cell of its clump in its tile
+    -- the listed first cell of a cell's label is the first cell of its clump in its tile
     first-at : (p : Position) (some : IsSome (cell_at_position whole p)) (t : InTile p) → get_or starts (label_of p) p ≡ moved_position (tile_place heights widths t.r t.c) (get_or (firsts_of t.r t.c) (t.listed_at).place t.a)
     first-at p some t =
         let s = t.listed_at in

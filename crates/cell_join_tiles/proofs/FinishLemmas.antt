@@ -1,4 +1,4 @@
--- The numbering of tiles that were joined.
+-- The numbering of tiles that are joined.
 use Rattle.std.proofs.Common.{◌≡◌, ℕ, zero, suc, pos, ◌+◌, ◌-◌, ◌<◌, [], ◌∷◌, ◌++◌, List, Some, map, take, drop, length, get_or, refl, ap, sym, ◌∙◌, arith, subst}
 use Rattle.std.specs.Prelude.{sum, flat_map}
 use Rattle.std.specs.List.{range_with_len}
@@ -94,7 +94,7 @@ module _ (grid : List (List BorderValue)) (joiner : TileJoinerValue) (are : AreJ
   abbrev g : List (List Begun)
   g = begun_in grid
 
-  -- as many labels as the tiles have clumps
+  -- a tile has as many labels as clumps
   tile-length : (base : ℕ) (row : List BorderValue) (c : ℕ) → c < length row → length (labels_in_tile base (begun_of row) c) ≡ sum (border_in row c).begun
   tile-length base row c lt =
       length-map-range_with_len (row_label base (begun_of row) c) 0 (sum (get_or (begun_of row) c []))
@@ -129,7 +129,7 @@ module _ (grid : List (List BorderValue)) (joiner : TileJoinerValue) (are : AreJ
     pub runs : runs_of_tiles number 1 joiner.tiles ≡ stretches_of (clumps_by_tile grid) numbers
     runs = runs-are number 1 joiner.tiles ∙ ap (λ (l : List ℕ). stretches_from 1 l numbers) counts
 
-    -- tile by tile
+    -- the numbers of the labels of a tile are the tile's numbers
     tile-numbers : (r c : ℕ) → r < length grid → map number (labels_in_tile (base_at grid r) (begun_of (tile_row_at grid r)) c) ≡ numbers_of_tile number g r c
     tile-numbers r c r_in =
         let row : get_or g r [] ≡ begun_of (tile_row_at grid r) = get_or-map begun_of grid r [] [] r_in in

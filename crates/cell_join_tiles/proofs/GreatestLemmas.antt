@@ -44,13 +44,13 @@ of-bound most n [] r c is = cc
 of-bound most n (row ∷ rows) zero c is = omega (arith, in-bound most n row c is, of-least (greatest_in most row) rows)
 of-bound most n (row ∷ rows) (suc r) c is = of-bound (greatest_in most row) n rows r c is
 
--- the same of the first rows
+-- no number in the first rows is larger than their largest number
 pub first-bound : (most n i : ℕ) (rows : List (List CellValue)) (r c : ℕ) → r < i
     → get_or (get_or rows r []) c None ≡ Some (pos n) → n ≤ greatest_of most (take i rows)
 first-bound most n i rows r c lt is =
     of-bound most n (take i rows) r c (ap (λ (row : List CellValue). get_or row c None) (get_or-take i rows r [] lt) ∙ is)
 
--- the largest number is the one to begin with, or is somewhere in the list
+-- the largest number is the initial one, or is a number in the list
 greater-reached : (most : ℕ) (cell : CellValue) → (greater_of most cell ≡ most) ⊎ (cell ≡ Some (pos (greater_of most cell)))
 greater-reached most None = inl refl
 greater-reached most (Some (pos n)) = ⊎_elim (λ lt. inr (let e : n ≡ max most n = omega (arith, lt) in ap (λ (k : ℕ). Some (pos k)) e)) (λ le. inl (omega (arith, le))) (cases_lt most n)
@@ -84,7 +84,7 @@ module _ (j : Joining) (m numbers : Grid) (clumping : IsClumping j m numbers) (m
   before-itself : (p : Position) → ¬ IsEarlierCell p p
   before-itself p before = IsBefore-asym p p before before
 
-  -- a first cell is in its own list
+  -- a number of a clumping is at least 1
   one-least : (p : Position) (n : ℕ) → HasNumber j m p n → 1 ≤ n
   one-least p n h =
       let t = (h.up_to.exactly h.first).1 (h.is_first, before-itself h.first) in

@@ -52,7 +52,7 @@ module _ (j : Joining) (whole : Grid) (heights widths : List ℕ) (map_of number
   side : (r c : ℕ) → r < length heights → c < length widths → (count : ℕ) (at : ℕ → Position) (s : SideValue) → ((k : ℕ) → k < count → ((at k).row < get_or heights r 0) × ((at k).col < get_or widths c 0)) → HasSide (map_of r c) (numbers_of r c) count at s.cells s.numbers → IsLineOf whole label_of count (λ k. moved_position (tile_place heights widths r c) (at k)) (side_marks (begun_in grid) r c s.cells s.numbers)
   side r c r_lt c_lt count at s inside has = sides-are-lines whole heights widths map_of numbers_of (begun_in grid) cut r c r_lt c_lt count at s.cells s.numbers inside has
 
-  -- a row of cells of each tile of a row of tiles
+  -- the rows of cells of all tiles in a row of tiles make up a row of the full map
   across : (r inner row : ℕ) → r < length heights → inner < get_or heights r 0 → row ≡ sum (take r heights) + inner → (of : BorderValue → SideValue)
       → ((c : ℕ) → c < length widths → HasSide (map_of r c) (numbers_of r c) (get_or widths c 0) (position inner) (of (border_at grid r c)).cells (of (border_at grid r c)).numbers)
       → IsLineOf whole label_of (sum widths) (position row) (row_line (map (λ c. side_marks (begun_in grid) r c (of (border_at grid r c)).cells (of (border_at grid r c)).numbers) (range_with_len 0 (length (row_at r)))))

@@ -1,4 +1,5 @@
--- The labels of clumps rise with the rows of tiles, the rows in them, the columns of tiles and the numbers, and each label below their count is one's.
+-- Labels of clumps are ordered by row of tiles, row in the tile, column of tiles and number, and each number
+-- below the count is the label of a clump.
 use Rattle.std.proofs.Common.{◌≡◌, ℕ, suc, ◌+◌, ◌-◌, ◌<◌, ◌≤◌, List, [], take, length, get_or, ap, sym, ◌∙◌, arith, subst, inl, inr, ⊎_elim, ◌⊎◌}
 use Rattle.std.specs.Prelude.{sum, sum_by}
 use Rattle.std.proofs.lemmas.Bool.{cases_lt, cases_order}
@@ -75,7 +76,7 @@ module _ (tiles : List Begun) where
   pub line-within : (i c k : ℕ) → Begins i c k → (n : ℕ) → i < n → begun_above tiles n ≡ clumps_in_row tiles → label_in_line tiles i c k < clumps_in_row tiles
   line-within i c k b n lt whole = omega (arith, line-end i c k b, above-le tiles (suc i) n (omega (arith, lt)), whole)
 
-  -- each label of the row of tiles is one's
+  -- each label of the row of tiles is the label of a clump
   pub record InLine (x : ℕ) : Type 0 where
     pub i : ℕ
     pub c : ℕ
@@ -121,7 +122,7 @@ module _ (grid : List (List Begun)) where
   begins-of : (r c k : ℕ) → IsClump r c k → Begins (get_or grid r []) (line_of r c k) c k
   begins-of r c k x = record { c_in = x.c_in; at = lies (get_or (get_or grid r []) c []) k x.k_in }
 
-  -- the tiles of a row of tiles have equally many rows
+  -- each tile of a row of tiles has at most `high` rows
   module _ (high : ℕ → ℕ) (short : (r c : ℕ) → r < length grid → c < length (get_or grid r []) → length (get_or (get_or grid r []) c []) ≤ high r) where
     whole-of : (r : ℕ) → r < length grid → begun_above (get_or grid r []) (high r) ≡ clumps_in_row (get_or grid r [])
     whole-of r lt = above-whole (get_or grid r []) (high r) (λ c c_in. short r c lt c_in)
@@ -147,7 +148,7 @@ module _ (grid : List (List Begun)) where
         let less = line-before (get_or grid r []) (line_of r c k) c k (line_of s d l) d l (begins-of r c k x) b rest in
         omega (arith, above, row, less)
 
-    -- one label, one clump
+    -- clumps with the same label are the same clump
     pub one-clump : (r c k s d l : ℕ) → IsClump r c k → IsClump s d l → clump_label grid r c k ≡ clump_label grid s d l → AreSame r (line_of r c k) c k s (line_of s d l) d l
     one-clump r c k s d l x y e =
         ⊎_elim
@@ -158,7 +159,7 @@ module _ (grid : List (List Begun)) where
         apart)
         (in-some-order r (line_of r c k) c k s (line_of s d l) d l)
 
-    -- smaller labels come before
+    -- the clump with the smaller label comes first
     pub before-of : (r c k s d l : ℕ) → IsClump r c k → IsClump s d l → clump_label grid r c k < clump_label grid s d l → IsBefore r (line_of r c k) c k s (line_of s d l) d l
     before-of r c k s d l x y less =
         ⊎_elim
@@ -169,7 +170,7 @@ module _ (grid : List (List Begun)) where
         apart)
         (in-some-order r (line_of r c k) c k s (line_of s d l) d l)
 
-    -- each label is one's
+    -- a label is the label of a clump
     pub record Labels (x : ℕ) : Type 0 where
       pub r : ℕ
       pub c : ℕ

@@ -1,4 +1,4 @@
--- Sums of the first n terms, and between which two of these sums a number is.
+-- Sums of the first n terms, and the two consecutive sums between which a number lies.
 use Rattle.std.proofs.Common.{◌≡◌, ℕ, zero, suc, ◌+◌, ◌<◌, ◌≤◌, List, [], ◌∷◌, take, length, get_or, arith, ⊎_elim}
 use Rattle.std.specs.Prelude.{sum, sum_by}
 use Rattle.std.proofs.lemmas.Bool.{cases_lt}
@@ -26,7 +26,7 @@ module _ {X : Type 0} (f : X → ℕ) where
   all-of (x ∷ xs) zero le = absurd (omega (arith, le))
   all-of (x ∷ xs) (suc n) le = omega (arith, sum_by-cons f x (take n xs), sum_by-cons f x xs, all-of xs n (omega (arith, le)))
 
--- a number lies between two steps
+-- a number lies between two consecutive sums
 pub record Between (f : ℕ → ℕ) (n x : ℕ) : Type 0 where
   pub at : ℕ
   pub inside : at < n
@@ -43,7 +43,7 @@ between f (suc n) x low high =
 
 -- ---- clumps that begin
 
--- a row more of a tile, whether it has it or not
+-- the count before the next row is the count before this row plus the count in this row
 pub begun-next : (begun : Begun) (i : ℕ) → begun_before begun (suc i) ≡ begun_before begun i + get_or begun i 0
 begun-next [] zero = omega arith
 begun-next [] (suc i) = omega arith

@@ -1,4 +1,4 @@
--- Lengths laid end to end: in which of them a number lies.
+-- Lengths laid end to end, and the length in which a number lies.
 use Rattle.std.proofs.Common.{◌≡◌, ℕ, zero, suc, ◌+◌, ◌-◌, ◌<◌, ◌≤◌, List, [], ◌∷◌, take, length, get_or, ap, sym, ◌∙◌, arith, subst, inl, inr, ⊎_elim, ◌⊎◌, ltb, cond, false}
 use Rattle.std.specs.Prelude.{All, sum}
 use Rattle.std.proofs.lemmas.Bool.{cases_lt, cond-true, cond-false, lt-ltb}
@@ -29,7 +29,7 @@ index-here n ns x lt = cond-true (ltb x n) 0 (suc (index_in ns (x - n))) (lt-ltb
 index-later : (n : ℕ) (ns : List ℕ) (x : ℕ) → n ≤ x → index_in (n ∷ ns) x ≡ suc (index_in ns (x - n))
 index-later n ns x le = cond-false (ltb x n) 0 (suc (index_in ns (x - n))) (not-less x n le)
 
--- a number and the next one lie in one stretch, or at the end of one and the beginning of the next
+-- a number is at the end of one stretch, and the next number at the start of the next stretch
 pub record Crosses (ns : List ℕ) (x y : ℕ) (i : ℕ) : Type 0 where
   pub inside : suc i < length ns
   pub first : index_in ns x ≡ i

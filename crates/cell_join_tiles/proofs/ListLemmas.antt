@@ -1,7 +1,7 @@
--- A list of things, each found for its place.
+-- A list with an element found for each index.
 use Rattle.std.proofs.Common.{◌≡◌, ℕ, zero, suc, ◌<◌, List, [], ◌∷◌, length, get_or, refl, ap, arith}
 
--- as many things, each as was asked for its place
+-- a list of n elements in which each element has the property of its index
 pub record Found {X : Type 0} (P : ℕ → X → Type 0) (n : ℕ) : Type 0 where
   pub all : List X
   pub many : length all ≡ n

@@ -15,7 +15,7 @@ module _ (j : Joining) (m : Grid) (firsts : List Position) (all : AreFirsts j m 
   before-itself : (p : Position) → ¬ IsEarlierCell p p
   before-itself p before = IsBefore-asym p p before before
 
-  -- as many first cells are at or before one as its place in the list says
+  -- the number of first cells up to the i-th one is i + 1
   count-firsts : (i : ℕ) (d : Position) (up_to : List Position) → i < length firsts → AreFirstsUpTo j m (get_or firsts i d) up_to → length up_to ≡ i + 1
   count-firsts i d up_to lt are =
       let f : Position = get_or firsts i d in

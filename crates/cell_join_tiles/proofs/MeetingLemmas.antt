@@ -16,7 +16,7 @@ use Rattle.cell_cats_areas.specs.Areas.{AreNeighbours}
 use Rattle.cell_join_tiles.specs.declared.marks.Mark.{Mark}
 use Rattle.cell_join_tiles.specs.SeamLines.{Line, line_meeting, line_meetings, line_meetings_at}
 
--- places of two lines that lie side by side whose cells touch
+-- the places in two adjacent lines whose cells touch
 abbrev pub Touch : Joining → ℕ → ℕ → Type 0
 Touch Edges c d = c ≡ d
 Touch EdgesAndCorners c d = (c ≡ d) ⊎ AreNeighbours c d
@@ -61,7 +61,7 @@ places-only f x a (suc n) h =
     ⊎_elim (λ here. (a, here, omega arith)) (λ later. let t = places-only f x (a + 1) n later in (t.0, t.1, omega (arith, t.2)))
     (Contains-append_cases (f a) (flat_map f (range_with_len (a + 1) n)) x (subst (λ ps. Contains ps x) split h))
 
--- what is marked is in the line
+-- a place with a mark is inside the line
 pub mark-inside : (line : Line) (k : ℕ) (x : Mark) → get_or line k None ≡ Some x → k < length line
 mark-inside line k x e =
     ⊎_elim (λ lt. lt)

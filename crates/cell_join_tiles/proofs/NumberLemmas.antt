@@ -1,4 +1,4 @@
--- The full map is numbered by what the tiles show and the pairs at the seams.
+-- The full map is numbered using the borders of the tiles and the pairs at the seams.
 use Rattle.std.proofs.Common.{◌≡◌, ℕ, ℤ, ◌+◌, ◌-◌, ◌<◌, ◌≤◌, List, [], Some, IsSome, take, length, get_or, refl, ap, sym, ◌∙◌, arith, subst, inl, inr, ⊎_elim, ◌⊎◌}
 use Rattle.std.specs.Prelude.{sum}
 use Rattle.std.proofs.lemmas.Bool.{cases_eq, cases_lt}
@@ -90,7 +90,7 @@ module _ (j : Joining) (whole : Grid) (heights widths : List ℕ) (map_of number
   firsts_of : (r c : ℕ) → r < length heights → c < length widths → HasAreas j (map_of r c) (greatest_of 0 (numbers_of r c).rows)
   firsts_of r c r_in c_in = has-areas j (map_of r c) (numbers_of r c) (borders.clumpings r c r_in c_in)
 
-  -- the numbers of the tile in a row and a column of tiles, none past the grid
+  -- the first cells of the tile in a row and a column of tiles; none outside the grid
   pub pick : (r c : ℕ) → (r < length heights) ⊎ (length heights ≤ r) → (c < length widths) ⊎ (length widths ≤ c) → List Position
   pick r c (inl r_in) (inl c_in) = (firsts_of r c r_in c_in).0
   pick r c (inl r_in) (inr c_out) = []

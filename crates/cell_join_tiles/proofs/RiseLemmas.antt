@@ -1,4 +1,4 @@
--- The largest of the numbers of the first rows of a clumping is how many first cells lie in them.
+-- The largest number in the first rows of a clumping is the number of first cells in those rows.
 use Rattle.std.proofs.Common.{◌≡◌, ℕ, zero, suc, pos, ◌+◌, ◌-◌, ◌<◌, ◌≤◌, [], ◌∷◌, ◌++◌, List, Some, None, length, length-take, take, get_or, refl, ap, sym, ◌∙◌, arith, subst, inl, ⊎_elim, ◌⊎◌, ltb}
 use Rattle.std.proofs.lemmas.Bool.{cases_lt}
 use Rattle.std.proofs.lemmas.List.{get_or-take, get_or_past, length_push}
@@ -17,7 +17,7 @@ use Rattle.cell_join_tiles.proofs.StretchLemmas.{sum-cons}
 use Rattle.cell_join_tiles.proofs.LabelSums.{begun-next}
 use Rattle.cell_join_tiles.proofs.BegunLemmas.{above, above-next, parts}
 
--- where the largest of the first rows is
+-- a cell in the first rows that has their largest number
 record Stands (i : ℕ) (rows : List (List CellValue)) (n : ℕ) : Type 0 where
   pub r : ℕ
   pub c : ℕ
@@ -58,7 +58,7 @@ module _ (j : Joining) (m numbers : Grid) (firsts : List Position) (clumping : I
       few : (firsts : List Position) (i : ℕ) → above firsts i ≤ length firsts
       few firsts i = count_by-le-length (λ (p : Position). ltb p.row i) firsts
 
-  -- and each clump that begins above it has its number there
+  -- each clump that begins above a row has its number in a cell above that row
   above-number : (i : ℕ) → above firsts i ≤ greatest_of 0 (take i numbers.rows)
   above-number i = by (above firsts i) refl
     where
@@ -102,7 +102,7 @@ rises-report-begun j m numbers firsts rows begun clumping all within ids = recor
 
 -- ---- row by row
 
--- what the rows so far show
+-- what is known after the rows so far: their largest number, and the clumps that begin in each row
 pub record RisesSoFar (numbers : Grid) (row most : ℕ) (begun : List ℕ) : Type 0 where
   pub long : length begun ≡ row
   pub greatest : most ≡ greatest_of 0 (take row numbers.rows)
@@ -113,7 +113,7 @@ greatest-next most [] r lt = absurd (omega (arith, lt))
 greatest-next most (row ∷ rows) zero lt = refl
 greatest-next most (row ∷ rows) (suc r) lt = greatest-next (greatest_in most row) rows r (omega (arith, lt))
 
--- a count more
+-- appending a count does not change the sums before it
 before-push : (begun : List ℕ) (n i : ℕ) → i ≤ length begun → begun_before (begun ++ n ∷ []) i ≡ begun_before begun i
 before-push begun n zero le = refl
 before-push [] n (suc i) le = absurd (omega (arith, le))

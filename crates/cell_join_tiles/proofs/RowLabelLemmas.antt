@@ -39,7 +39,7 @@ module _ (begun ends : List ℕ) (are : AreEnds begun ends) where
       let high = get_or_default ends j d 0 lt in
       omega (arith, one, other, low, high, more-le (λ (n : ℕ). n) begun (suc i) (suc j) (omega (arith, le)))
 
-  -- the row in which a clump begins
+  -- a clump begins in the first row whose end is above its number
   pub row-is : (row clump : ℕ) → row < length begun → ((i : ℕ) → i < row → get_or ends i 0 ≤ clump) → clump < get_or ends row 0 → Lies begun clump row
   row-is zero clump inside before after =
       let own = are.each 0 inside in
@@ -50,7 +50,7 @@ module _ (begun ends : List ℕ) (are : AreEnds begun ends) where
       let low = before row (omega arith) in
       record { inside = inside; low = omega (arith, last, low); high = omega (arith, own, after, begun-next begun (suc row)) }
 
-  -- a clump that begins in no row
+  -- a clump whose number is not below the end of any row begins in no row
   pub no-row : (row clump : ℕ) → length begun ≤ row → row ≤ length ends → ((i : ℕ) → i < row → get_or ends i 0 ≤ clump) → sum begun ≤ clump
   no-row zero clump past le before =
       let none : sum (take 0 begun) ≡ sum begun = all-of (λ (n : ℕ). n) begun 0 past in
@@ -61,7 +61,7 @@ module _ (begun ends : List ℕ) (are : AreEnds begun ends) where
       let all : sum (take (suc row) begun) ≡ sum begun = all-of (λ (n : ℕ). n) begun (suc row) past in
       omega (arith, low, own, all)
 
-  -- where the clumps of a row begin
+  -- the end of a row is the count before it plus the count in it
   pub end-before : (row : ℕ) → row < length begun → get_or ends row 0 ≡ begun_before begun row + get_or begun row 0
   end-before row inside = are.each row inside ∙ begun-next begun row
 
@@ -79,7 +79,7 @@ pub few-in-tile : (tiles : List Begun) (c : ℕ) → c < length tiles → sum (g
 few-in-tile tiles c lt =
     omega (arith, next-one clumps_in_tile tiles c [] lt, more-le clumps_in_tile tiles (suc c) (length tiles) (omega (arith, lt)), all-of clumps_in_tile tiles (length tiles) (omega arith))
 
--- the clumps that begin in a row of a tile have labels of the row of tiles
+-- the labels of the clumps that begin in a row of a tile fit in the labels of the row of tiles
 pub firsts-fit : (base rows : ℕ) (tiles : List Begun) (c : ℕ) (firsts : List ℕ) → AreFirstLabels base tiles c firsts → length firsts ≡ rows → ((d : ℕ) → d < length tiles → length (get_or tiles d []) ≤ rows) → c < length tiles → (i : ℕ) → i < rows → get_or firsts i 0 + get_or (get_or tiles c []) i 0 ≤ base + clumps_in_row tiles
 firsts-fit base rows tiles c firsts are long even c_in i lt =
     let f = λ (begun : Begun). get_or begun i 0 in
@@ -96,7 +96,7 @@ firsts-pass base tiles c firsts next are c_in long each i lt =
     let left : begun_on_left tiles i (suc c) ≡ begun_on_left tiles i (c + 1) = ap (begun_on_left tiles i) one in
     omega (arith, are i i_in, each i i_in, next-one (λ (begun : Begun). get_or begun i 0) tiles c [] c_in, left)
 
--- the first tile
+-- before the first tile, the label of each row is the base plus the count of the rows above
 pub firsts-start : (base : ℕ) (tiles : List Begun) (firsts : List ℕ) → ((i : ℕ) → i < length firsts → get_or firsts i 0 ≡ base + begun_above tiles i) → AreFirstLabels base tiles 0 firsts
 firsts-start base tiles firsts are i lt =
     let none : begun_on_left tiles i 0 ≡ 0 = refl in
@@ -114,7 +114,7 @@ in-each-le [] i = omega arith
 in-each-le (t ∷ tiles) i =
     omega (arith, sum_by-cons (λ (begun : Begun). get_or begun i 0) t tiles, sum_by-cons (λ (begun : Begun). sum begun) t tiles, begun-le t i, in-each-le tiles i)
 
--- the labels of the first clumps of the rows that come next
+-- the count above the next row is the count above this row plus the count in this row
 pub above-more : (tiles : List Begun) (i : ℕ) → begun_above tiles (i + 1) ≡ begun_above tiles i + in_each tiles i
 above-more tiles i = let one : i + 1 ≡ suc i = omega arith in ap (begun_above tiles) one ∙ above-next tiles i
 
@@ -180,7 +180,7 @@ tile-labels base tiles c firsts are long =
     same-map : (f g : ℕ → ℕ) (n : ℕ) → ((k : ℕ) → k < n → f k ≡ g k) → map f (range_with_len 0 n) ≡ map g (range_with_len 0 n)
     same-map f g n same = same-from f g 0 n (λ k lt. same k (omega (arith, lt)))
 
--- a clump that begins in a row is one of the tile
+-- a clump that begins in a row of a tile is a clump of that tile
 pub low-in-tile : (begun : List ℕ) (row clump : ℕ) → Lies begun clump row → clump < sum begun
 low-in-tile begun row clump lies =
     omega (arith, lies.high, begun-next begun row, more-le (λ (n : ℕ). n) begun (suc row) (length begun) (let t = lies.inside in omega (arith, t)), all-of (λ (n : ℕ). n) begun (length begun) (omega arith))

@@ -1,4 +1,4 @@
--- Rows of tiles that were joined, and one more.
+-- Rows of tiles that are joined, and one more row.
 use Rattle.std.proofs.Common.{◌≡◌, ℕ, zero, suc, ◌+◌, ◌<◌, ◌≤◌, [], ◌∷◌, ◌++◌, List, take, length, refl, ap, sym, ◌∙◌, arith, subst, inl, inr, ⊎_elim}
 use Rattle.std.specs.Prelude.{sum_by, flat_map, Contains}
 use Rattle.std.specs.List.{range_with_len}
@@ -137,7 +137,7 @@ module _ (grid : List (List BorderValue)) (row : List BorderValue) where
           ∙ sym (ap (λ (n : ℕ). flat_map (tiles_at more) (range_with_len 0 n)) long-more ∙ lists-more (tiles_at more) high);
     }
 
--- no row yet
+-- before any row of tiles, nothing is joined
 pub joined-none : (j : Joining) → AreJoinedTiles [] (record { joining = j; clumps = 0; pairs = []; above = []; tiles = [] })
 joined-none j = record {
   clumps = refl;

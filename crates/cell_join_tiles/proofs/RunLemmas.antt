@@ -1,4 +1,4 @@
--- The numbers of labels that follow one another.
+-- The numbers of consecutive labels.
 use Rattle.std.proofs.Common.{◌≡◌, ℕ, suc, ◌+◌, ◌-◌, ◌<◌, ◌≤◌, [], ◌∷◌, ◌++◌, List, Option, Some, None, Result, Ok, Err, IfOk, IfNone, map, drop, length, get_or, ap, sym, ◌∙◌, arith, subst, append_assoc, append-nil, ltb}
 use Rattle.std.specs.Prelude.{Vec}
 use Rattle.std.specs.List.{AllPairs, range_with_len}
@@ -20,7 +20,7 @@ use Rattle.cell_join_tiles.specs.parts.LabelRuns.{RunsGoOn, runs_of_tiles}
 use Rattle.cell_join_tiles.specs.parts.Spans.{labels_in, labels_of_tiles}
 use Rattle.cell_join_tiles.proofs.RowLabelLemmas.{run-of}
 
--- labels of which none is paired have numbers that follow one another
+-- consecutive labels of which none is paired have consecutive numbers
 pub lone-run : (number : ℕ → ℕ) (paired numbers roots : List ℕ) → AllPairs ◌<◌ paired → AreNumbersOf number paired numbers roots → (first count place : ℕ) → labels_before paired first ≡ place → labels_before paired (first + count) ≡ place → range_with_len (first - place + get_or roots place 0 + 1) count ≡ map number (range_with_len first count)
 lone-run number paired numbers roots order are first count place before after =
     run-of number (first - place + get_or roots place 0 + 1) first count (λ k lt.
@@ -36,11 +36,11 @@ lone-run number paired numbers roots order are first count place before after =
     ∙ ap (λ (n : ℕ). (l - n) + get_or roots n 0 + 1) here
     ∙ omega (arith, few, before))
 
--- a paired label
+-- the run of a paired label is its listed number plus 1
 pub paired-run : (number : ℕ → ℕ) (paired numbers roots : List ℕ) → AreNumbersOf number paired numbers roots → (place : ℕ) → place < length paired → range_with_len (get_or numbers place 0 + 1) 1 ≡ map number (range_with_len (get_or paired place 0) 1)
 paired-run number paired numbers roots are place lt = ap (λ (n : ℕ). n ∷ []) (are.at place lt)
 
--- labels after labels
+-- runs for some labels, then runs for further labels, are runs for all of them
 pub goes-then : (sparse : SparseNumbers) (part : ℕ) (line mid after : Option Line) (old between new : List Stretch) (one other : List ℕ) → RunsGoOn sparse part line old between one mid → RunsGoOn sparse part mid between new other after → RunsGoOn sparse part line old new (one ++ other) after
 goes-then sparse part line mid after old between new one other first second number before numbers are h =
     let done = second number before (numbers ++ map number one) are (first number before numbers are h) in
@@ -53,7 +53,7 @@ goes-nowhere sparse part line old labels none number before numbers are h =
     let same : numbers ≡ numbers ++ map number labels = sym (ap (λ (l : List ℕ). numbers ++ map number l) none ∙ append-nil numbers) in
     subst (λ (l : List ℕ). AreInLines part before l old line) same h
 
--- a run of numbers is put after a line
+-- appending a run of numbers to a line covers the labels of that run
 pub goes-run : (sparse : SparseNumbers) (part : ℕ) (line after : Option Line) (old new : List Stretch) (labels : List ℕ) (first count : ℕ)
     → ((number : ℕ → ℕ) → AreNumbersOf number sparse.paired.items sparse.numbers.items sparse.roots.items → range_with_len first count ≡ map number labels)
     → ((before : List Stretch) (numbers : List ℕ) → AreInLines part before numbers old line → AreInLines part before (numbers ++ range_with_len first count) new after)
@@ -65,7 +65,7 @@ pub if-ok : {A E : Type 0} (r : Result A E) (P Q : A → Type 0) → IfOk r P �
 if-ok (Ok a) P Q p more = more a p
 if-ok (Err e) P Q p more = tt
 
--- no more roots come before a label than labels do
+-- at most as many roots as labels come before a label
 pub few-roots : (paired numbers roots : List ℕ) → AreInPlaces paired numbers roots → (first place : ℕ) → labels_before paired first ≡ place → get_or roots place 0 ≤ place
 few-roots paired numbers roots ready first place is =
     let most = count_by-le-length (λ l. ltb l first) paired in

@@ -1,4 +1,4 @@
--- A line that continues, or ends where another begins.
+-- A line that continues, or that ends where another begins.
 use Rattle.std.proofs.Common.{◌≡◌, ℕ, zero, suc, ◌+◌, ◌<◌, ◌==◌, List, [], ◌∷◌, ◌++◌, Some, None, true, false}
 use Rattle.std.proofs.Common.{Option, refl, ap, sym, ◌∙◌, arith, append_assoc, append-nil, eq-eqb, eqb-true}
 use Rattle.std.specs.List.{range_with_len}
@@ -8,7 +8,7 @@ use Rattle.cell_join_lines.proofs.WritingLemmas.{goes-on, begins-anew}
 use Rattle.cell_join_tiles.specs.declared.run_lines.Line.{Line}
 use Rattle.cell_join_tiles.specs.parts.RunLines.{AreInLines, stretches_after}
 
--- a line takes a run of the next numbers in
+-- a line is extended by a run of the next numbers
 behind-run : (band first last number previous n : ℕ) (rest : List ℕ) (end most : ℕ) → end ≡ last + n
     → most ≡ previous + n
     → stretches_behind band first last number previous (range_with_len (previous + 1) n ++ rest)
@@ -54,7 +54,7 @@ module _ (s : Stretch) (previous first last count : ℕ) (rest : List ℕ) (e : 
           (behind-run s.band (s.last + 1) (s.last + 1) first first n rest (s.last + suc n) last (omega arith)
           (omega (arith, is)))
 
--- what follows a line is put into another
+-- lines for some numbers, extended by a run, are lines for those numbers and the run
 in_lines-more : (band : ℕ) (before : List Stretch) (numbers run : List ℕ) (old new : List Stretch)
     (line after : Option Line) → AreInLines band before numbers old line
     → ((rest : List ℕ) → old ++ stretches_after band line (run ++ rest) ≡ new ++ stretches_after band after rest)
@@ -114,7 +114,7 @@ pub in_lines-none : (band : ℕ) (before : List Stretch) (numbers : List ℕ) (o
 in_lines-none band before numbers old h =
     sym (ap (λ (l : List ℕ). before ++ stretches_in band l) (sym (append-nil numbers)) ∙ h [] ∙ append-nil old)
 
--- no area yet
+-- with no clump yet, the lines are empty
 pub in_lines-start : (band : ℕ) (before : List Stretch) (numbers : List ℕ) → numbers ≡ []
     → AreInLines band before numbers before None
 in_lines-start band before numbers none = λ rest. ap (λ (l : List ℕ). before ++ stretches_in band (l ++ rest)) none

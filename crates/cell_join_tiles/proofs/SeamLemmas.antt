@@ -71,7 +71,7 @@ one-index : (ns : List ℕ) (x : ℕ) → index_in ns x ≡ stretch_of ns x
 one-index [] x = refl
 one-index (n ∷ ns) x = ap (λ (k : ℕ). cond (ltb x n) 0 (suc k)) (one-index ns (x - n))
 
--- a number at the end of a stretch, and the next one at the beginning of the next
+-- a number at the end of a stretch, with the next number at the beginning of the next stretch
 record Over (ns : List ℕ) (x y : ℕ) : Type 0 where
   inside : suc (stretch_of ns x) < length ns
   last : x + 1 ≡ sum (take (stretch_of ns x) ns) + get_or ns (stretch_of ns x) 0
@@ -159,7 +159,7 @@ module _ (j : Joining) (whole : Grid) (label_of : Position → ℕ) where
     width-some : (c : ℕ) → c < length widths → 0 < get_or widths c 0
     width-some c lt = some_cols c 0 lt
 
-    -- between two columns of tiles
+    -- the facing columns of two neighbouring tiles are a cut
     side-cut : (r c : ℕ) → r < length heights → suc c < length widths → IsCut (right r c) (left r (suc c))
     side-cut r c r_lt c_lt =
         let w = get_or widths c 0 in
@@ -173,7 +173,7 @@ module _ (j : Joining) (whole : Grid) (label_of : Position → ℕ) where
           near = λ k l touch. across-touch j (moved_position (tile_place heights widths r c) (position k (w - 1))) (moved_position (tile_place heights widths r (suc c)) (position l 0)) (touch-more (sum (take r heights)) j k l touch) (omega (arith, width-some c c_in, before-next widths c c_in));
         }
 
-    -- between two rows of tiles
+    -- the facing rows of two neighbouring rows of tiles are a cut
     row-cut : (r : ℕ) → suc r < length heights → IsCut (last r) (first (suc r))
     row-cut r r_lt =
         let h = get_or heights r 0 in
@@ -194,7 +194,7 @@ module _ (j : Joining) (whole : Grid) (label_of : Position → ℕ) where
         (λ row. cut-only (last row.0) (first (suc row.0)) (row-cut row.0 row.1) a b row.2)
         ((are (a, b)).0 h)
 
-    -- two cells over a cut between rows of tiles
+    -- two adjacent cells on either side of a cut between rows of tiles make a pair
     row-pair : (p q : Position) (v : ℤ) → AreAdjacent j p q → Over heights p.row q.row → p.col < sum widths → q.col < sum widths → cell_at_position whole p ≡ Some v → cell_at_position whole q ≡ Some v → Contains pairs (label_of p, label_of q)
     unfolding row-cut
     row-pair p q v near c p_lt q_lt one other =
@@ -210,7 +210,7 @@ module _ (j : Joining) (whole : Grid) (label_of : Position → ℕ) where
           pair-of (last r) (first (suc r)) (row-cut r c.inside) p q v p.col q.col (λ i. record { row = p_row i; col = p.col }) (λ i. record { row = q_row i; col = q.col }) p_lt q_lt (touch-down j p q near (omega (arith, c.last, c.next, next))) one other,
         ))
 
-    -- two cells over a cut between columns of tiles
+    -- two adjacent cells on either side of a cut between columns of tiles make a pair
     side-pair : (p q : Position) (v : ℤ) (r : ℕ) → AreAdjacent j p q → Lies heights p.row r → Lies heights q.row r → Over widths p.col q.col → cell_at_position whole p ≡ Some v → cell_at_position whole q ≡ Some v → Contains pairs (label_of p, label_of q)
     unfolding side-cut
     side-pair p q v r near pr qr s one other =

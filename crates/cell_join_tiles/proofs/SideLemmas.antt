@@ -36,7 +36,7 @@ lines-flat : (f : ℕ → Line) (xs : List ℕ) → row_line (map f xs) ≡ flat
 lines-flat f [] = refl
 lines-flat f (x ∷ xs) = ap (λ (l : Line). f x ++ l) (lines-flat f xs) ∙ sym (flat_map-cons f x xs)
 
--- a clump that its tile has
+-- a cell whose number is the number of a clump of its tile is marked
 mark-known : (label : ℕ → ℕ) (clumps k : ℕ) (v : ℤ) → k < clumps → mark_in label clumps (Some v) (Some (pos (k + 1))) ≡ Some (record { category = v; label = label k })
 mark-known label clumps k v lt =
     let some : clump_of_mark (Some (pos (k + 1))) ≡ Some (k + 1 - 1) = cond-false (eqb (k + 1) 0) None (Some (k + 1 - 1)) (ne_eqb (k + 1) 0 (λ e. absurd (omega (arith, e)))) in
@@ -44,7 +44,7 @@ mark-known label clumps k v lt =
     ap (mark_at label clumps v) (some ∙ ap (λ (n : ℕ). Some n) same)
     ∙ cond-true (ltb k clumps) (Some (record { category = v; label = label k })) None (lt-ltb k clumps lt)
 
--- meetings with no line
+-- an empty line meets nothing
 no-meetings : (j : Joining) (line : Line) → line_meetings j [] line ≡ []
 no-meetings j line = refl
 
@@ -61,7 +61,7 @@ module _ (j : Joining) (whole : Grid) (heights widths : List ℕ) (map_of number
   abbrev count_of : (r c : ℕ) → ℕ
   count_of r c = sum (get_or (get_or g r []) c [])
 
-  -- a cell that is not null has a number, of a clump that its tile has
+  -- a cell that is not null has the number of a clump of its tile
   pub record IsNumbered (r c : ℕ) (p : Position) : Type 0 where
     pub clump : ℕ
     pub inside : clump < count_of r c

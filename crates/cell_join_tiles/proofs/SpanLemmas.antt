@@ -1,4 +1,4 @@
--- Spans of labels, and one more.
+-- Spans of labels, and one more span.
 use Rattle.std.proofs.Common.{◌≡◌, ◌<◌, ◌≤◌, ◌+◌, ◌++◌, [], ◌∷◌, ℕ, List, length, take, get_or, ap, sym, ◌∙◌, arith, subst, append-nil, refl, ⊎_elim}
 use Rattle.std.specs.Prelude.{All}
 use Rattle.std.proofs.lemmas.Bool.{cases_lt}
@@ -17,7 +17,7 @@ spans-pushed spans span =
 pub spans-more : (spans : List Span) (i : ℕ) (d : Span) → i < length spans → labels_in (take (i + 1) spans) ≡ labels_in (take i spans) ++ labels_of_span (get_or spans i d)
 spans-more spans i d lt = ap labels_in (take_more spans i d lt) ∙ spans-pushed (take i spans) (get_or spans i d)
 
--- the number of labels in the first spans and the next one
+-- the first spans and the next one have at most as many labels as all spans
 pub spans-few : (spans : List Span) (i : ℕ) (d : Span) → i < length spans → length (labels_in (take i spans)) + (get_or spans i d).count ≤ length (labels_in spans)
 spans-few spans i d lt =
     let span = get_or spans i d in

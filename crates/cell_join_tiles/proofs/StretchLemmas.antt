@@ -1,4 +1,4 @@
--- Lengths laid end to end: in which of them a number lies.
+-- Lengths laid end to end, and the length in which a number lies.
 use Rattle.std.proofs.Common.{◌≡◌, ℕ, zero, suc, ◌+◌, ◌-◌, ◌<◌, ◌≤◌, List, [], ◌∷◌, take, length, get_or, ap, sym, ◌∙◌, arith, subst, ⊎_elim, ltb}
 use Rattle.std.specs.Prelude.{sum}
 use Rattle.std.proofs.lemmas.Bool.{cases_lt, cond-true, cond-false, lt-ltb, le-ltb}
@@ -14,7 +14,7 @@ here n ns x lt = cond-true (ltb x n) 0 (suc (stretch_of ns (x - n))) (lt-ltb x n
 later : (n : ℕ) (ns : List ℕ) (x : ℕ) → n ≤ x → stretch_of (n ∷ ns) x ≡ suc (stretch_of ns (x - n))
 later n ns x le = cond-false (ltb x n) 0 (suc (stretch_of ns (x - n))) (le-ltb x n le)
 
--- a number lies in the i-th of them
+-- a number lies in the i-th stretch
 pub record Lies (ns : List ℕ) (x i : ℕ) : Type 0 where
   pub inside : i < length ns
   pub low : sum (take i ns) ≤ x
@@ -37,7 +37,7 @@ lies (n ∷ ns) x lt =
           high = omega (arith, rest.high, past, sum-cons n (take k ns));
         }
 
--- and in no other one
+-- a number lies in only one stretch
 pub stretch-is : (ns : List ℕ) (i x : ℕ) → Lies ns x i → stretch_of ns x ≡ i
 stretch-is [] i x h = absurd (omega (arith, h.inside))
 stretch-is (n ∷ ns) zero x h = here n ns x (omega (arith, h.high))
@@ -49,7 +49,7 @@ stretch-is (n ∷ ns) (suc i) x h =
       high = omega (arith, h.high, from);
     }))
 
--- one ends before a later one begins
+-- a stretch ends before a later one begins
 pub ends-before : (ns : List ℕ) (i k : ℕ) → i < k → k ≤ length ns → sum (take i ns) + get_or ns i 0 ≤ sum (take k ns)
 ends-before [] i k lt le = absurd (omega (arith, lt, le))
 ends-before (n ∷ ns) i zero lt le = absurd (omega (arith, lt))

@@ -10,7 +10,7 @@ use Rattle.cell_join_tiles.specs.Beginnings.{Begun, clumps_in_tile, clumps_in_ro
 use Rattle.cell_join_tiles.specs.TileNumbers.{numbers_of_tile, numbers_of_row, numbers_by_tile, clumps_before_tile, TileNumbersAreListed}
 use Rattle.cell_join_tiles.proofs.LabelSums.{more-le, next-one, all-of}
 
--- lists one after the other: where each begins
+-- lists laid one after another, and the place at which each begins
 pub record AreLaid (f : ℕ → List ℕ) (before : ℕ → ℕ) (n : ℕ) : Type 0 where
   pub next : (i : ℕ) → i < n → before (suc i) ≡ before i + length (f i)
   pub rising : (i k : ℕ) → i ≤ k → before i ≤ before k
