@@ -60,7 +60,7 @@ pub is-some : (c : CellValue) (v : ℤ) → c ≡ Some v → IsSome c
 is-some None v e = cc
 is-some (Some w) v e = search
 
--- a path elsewhere, if adjacent cells stay adjacent and cells the same
+-- a path is kept by a move that keeps cells and adjacency
 module _ (j : Joining) (m whole : Grid) (to : Position → Position) (near : (p q : Position) → AreAdjacent j p q → AreAdjacent j (to p) (to q)) (cell : (v : ℤ) (p : Position) → cell_at_position m p ≡ Some v → cell_at_position whole (to p) ≡ Some v) where
   leads-by : (p : Position) (others : List Position) (q : Position) → LeadsTo j p others q → LeadsTo j (to p) (map to others) (to q)
   leads-by p [] q h = ap to h
@@ -277,7 +277,7 @@ before-then p q s (inl a) (inr b) = inl (let e = b.0 in omega (arith, a, e))
 before-then p q s (inr a) (inl b) = inl (let e = a.0 in omega (arith, e, b))
 before-then p q s (inr a) (inr b) = inr (a.0 ∙ b.0, omega (arith, a.1, b.1))
 
--- a first cell that is joined to a cell, and is that cell or comes before it
+-- a first cell that is joined to a cell, and is not later than that cell
 record HasFirst (j : Joining) (m : Grid) (p : Position) : Type 0 where
   first : Position
   is_first : IsFirst j m first

@@ -11,7 +11,7 @@ use Rattle.cell_parts.proofs.SumLemmas.{among, among-in, among-past, among-befor
 sum-more : (n : ℕ) (ns : List ℕ) → sum (n ∷ ns) ≡ n + sum ns
 sum-more n ns = sum-cons (λ n. n) n ns
 
--- how many stretches have a number
+-- the number of stretches that contain a number
 abbrev having : ℕ → List (ℕ × ℕ) → ℕ
 having i ss = count_by (λ s. among s.0 s.1 i) ss
 
@@ -51,7 +51,7 @@ between h w = record { top = h.0; left = w.0; rows = h.1; cols = w.1 }
 count-cons : (row col : ℕ) (r : Rectangle) (rs : List Rectangle) → count_by (λ r. is_in r row col) (r ∷ rs) ≡ cond (is_in r row col) 1 0 + count_by (λ r. is_in r row col) rs
 count-cons row col r rs = sum-cons (λ (r : Rectangle). cond (is_in r row col) 1 0) r rs
 
--- rectangles next to one another
+-- a row of rectangles contains a cell as many times as their column stretches contain its column
 count-beside : (row col : ℕ) (h : ℕ × ℕ) (ws : List (ℕ × ℕ)) (b : Bool) → among h.0 h.1 row ≡ b → count_by (λ r. is_in r row col) (map (between h) ws) ≡ cond b (having col ws) 0
 count-beside row col h [] true e = refl
 count-beside row col h [] false e = refl

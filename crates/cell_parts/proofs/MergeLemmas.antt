@@ -39,7 +39,7 @@ kept-sum skip whole k {X} cells parts sum = count_kept skip k whole ∙ by (is_l
     by true left = sym (out left parts)
     by false left = sum ∙ sym (in_ left parts)
 
--- the counts of a combination in the tables of parts
+-- the counts of a combination in the tables of parts are its counts in the cells of those parts
 beside-all : (skip : Skip) (k : Combination) {X : Type 0} (cells : X → List Combination) (parts : List X) → sum_by (count_in k) (map (λ part. table_of skip (cells part)) parts) ≡ sum_by (λ part. count_of k (kept_cells skip (cells part))) parts
 beside-all skip k cells [] = refl
 beside-all skip k cells (part ∷ parts) =
@@ -52,7 +52,7 @@ beside-all skip k cells (part ∷ parts) =
       beside-all skip k cells parts,
     )
 
--- if counts add up, tables merge
+-- if the counts of the parts add up, their tables merge into the table of the full map
 merge-from : (skip : Skip) (whole : List Combination) {X : Type 0} (cells : X → List Combination) (parts : List X) → ((k : Combination) → count_of k whole ≡ sum_by (λ part. count_of k (cells part)) parts) → (pairs : Pairs) → IsMerge (map (λ part. table_of skip (cells part)) parts) pairs ↔ IsTable skip whole pairs
 merge-from skip whole cells parts adds pairs =
     let sum : (k : Combination) → sum_by (count_in k) (map (λ part. table_of skip (cells part)) parts) ≡ count_of k (kept_cells skip whole) = λ k.

@@ -46,7 +46,7 @@ line-add : (g h : ℕ → ℕ) (a n : ℕ) → line (λ i. g i + h i) a n ≡ li
 line-add g h a zero = refl
 line-add g h a (suc n) = omega (arith, line-add g h (a + 1) n)
 
--- whether i is one of the n numbers from a on
+-- whether i is one of the n numbers from a
 abbrev pub among : ℕ → ℕ → ℕ → Bool
 among a n i = leb a i && ltb i (a + n)
 
@@ -68,7 +68,7 @@ among-before a n i lt = ap (λ b. b && ltb i (a + n)) (not-leb a i lt)
         by true e = absurd (let le = leb-true a i e in omega (arith, le, lt))
         by false e = refl
 
--- a sum of n terms is the sum of a longer line without its other terms
+-- a sum of n terms is the sum of a longer line in which all other terms are 0
 line-within : (g : ℕ → ℕ) (a n total : ℕ) → a + n ≤ total → line g a n ≡ line (λ i. cond (among a n i) (g i) 0) 0 total
 line-within g a n total fits =
     let h = λ (i : ℕ). cond (among a n i) (g i) 0 in
@@ -134,7 +134,7 @@ pub sum-cons : {X : Type 0} (f : X → ℕ) (x : X) (xs : List X) → sum_by f (
 sum-cons f x xs = sum_by-append f (x ∷ []) xs ∙ ap (λ n. n + sum_by f xs) (zero-add (f x))
 
 module _ (rows cols : ℕ) (whole : List Grid) (picks : List ℕ) (k : Combination) where
-  -- what a part adds at a cell
+  -- the value that a part adds at a cell
   abbrev adds : ℕ → ℕ → Part → ℕ
   adds row col part = cond (is_in part.place row col) (one-at whole picks k row col) 0
 
@@ -155,7 +155,7 @@ module _ (rows cols : ℕ) (whole : List Grid) (picks : List ℕ) (k : Combinati
       ∙ sym (total-add (λ row col. adds row col part) (λ row col. sum_by (adds row col) parts) rows cols)
       ∙ total-same (λ row col. adds row col part + sum_by (adds row col) parts) (λ row col. sum_by (adds row col) (part ∷ parts)) rows cols (λ row col h w. sym (sum-cons (adds row col) part parts))
 
-  -- what all parts add at a cell: the one that it lies in
+  -- at a cell, all parts together add the value of the part that contains the cell
   adds-all : (row col : ℕ) (b : Bool) (parts : List Part) → sum_by (λ part. cond (is_in part.place row col) (cond b 1 0) 0) parts ≡ cond b (count_by (λ r. is_in r row col) (map (λ part. part.place) parts)) 0
   adds-all row col true [] = refl
   adds-all row col false [] = refl
