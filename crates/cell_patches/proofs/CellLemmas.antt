@@ -1,4 +1,4 @@
--- What is found at a cell.
+-- The values found at a cell.
 use Rattle.std.proofs.Common.{◌≡◌, ℕ, zero, suc, pos, ◌+◌, ◌-◌, ◌<◌, ◌≤◌, true, false, List, Some, None, get_or, refl}
 use Rattle.std.proofs.Common.{ap, sym, ◌∙◌, arith, inl, inr, ◌⊎◌, cond}
 use Rattle.std.specs.Prelude.{nat_le}
@@ -14,7 +14,7 @@ use Rattle.cell_patches.specs.parts.Passes.{HasRoomForCell, above_by, west_in, l
 use Rattle.cell_patches.proofs.InsideLemmas.{of_from, of_to}
 use Rattle.cell_patches.proofs.PassLemmas.{all_other, all_same, has_room}
 
--- the cells on the north and west sides
+-- the number north of a cell, and the number west of it
 north_is : (numbers : Grid) (r c : ℕ) → above_by 1 numbers r c ≡ north_of numbers r c
 north_is numbers zero c = refl
 north_is numbers (suc r) c =
@@ -24,7 +24,7 @@ west_is : (numbers : Grid) (r c : ℕ) → west_in (row_at numbers r) c ≡ west
 west_is numbers r zero = refl
 west_is numbers r (suc c) = refl
 
--- the core
+-- a cell has at least `depth` steps exactly if the cell `depth` rows further north is in the core
 core_is : (numbers : Grid) (depth n r c steps : ℕ) → HasSteps numbers n r c steps
     → cond (nat_le depth steps) 1 0 ≡ delayed depth (core_at numbers depth n) r c
 unfolding delayed
@@ -47,7 +47,7 @@ core_is numbers depth n r c steps h = by_case (cases_lt steps depth)
         let is : is_inside numbers n depth (r - depth) c ≡ true = (h.exactly depth (r - depth) (omega arith)).0 le in
         rw (le-leb depth steps le, le-leb depth r low, is) refl
 
--- a side of a cell of the patch
+-- at a cell of the patch, the count for the patch is the count itself
 of_patch : (numbers : Grid) (n r c many : ℕ) → is_in_patch numbers n r c ≡ true
     → many ≡ cond (is_in_patch numbers n r c) many 0
 of_patch numbers n r c many h = rw h refl
@@ -91,7 +91,7 @@ cell_found maps depth n r c lines class steps cell f h is cell_is found =
         (ap (λ (xs : List CellValue). get_or xs (c + 1) None) h.at.here) in
         omega arith
 
--- a cell of a patch was with_one_more
+-- a patch has room for a cell that is found in it
 pub cell_room : (maps : MapPair) (depth n r c : ℕ) (lines : NearRows) (class : CellValue) (steps : ℕ)
     (cell : CellValue) (f : Found) (patches : List Patch)
     → IsCellReady maps depth r c lines class steps → cell_at maps.numbers r c ≡ Some (pos (n + 1))
@@ -120,7 +120,7 @@ cell_added maps depth n r c lines class steps cell f old new h is cell_is found 
     (λ a b of. h.numbered.alike (n + 1) a b r c of (of_from maps.numbers (n + 1) r c is))
     (cell_found maps depth (n + 1) r c lines class steps cell f h is cell_is found) adds read
 
--- a null cell was passed
+-- reading a null cell changes nothing
 pub cell_passed : (maps : MapPair) (depth r c : ℕ) (patches : List Patch) → cell_at maps.numbers r c ≡ None
     → ArePatchesRead maps.map maps.numbers depth r c patches
     → ArePatchesRead maps.map maps.numbers depth r (c + 1) patches
@@ -130,7 +130,7 @@ cell_passed maps depth r c patches none read =
     _ (λ of. let f : None ≡ Some (pos (k + 1)) = sym none ∙ of_to maps.numbers (k + 1) r c of in cc))
     (λ n is. absurd (let f : None ≡ Some (pos n) = sym none ∙ is in cc)) read
 
--- whether there is a number
+-- if the cell read is null, the map of numbers is null there
 pub none_here : (maps : MapPair) (depth r c : ℕ) (lines : NearRows) (class : CellValue) (steps : ℕ) (cell : CellValue)
     → IsCellReady maps depth r c lines class steps → cell ≡ get_or lines.here.now c None → is_none cell ≡ true
     → cell_at maps.numbers r c ≡ None

@@ -6,7 +6,7 @@ use Rattle.cell_core.specs.Grid.{Grid, cell_at}
 use Rattle.cell_patches.specs.Patches.{is_in_patch, is_inside}
 use Rattle.cell_patches.specs.parts.Passes.{HasSteps}
 
--- the test of a cell
+-- a cell with the number of the patch passes the test of the patch
 pub of_from : (numbers : Grid) (n r c : ℕ) → cell_at numbers r c ≡ Some (pos n) → is_in_patch numbers n r c ≡ true
 of_from numbers n r c e = (cell_eq-Decides (cell_at numbers r c) (Some (pos n))).1 e
 
@@ -86,7 +86,7 @@ pub of_same : (numbers : Grid) (n a b x y : ℕ) → a ≡ x → b ≡ y → is_
 of_same numbers n a b x y row col h =
     subst (λ z. is_in_patch numbers n z b ≡ true) (sym row) (subst (λ z. is_in_patch numbers n x z ≡ true) (sym col) h)
 
--- a diamond of one step more: of three diamonds and two cells
+-- a diamond with one more step consists of three diamonds and two cells
 larger_from : (numbers : Grid) (n k center c : ℕ) → IsWithin numbers n (suc k) (suc center) (suc c)
     → IsWithin numbers n k (suc center) c × IsWithin numbers n k (suc center) (suc (suc c))
     × IsWithin numbers n k center (suc c)
@@ -121,7 +121,7 @@ larger_to numbers n k center c west east north above here = record {
       (cases_order b (suc c));
 }
 
--- if a diamond with a step or more is within a patch, so are the cells next to its lowest cell to the north
+-- if a diamond with a step or more is within a patch, the cells north of its lowest cell are in the patch too
 pub pure : (numbers : Grid) (n k center r c : ℕ) → center + suc k ≡ suc (suc r)
     → is_inside numbers n (suc k) center (suc c) ≡ true
     → ((is_in_patch numbers n (suc r) (suc c) ≡ true) × (is_in_patch numbers n (suc r) c ≡ true))
@@ -132,7 +132,7 @@ pure numbers n k center r c e h =
       (w.all (suc r) (suc (suc c)) (omega arith), w.all r (suc c) (omega arith)),
     )
 
--- no diamond with a step has its lowest cell at the edge of the map
+-- a diamond with at least one step does not have its lowest cell at the edge of the map
 pub edge_row : (numbers : Grid) (n k center r c : ℕ) → center + suc k ≡ r → r ≤ 1
     → is_inside numbers n (suc k) center c ≡ true → ⊥
 edge_row numbers n k center r c e small h =
@@ -141,7 +141,7 @@ edge_row numbers n k center r c e small h =
 pub edge_col : (numbers : Grid) (n k center : ℕ) → is_inside numbers n (suc k) center 0 ≡ true → ⊥
 edge_col numbers n k center h = let w = within_from numbers n (suc k) center 0 h in let left = w.left in omega arith
 
--- a diamond without a step, and a diamond of a step more than the smallest of three
+-- a cell that is not the lowest cell of any diamond with a step has 0 steps
 pub steps_none : (numbers : Grid) (n r c : ℕ) → is_in_patch numbers n r c ≡ true
     → ((k center : ℕ) → center + suc k ≡ r → is_inside numbers n (suc k) center c ≡ true → ⊥) → HasSteps numbers n r c 0
 unfolding is_inside

@@ -1,4 +1,4 @@
--- The zone that leads, once a zone has more cells.
+-- The leading zone, after a zone gains cells.
 use Rattle.std.proofs.Common.{◌≡◌, ◌≢◌, ℕ, ℤ, pos, ◌+◌, ◌<◌, ◌≤◌, ◌≤ℤ◌, ◌<ℤ◌, true, false, Bool, cond, List, length}
 use Rattle.std.specs.HashMap.{HashMap, get}
 use Rattle.std.proofs.Common.{get_or, Option, Some, None, unwrap_or, refl, ap, sym, subst, ◌∙◌, arith, inl, inr, ◌⊎◌}
@@ -16,7 +16,7 @@ cases_zone x y = by (int_eq x y) refl
     by true e = inl ((signed_Decides x y).0 e)
     by false e = inr (λ same. both_ways _ e ((signed_Decides x y).1 same))
 
--- counts of cells by zones before and after a zone has more
+-- counts of cells per zone, before and after one zone gains cells
 pub record IsRaised (before after : ℤ → ℕ) (zone : ℤ) (many : ℕ) : Type 0 where
   pub here : after zone ≡ many
   pub more : before zone ≤ many
@@ -31,7 +31,7 @@ module _ (before after : ℤ → ℕ) (zone : ℤ) (many : ℕ) (raised : IsRais
       by (inl same) = let e = ap after same ∙ raised.here in omega arith
       by (inr apart) = let e = raised.others other apart in let l = below other in omega arith
 
-  -- no zone led
+  -- the first zone that gains cells leads
   pub lead_first : (old : Lead) → IsLead before old → old.zone ≡ None → 0 < many
       → IsLead after (record { zone = Some zone; cells = many })
   lead_first old h none some = record {
@@ -49,7 +49,7 @@ module _ (before after : ℤ → ℕ) (zone : ℤ) (many : ℕ) (raised : IsRais
           let n = h.none none in
           absurd (omega arith)
 
-  -- the zone takes the lead
+  -- a zone with more cells, or as many cells and a smaller number, takes the lead
   pub lead_taken : (old : Lead) (first : ℤ) → IsLead before old → old.zone ≡ Some first
       → (old.cells < many) ⊎ ((many ≡ old.cells) × (zone <ℤ first))
       → IsLead after (record { zone = Some zone; cells = many })
@@ -81,7 +81,7 @@ module _ (before after : ℤ → ℕ) (zone : ℤ) (many : ℕ) (raised : IsRais
           let l = smaller other (sym (raised.others other apart) ∙ equal) ahead in
           omega (arith, ints)
 
-  -- the zone does not take the lead
+  -- a zone with fewer cells, or as many cells and a larger number, does not take the lead
   pub lead_kept : (old : Lead) (first : ℤ) → IsLead before old → old.zone ≡ Some first → many ≤ old.cells
       → (many ≡ old.cells → first ≤ℤ zone) → IsLead after old
   lead_kept old first h leads fewer small = record {
@@ -127,7 +127,7 @@ lead_same f g lead same h = record {
   first = λ z other is equal. h.first z other is (sym (same other) ∙ equal);
 }
 
--- what a pair has more
+-- the cells that a pair gains
 abbrev pub IsAddedTo : (ℤ → ℤ → ℕ) → (ℤ → ℤ → ℕ) → ℤ × ℤ → ℕ → Type 0
 IsAddedTo f g pair cells = (v z : ℤ) → g v z ≡ f v z + cond (same_pair pair (v, z)) cells 0
 
@@ -161,12 +161,12 @@ leads_raised f g pair cells total old new more sum raises leads k lt = by (cases
         (λ z. added_apart f g pair cells more (pos (k + 1)) z (λ is. apart (same_to pair (pos (k + 1), z) is).0))
         (leads k within))
 
--- no run
+-- a count of 0 stays 0
 pub idle : (b : Bool) (cells : ℕ) → cells ≡ 0 → cond b cells 0 ≡ 0
 idle true cells none = none
 idle false cells none = refl
 
--- a table in which a pair has more cells
+-- a table in which one pair gains cells
 pub cells_more : {S : Type 0} (old new : HashMap (ℤ × ℤ) ℕ S) (pair q : ℤ × ℤ) (was cells : ℕ)
     → was ≡ cells_in_table old pair
     → get same_pair new q ≡ cond (same_pair pair q) (Some (was + cells)) (get same_pair old q)

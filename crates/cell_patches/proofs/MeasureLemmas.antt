@@ -22,7 +22,7 @@ use Rattle.cell_patches.specs.parts.Passes.{IsRowsReady, IsRowReady, AreLines, a
 use Rattle.cell_patches.proofs.InsideLemmas.{of_from, of_to, inside_south}
 use Rattle.cell_patches.proofs.SumLemmas.{earlier_all, delayed_all}
 
--- a cell with a number is not null on the map
+-- a numbered cell is not null on the map
 some_class : (j : Joining) (m numbers : Grid) (p : Position) (n : ℕ) → IsClumping j m numbers
     → cell_at_position numbers p ≡ Some (pos n) → (v : ℤ) × (cell_at_position m p ≡ Some v)
 some_class j m numbers p n clumping is = by_case (cell_at_position m p) refl
@@ -61,7 +61,7 @@ numbered j m numbers law clumping filled region = record {
   cols_most = region.cols_most;
 }
 
--- the steps of the rows above, a row further
+-- the steps of a row are the steps of the row above the next row
 pub steps_next_one : (numbers : Grid) (r : ℕ) (steps : List ℕ) → AreSteps numbers r steps
     → AreStepsAbove 1 numbers (r + 1) steps
 steps_next_one numbers r steps h a e = subst (λ x. AreSteps numbers x steps) (let f : r ≡ a = omega arith in f) h
@@ -73,7 +73,7 @@ steps_next_two numbers r steps h a e = h a (omega arith)
 pub steps_none_above : (rows : ℕ) (numbers : Grid) (steps : List ℕ) → 0 < rows → AreStepsAbove rows numbers 0 steps
 steps_none_above rows numbers steps some a e = absurd (omega arith)
 
--- a patch of which all cells were read
+-- after all cells are read, a patch is read completely
 pub read_all : (maps : MapPair) (depth n : ℕ) (p : Patch) → ArePatchNumbers maps → 0 < depth → (a b : ℕ)
     → is_in_patch maps.numbers n a b ≡ true
     → IsPatchRead maps.map maps.numbers depth n maps.numbers.region.rows 0 p
@@ -133,7 +133,7 @@ read_all maps depth n p are some a b here h =
     last_col (inl lt) most = h.last_col lt
     last_col (inr le) most = subst (HasCol maps.numbers n) (let f : b ≡ p.last_col = omega arith in f) (a, here)
 
--- all patches, once all cells were read
+-- all patches are measured after all cells are read
 pub measured_all : (j : Joining) (m numbers : Grid) (depth : ℕ) (patches : List Patch) → NoNumberIsLeftOut
     → IsClumping j m numbers → ArePatchNumbers (record { map = m; numbers = numbers }) → 0 < depth
     → ArePatchesRead m numbers depth numbers.region.rows 0 patches → AreMeasured m numbers depth patches
@@ -160,7 +160,7 @@ measured_all j m numbers depth patches law clumping are some h = record {
         within (inl w) = w.1
         within (inr w) = absurd (let f : None ≡ Some p = sym w.1 ∙ is in cc)
 
--- a row is at hand
+-- the steps of a row are ready, given its lines
 pub row_ready : (m numbers : Grid) (depth r : ℕ) (lines : NearRows) (classes : List CellValue)
     (steps above second_above : List ℕ) (patches : List Patch)
     → IsRowsReady (record { map = m; numbers = numbers }) depth r above second_above patches
@@ -189,7 +189,7 @@ row_ready m numbers depth r lines classes steps above second_above patches h two
       });
     }
 
--- all rows are at hand before the first one
+-- all rows are ready before the first row is read
 pub rows_ready : (j : Joining) (m numbers : Grid) (depth r : ℕ) (above second_above : List ℕ) (patches : List Patch)
     → NoNumberIsLeftOut → IsClumping j m numbers → IsFilled numbers.region numbers.rows → IsRegion numbers.region
     → r < numbers.region.rows → AreStepsAbove 1 numbers r above → AreStepsAbove 2 numbers r second_above

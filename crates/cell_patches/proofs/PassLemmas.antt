@@ -18,13 +18,13 @@ use Rattle.cell_patches.proofs.SumLemmas.{earlier_more, earlier_row, earlier_non
 abbrev pick : Bool → ℕ → ℕ → ℕ
 pick t a b = cond t a b
 
--- a cell has one number
+-- a cell has only one number
 one_number : (numbers : Grid) (n k r c : ℕ) → is_in_patch numbers n r c ≡ true → is_in_patch numbers k r c ≡ true
     → n ≡ k
 one_number numbers n k r c h g =
     (let both : Some (pos n) ≡ Some (pos k) = sym (of_to numbers n r c h) ∙ of_to numbers k r c g in cc)
 
--- what is before the next cell: what was before, and the cell
+-- a cell before the next cell is before this cell, or is this cell
 before_more : {P : ℕ → ℕ → Type 0} (r c : ℕ) → ((a b : ℕ) → ComesBefore a b r c → P a b) → P r c → (a b : ℕ)
     → ComesBefore a b r (c + 1) → P a b
 before_more {P} r c before here a b (inl lt) = before a b (inl lt)
@@ -35,7 +35,7 @@ before_more {P} r c before here a b (inr both) = by_case (cases_order b c)
     by_case (inr (inl lt)) = before a b (inr (both.0, lt))
     by_case (inr (inr gt)) = absurd (let lt = both.1 in omega arith)
 
--- nothing of a cell that is not of the patch
+-- a cell outside the patch adds nothing
 none_of : (numbers : Grid) (n r c many : ℕ) → is_in_patch numbers n r c ≡ false → if_in_patch numbers n r c many ≡ 0
 none_of numbers n r c many apart = rw apart refl
 
@@ -55,7 +55,7 @@ delayed_other numbers depth n r c apart = by_case (nat_le depth r) refl
     by_case false e = refl
     by_case true e = inside (is_inside numbers n depth (r - depth) c) (leb-true depth r e) refl
 
--- a cell of another patch, or null
+-- a cell that is not in the patch changes nothing that was read of the patch
 pub read_other : (m numbers : Grid) (depth n r c : ℕ) (p : Patch) → is_in_patch numbers n r c ≡ false
     → IsPatchRead m numbers depth n r c p → IsPatchRead m numbers depth n r (c + 1) p
 read_other m numbers depth n r c p apart h =
@@ -88,7 +88,7 @@ read_other m numbers depth n r c p apart h =
       last_col = h.last_col;
     }
 
--- the smaller and the larger of two numbers that are of a kind
+-- if two numbers have a property, their minimum has it too
 kind_min : (K : ℕ → Type 0) (a b most : ℕ) → b < most → (a < most → K a) → K b → K (min a b)
 kind_min K a b most b_lt one other = by_case (cases_lt a b)
   where
@@ -103,7 +103,7 @@ kind_max K a b one other = by_case (cases_lt b a)
     by_case (inl lt) = subst K (let e : a ≡ max a b = omega arith in e) (one (omega arith))
     by_case (inr le) = subst K (let e : b ≡ max a b = omega arith in e) other
 
--- a cell of the patch
+-- reading a cell of the patch adds what is found there
 pub read_same : (m numbers : Grid) (depth n r c : ℕ) (p : Patch) (f : Found) → r < 4294967295 → c < 4294967295
     → is_in_patch numbers n r c ≡ true
     → ((a b : ℕ) → is_in_patch numbers n a b ≡ true → cell_at m a b ≡ cell_at m r c)
@@ -148,7 +148,7 @@ read_same m numbers depth n r c p f r_lt c_lt inside alike found h =
           λ _. kind_max (HasCol numbers n) p.last_col f.col h.last_col (subst (HasCol numbers n) (sym col) (r, inside));
     }
 
--- what is before the first cell of the next row is before the end of this one, if nothing comes after it
+-- a cell of the patch before the start of the next row is before the end of this row
 before_row : {P : ℕ → ℕ → Type 0} (numbers : Grid) (n r : ℕ)
     → ((a b : ℕ) → is_in_patch numbers n a b ≡ true → b < numbers.region.cols)
     → ((a b : ℕ) → ComesBefore a b r numbers.region.cols → is_in_patch numbers n a b ≡ true → P a b) → (a b : ℕ)
@@ -160,7 +160,7 @@ before_row {P} numbers n r narrow before a b (inl lt) of = by_case (cases_lt a r
     by_case (inr le) = before a b (inr (omega arith, narrow a b of)) of
 before_row {P} numbers n r narrow before a b (inr both) of = absurd (let lt = both.1 in omega arith)
 
--- the next row
+-- a patch that is read to the end of a row is read to the start of the next row
 pub read_row : (m numbers : Grid) (depth n r : ℕ) (p : Patch)
     → ((a b : ℕ) → is_in_patch numbers n a b ≡ true → b < numbers.region.cols)
     → IsPatchRead m numbers depth n r numbers.region.cols p → IsPatchRead m numbers depth n (r + 1) 0 p
@@ -180,7 +180,7 @@ read_row m numbers depth n r p narrow h =
       last_col = h.last_col;
     }
 
--- before the first cell
+-- no cell comes before the first cell
 no_earlier : (a b : ℕ) → ComesBefore a b 0 0 → ⊥
 no_earlier a b (inl lt) = omega arith
 no_earlier a b (inr both) = let lt = both.1 in omega arith
@@ -202,7 +202,7 @@ read_none m numbers depth n =
       last_col = λ lt. absurd (omega arith);
     }
 
--- all patches, a cell further
+-- all patches are read up to the next cell
 pub all_other : (m numbers : Grid) (depth r c : ℕ) (patches : List Patch)
     → ((k : ℕ) → is_in_patch numbers (k + 1) r c ≡ false)
     → ((n : ℕ) → cell_at numbers r c ≡ Some (pos n) → n ≤ length patches)
@@ -287,7 +287,7 @@ all_none m numbers depth patches none empty = record {
   last = λ some. absurd (omega arith);
 }
 
--- there is room for what is found at a cell
+-- the counts have room for what is found at a cell
 few_of : (numbers : Grid) (n r c many most : ℕ) → many ≤ most → if_in_patch numbers n r c many ≤ most
 few_of numbers n r c many most le = by_case (is_in_patch numbers n r c)
   where

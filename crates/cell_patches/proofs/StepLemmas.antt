@@ -10,7 +10,7 @@ use Rattle.cell_patches.specs.Patches.{is_inside}
 use Rattle.cell_patches.specs.parts.Passes.{AreLines, HasSteps, above_by, is_pure, GivesSteps}
 use Rattle.cell_patches.proofs.InsideLemmas.{of_from, of_to, pure, edge_row, edge_col, steps_none, steps_more}
 
--- the test of two cells of which one has a number
+-- a cell that equals a cell with a number has that number
 eq_to : (x y : CellValue) (n : ℕ) → y ≡ Some (pos n) → cell_eq x y ≡ true → x ≡ Some (pos n)
 eq_to x y n e h = (cell_eq-Decides x y).0 h ∙ e
 
@@ -29,7 +29,7 @@ pure_facts lines west n cell is_so =
     let three = and_parts _ _ two.1 in
     (eq_to _ _ n cell one.0, (eq_to _ _ n cell two.0, (eq_to _ _ n cell three.0, eq_to _ _ n cell three.1)))
 
--- a cell some rows above
+-- the cell one row above, by its row number
 up_one : (numbers : Grid) (r c : ℕ) → above_by 1 numbers (suc r) c ≡ cell_at numbers r c
 up_one numbers r c = let t : suc r - 1 ≡ r = omega arith in let le = le-leb 1 (suc r) (omega arith) in rw (le, t) refl
 
@@ -37,12 +37,12 @@ up_two : (numbers : Grid) (r c : ℕ) → above_by 2 numbers (suc (suc r)) c ≡
 up_two numbers r c =
     let t : suc (suc r) - 2 ≡ r = omega arith in let le = le-leb 2 (suc (suc r)) (omega arith) in rw (le, t) refl
 
--- the first column
+-- the first column has 0 steps
 pub steps_first : (lines : NearRows) (above second_above : List ℕ) → GivesSteps lines 0 above second_above 0
 steps_first lines above second_above numbers r h n is =
     steps_none numbers n r 0 (of_from numbers n r 0 is) (λ k center e inside. edge_col numbers n k center inside)
 
--- cells to the north that are not all equal
+-- if the cells to the north are not all equal, the cell has 0 steps
 pub steps_impure : (lines : NearRows) (west : ℕ) (above second_above : List ℕ) → is_pure lines west ≡ false
     → GivesSteps lines (west + 1) above second_above 0
 steps_impure lines west above second_above impure numbers zero h n is =
@@ -80,7 +80,7 @@ steps_impure lines west above second_above impure numbers (suc (suc r)) h n is =
         impure (and_from _ _ (eq_from _ _ n cell a)
         (and_from _ _ (eq_from _ _ n cell b) (and_from _ _ (eq_from _ _ n cell c) (eq_from _ _ n cell d))))
 
--- cells to the north that are all equal
+-- no cell of the first two rows has a cell two rows above it
 not_up : (numbers : Grid) (c n : ℕ) → above_by 2 numbers 0 c ≡ Some (pos n) → ⊥
 not_up numbers c n e = (let f : None ≡ Some (pos n) = e in cc)
 
@@ -155,7 +155,7 @@ steps_pure lines west steps above second_above is_so value numbers (suc (suc r))
     many : steps ≡ suc (min (min w e) nn)
     many = let most = h.row_most in let within = one.within in omega (arith, value)
 
--- a row of cells of which those before one have their steps
+-- if each cell of a row up to its end has its steps, the whole row has its steps
 pub steps_row : (numbers : Grid) (r : ℕ) (lines : NearRows) (here : List ℕ) → AreLines numbers r lines
     → length here ≡ length lines.here.now
     → ((c : ℕ) → c < length here → (n : ℕ) → cell_at numbers r c ≡ Some (pos n)

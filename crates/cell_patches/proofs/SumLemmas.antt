@@ -6,18 +6,18 @@ use Rattle.std.specs.Prelude.{nat_le}
 use Rattle.cell_patches.specs.Patches.{over_cols, over_rows}
 use Rattle.cell_patches.specs.parts.Passes.{over_earlier, delayed}
 
--- one cell more
+-- the sum up to the next cell adds the value of this cell
 pub earlier_more : (cols : ℕ) (f : ℕ → ℕ → ℕ) (r c : ℕ)
     → over_earlier cols f r (c + 1) ≡ over_earlier cols f r c + f r c
 unfolding over_cols
 earlier_more cols f r c = rw add-one (omega arith)
 
--- one row more
+-- the sum up to the start of the next row is the sum up to the end of this row
 pub earlier_row : (cols : ℕ) (f : ℕ → ℕ → ℕ) (r : ℕ) → over_earlier cols f (r + 1) 0 ≡ over_earlier cols f r cols
 unfolding over_cols over_rows
 earlier_row cols f r = rw add-one (omega arith)
 
--- none at first
+-- the sum before the first cell is 0
 pub earlier_none : (cols : ℕ) (f : ℕ → ℕ → ℕ) → over_earlier cols f 0 0 ≡ 0
 unfolding over_cols over_rows
 earlier_none cols f = refl
@@ -26,7 +26,7 @@ pub earlier_all : (cols : ℕ) (f : ℕ → ℕ → ℕ) (r : ℕ) → over_earl
 unfolding over_cols
 earlier_all cols f r = omega arith
 
--- sums of small numbers are small
+-- a sum of values that are at most `most` is at most their number times `most`
 cols_most : (f : ℕ → ℕ) (most c : ℕ) → ((b : ℕ) → f b ≤ most) → over_cols f c ≤ c * most
 unfolding over_cols
 cols_most f most zero small = omega arith
@@ -43,7 +43,7 @@ pub earlier_most : (f : ℕ → ℕ → ℕ) (most cols r c : ℕ) → ((a b : �
 earlier_most f most cols r c small =
     let rows = rows_most f most cols r small in let here = cols_most (f r) most c (small r) in omega arith
 
--- what is found further south, over as many rows more
+-- a sum of values that are all 0 is 0
 cols_none : (f : ℕ → ℕ) (c : ℕ) → ((b : ℕ) → f b ≡ 0) → over_cols f c ≡ 0
 unfolding over_cols
 cols_none f zero none = refl
@@ -61,7 +61,7 @@ unfolding over_cols
 cols_all f g zero same = refl
 cols_all f g (suc c) same = let before = cols_all f g c same in let here = same c in omega arith
 
--- the sum of what is found further south
+-- a delayed value is 0 in the first rows, and afterwards is the value some rows above
 pub delayed_before : (rows : ℕ) (f : ℕ → ℕ → ℕ) (a b : ℕ) → a < rows → delayed rows f a b ≡ 0
 unfolding delayed
 delayed_before rows f a b lt = rw (lt-leb rows a lt) refl
@@ -93,7 +93,7 @@ rows_end f cols r (suc more) none =
     let here = cols_none (f (r + more)) cols (λ b. none (r + more) b (omega arith)) in
     rw e (omega arith)
 
--- all that is found further south, if nothing is found in the last rows
+-- a delayed sum equals the sum itself if the last rows hold only zeros
 pub delayed_all : (rows : ℕ) (f : ℕ → ℕ → ℕ) (cols r : ℕ) → ((a b : ℕ) → r ≤ a + rows → f a b ≡ 0)
     → over_rows (delayed rows f) cols r ≡ over_rows f cols r
 delayed_all rows f cols r none = by_case (cases_lt r rows)

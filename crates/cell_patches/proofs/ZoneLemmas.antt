@@ -1,4 +1,4 @@
--- The main zones, of all cells that are counted.
+-- The main zones, after all cells are counted.
 use Rattle.std.proofs.Common.{◌≡◌, ℕ, ℤ, pos, ◌+◌, ◌<◌, ◌≤◌, ◌&&◌, true, false, Bool, cond, List, length, get_or, map}
 use Rattle.std.proofs.Common.{Option, Some, None, refl, ap, sym, subst, ◌∙◌, arith, mul-le-mul, inl, inr, ◌⊎◌}
 use Rattle.std.specs.List.{slice_get}
@@ -24,7 +24,7 @@ one_most number zone v z = by (cell_eq number (Some v) && cell_eq zone (Some z))
     by true = omega arith
     by false = omega arith
 
--- there is room for the next cell
+-- the counts have room for the next cell
 pub room_for : (maps : ZoneMaps) (r c : ℕ) (counts : ZoneCounts) → AreZonesCounted maps r c counts
     → IsRegion maps.numbers.region → r ≤ maps.numbers.region.rows → c ≤ maps.numbers.region.cols → HasRoomFor 1 counts
 room_for maps r c counts h region row col v z =
@@ -39,7 +39,7 @@ room_for maps r c counts h region row col v z =
     let product = mul-le-mul row_limit col_limit in
     omega arith
 
--- a cell more
+-- one more cell adds its pair to the counts
 pub counted_more : (maps : ZoneMaps) (r c : ℕ) (old new : ZoneCounts) (number zone : CellValue)
     → AreZonesCounted maps r c old → number ≡ cell_at maps.numbers r c → zone ≡ cell_at maps.zones r c
     → ((v z : ℤ) → counted new v z ≡ counted old v z + one_pair number zone v z) → AreLeads new
@@ -56,7 +56,7 @@ counted_more maps r c old new number zone h is other more leads = record {
   leads = leads;
 }
 
--- a row more
+-- counts up to the end of a row are counts up to the start of the next row
 pub counted_row : (maps : ZoneMaps) (r c : ℕ) (counts : ZoneCounts) → AreZonesCounted maps r c counts
     → c ≡ maps.numbers.region.cols → AreZonesCounted maps (r + 1) 0 counts
 counted_row maps r c counts h end = record {
@@ -66,7 +66,7 @@ counted_row maps r c counts h end = record {
   leads = h.leads;
 }
 
--- nothing at first
+-- the counts are 0 before the first cell
 pub counted_none : (maps : ZoneMaps) (counts : ZoneCounts) → ((v z : ℤ) → counted counts v z ≡ 0) → AreLeads counts
     → AreZonesCounted maps 0 0 counts
 counted_none maps counts none leads = record {
@@ -74,7 +74,7 @@ counted_none maps counts none leads = record {
   leads = leads;
 }
 
--- all cells, once no run is left
+-- all cells are counted after the last run is added
 pub counted_all : (maps : ZoneMaps) (r : ℕ) (old new : ZoneCounts) → AreZonesCounted maps r 0 old
     → r ≡ maps.numbers.region.rows → ((v z : ℤ) → counted new v z ≡ counted old v z) → new.run ≡ 0 → AreLeads new
     → AreAllZonesCounted maps new
@@ -92,7 +92,7 @@ counted_all maps r old new h end same closed leads = record {
   leads = leads;
 }
 
--- the zone that leads in a patch is its main zone
+-- the leading zone of a patch is its main zone
 main_zone : (numbers zones : Grid) (n : ℕ) (cells : ℤ → ℕ) (lead : Lead)
     → ((zone : ℤ) → cells zone ≡ cells_in_zone numbers zones n zone) → IsLead cells lead
     → (zone : Option ℤ) → lead.zone ≡ zone → IsMainZone numbers zones n zone
@@ -107,7 +107,7 @@ main_zone numbers zones n cells lead same h (Some first) is =
       first = λ other equal. h.first first other is (same other ∙ equal ∙ sym e ∙ some.0);
     }
 
--- the zones that lead are the main zones
+-- the leading zones are the main zones
 pub main_zones : (maps : ZoneMaps) (counts : ZoneCounts) (main : List (Option ℤ)) → AreAllZonesCounted maps counts
     → main ≡ map (λ (lead : Lead). lead.zone) counts.leads.items → AreMainZones maps.numbers maps.zones main
 main_zones maps counts main h e k zone is = by (slice_get counts.leads.items k) refl
