@@ -1,4 +1,4 @@
--- The text of cells one after another: stretch after stretch, row after row.
+-- The text of cells one after another, by stretches and rows.
 use Rattle.std.proofs.Common.{◌≡◌, ℕ, zero, suc, ◌+◌, ◌-◌, ◌<◌, ◌≤◌, List, [], ◌∷◌, ◌++◌, length, map, drop, replicate}
 use Rattle.std.proofs.Common.{All, Fits, w32, true, false, not, ap, sym, ◌∙◌, arith}
 use Rattle.std.proofs.Common.{append_assoc, append-nil, zero-add, add-zero}
@@ -36,7 +36,7 @@ module _ (f : Combination → List ℕ) (skip : Skip) where
   text-append xs ys = ap (flat_map f) (filter-append (λ k. not (is_left_out skip k)) xs ys)
       ∙ flat_map-append f (kept_cells skip xs) (kept_cells skip ys)
 
-  -- cells that are alike and left out have no text
+  -- equal cells that are left out have no text
   pub alike-left : (k : Combination) (n : ℕ) → is_left_out skip k ≡ true → text (replicate n k) ≡ []
   alike-left k n left = ap (flat_map f) (kept-replicate skip k n true left)
 
@@ -45,7 +45,7 @@ module _ (f : Combination → List ℕ) (skip : Skip) where
   alike-kept k n kept = ap (flat_map f) (kept-replicate skip k n false kept)
 
   module _ (maps : List Grid) (picks : List ℕ) where
-    -- a row more
+    -- the text of one more row is appended
     pub row-more : (cols row : ℕ) → text (all_combinations maps picks (row + 1) cols)
         ≡ text (all_combinations maps picks row cols) ++ text (row_combinations maps picks cols row)
     row-more cols row =
@@ -54,7 +54,7 @@ module _ (f : Combination → List ℕ) (skip : Skip) where
         ∙ ap text (all_combinations_more maps picks cols row)
         ∙ text-append (all_combinations maps picks row cols) (row_combinations maps picks cols row)
 
-    -- and the rows after it
+    -- the text of the rows so far, this row and the rows after it is the text of all rows
     pub rows-all : (cols row rows : ℕ) → row < rows
         → (text (all_combinations maps picks row cols) ++ text (row_combinations maps picks cols row))
         ++ text (flat_map (row_combinations maps picks cols) (range_with_len (row + 1) (rows - (row + 1))))
@@ -71,7 +71,7 @@ module _ (f : Combination → List ℕ) (skip : Skip) where
         ∙ ap (flat_map g) (sym (range-append 0 (row + 1) behind))
         ∙ ap (λ (m : ℕ). flat_map g (range_with_len 0 m)) whole)
 
--- one more of texts that are alike
+-- one more equal text is appended
 pub flat_map-replicate-more : {X : Type 0} (f : X → List ℕ) (n : ℕ) (x : X) → flat_map f (replicate (n + 1) x) ≡ flat_map f (replicate n x) ++ f x
 flat_map-replicate-more f n x =
     let next : n + 1 ≡ suc n = omega arith in
@@ -95,7 +95,7 @@ pub record StandsAt (shelf : ShelfValue) (picks : List ℕ) (row cols col count 
   pub some : col < cols → 0 < count
   pub most : col + count ≤ cols
 
--- before the first column no run was passed
+-- before the first column, no columns of any run are passed
 pub stands-none : (cursors : List CursorValue) → All (λ c. 0 ≤ c.left) cursors
 stands-none cursors i d within = omega arith
 
@@ -123,7 +123,7 @@ module _ {shelf : ShelfValue} {picks : List ℕ} {row cols next : ℕ} {new : Li
         most = omega (arith, most, rest);
       }
 
-  -- it starts at the first column
+  -- the walk starts at the first column
   pub stands-start : (old : List CursorValue) {stored : RegionValue} → stored ≡ shelf.region → cols ≡ stored.cols
       → AreWideRows shelf row picks → map to_come old ≡ map (λ p. row_in shelf.maps row p) picks
       → map to_come new ≡ map to_come old
@@ -134,7 +134,7 @@ module _ {shelf : ShelfValue} {picks : List ℕ} {row cols next : ℕ} {new : Li
       passed-to 0 0 cols old wide (value ∙ ap (λ (r : RegionValue). r.cols) region) (zero-add cols) before passed ready
       same least most some
 
-  -- and continues after a stretch
+  -- the walk continues after a stretch
   pub stands-next : {col count : ℕ} {old : List CursorValue} {cells-before : Combination}
       → StandsAt shelf picks row cols col count old cells-before
       → map to_come new ≡ map (λ c. drop count (to_come c)) old
@@ -147,7 +147,7 @@ module _ {shelf : ShelfValue} {picks : List ℕ} {row cols next : ℕ} {new : Li
 
 module _ {shelf : ShelfValue} {picks : List ℕ} {row cols col count : ℕ} {cursors : List CursorValue}
     {cells : Combination} (walk : StandsAt shelf picks row cols col count cursors cells) where
-  -- there is a cell for each cursor, and for each map
+  -- there is one cell for each cursor
   pub stands-cells : length cells ≡ length cursors
   stands-cells = ap length walk.same ∙ length-map cursors (λ (c : CursorValue). c.cell)
 
@@ -171,7 +171,7 @@ module _ {shelf : ShelfValue} {picks : List ℕ} {row cols col count : ℕ} {cur
       alike shelf.maps row col cursors picks count j walk.ahead walk.least within ∙ sym walk.same))
       ∙ text-append f skip (map k (range_with_len 0 col)) (replicate count cells)
 
-  -- and the row ends if no column is left
+  -- the row ends if no columns are left
   pub stands-end : cols ≤ col → col ≡ shelf.region.cols
   stands-end ended = omega (arith, ended, walk.most, walk.region)
 

@@ -1,4 +1,4 @@
--- What the counts of a table add up to, and what a skip rule leaves of it.
+-- The sum of a table's counts, and the effect of a skip rule on them.
 use Rattle.std.proofs.Common.{◌≡◌, ℕ, zero, suc, ◌+◌, ◌*◌, ◌<◌, List, [], ◌∷◌, length, get_or, filter, All, Bool, true, false, not, cond, None, Some, refl, ap, sym, ◌∙◌, arith, zero-add}
 use Rattle.std.specs.Prelude.{sum_by}
 use Rattle.std.specs.List.{list_any}
@@ -37,7 +37,7 @@ is_eq-reverse Greater = refl
 eq-swap : (a b : Combination) → eq_by_cmp combination_cmp a b ≡ eq_by_cmp combination_cmp b a
 eq-swap a b = ap is_eq (combination_cmp_total.antisymm a b) ∙ is_eq-reverse (combination_cmp b a)
 
--- a smaller combination has no entry
+-- a combination smaller than all entries has no entry
 mark-none : (k : Combination) (es : Pairs) → below_all combination_cmp k es ≡ true → sum_by (mark k) es ≡ 0
 mark-none k [] b = refl
 mark-none k (e ∷ es) b =
@@ -46,7 +46,7 @@ mark-none k (e ∷ es) b =
     let here : mark k e ≡ 0 = ap (λ t. cond t 1 0) other in
     omega (arith, sum_by-cons (mark k) e es, here, mark-none k es both.1)
 
--- one that is found is just one entry's
+-- a combination that is found matches exactly one entry
 mark-one : (k : Combination) (es : Pairs) (n : ℕ) → is_sorted combination_cmp es ≡ true → find combination_cmp k es ≡ Some n → sum_by (mark k) es ≡ 1
 mark-one k [] n s f = cc
 mark-one k (e ∷ es) n s f =
@@ -62,18 +62,18 @@ mark-one k (e ∷ es) n s f =
           omega (arith, sum_by-cons (mark k) e es, here, mark-one k es n both.1 rest)
     ] refl f
 
--- the counts among no cells
+-- the counts among no cells are 0
 counts-none : (es : Pairs) → sum_by (λ e. count_of e.0 []) es ≡ 0
 counts-none [] = refl
 counts-none (e ∷ es) = omega (arith, sum_by-cons (λ e. count_of e.0 []) e es, counts-none es)
 
--- one cell more
+-- one more cell adds 1 to the counts of its own entries
 counts-cons : (k : Combination) (cells : List Combination) (es : Pairs) → sum_by (λ e. count_of e.0 (k ∷ cells)) es ≡ sum_by (mark k) es + sum_by (λ e. count_of e.0 cells) es
 counts-cons k cells [] = refl
 counts-cons k cells (e ∷ es) =
     omega (arith, sum_by-cons (λ e. count_of e.0 (k ∷ cells)) e es, sum_by-cons (mark k) e es, sum_by-cons (λ e. count_of e.0 cells) e es, count_cons e.0 k cells, counts-cons k cells es)
 
--- if each cell is one entry's, the counts are as many as the cells
+-- if each cell matches exactly one entry, the counts add up to the number of cells
 counts-all : (es : Pairs) (cells : List Combination) → All (λ k. sum_by (mark k) es ≡ 1) cells → sum_by (λ e. count_of e.0 cells) es ≡ length cells
 counts-all es [] all = counts-none es
 counts-all es (k ∷ cells) all =
@@ -81,7 +81,7 @@ counts-all es (k ∷ cells) all =
     let others = counts-all es cells (λ i d within. all (suc i) d (omega (arith, within))) in
     omega (arith, counts-cons k cells es, here, others)
 
--- each cell is counted
+-- each cell is counted at least once
 counts-self : (cells : List Combination) (i : ℕ) (d : Combination) → i < length cells → 0 < count_of (get_or cells i d) cells
 counts-self [] i d within = absurd (omega (arith, within))
 counts-self (k ∷ cells) zero d within =
@@ -99,7 +99,7 @@ counts-self (k ∷ cells) zero d within =
 counts-self (k ∷ cells) (suc i) d within =
     omega (arith, count_cons (get_or cells i d) k cells, counts-self cells i d (omega (arith, within)))
 
--- the counts of a table
+-- functions that agree on all entries have equal sums
 sum_by-same : (f h : Combination × ℕ → ℕ) (es : Pairs) → All (λ e. f e ≡ h e) es → sum_by f es ≡ sum_by h es
 sum_by-same f h [] all = refl
 sum_by-same f h (e ∷ es) all =
@@ -155,7 +155,7 @@ table-skips skip cells =
     left k true = refl
     left k false = refl
 
--- in a table of one map
+-- in a table of one map, skipping any null and skipping all nulls leave the same entries
 filter-alike : (es : Pairs) → All (λ e. length e.0 ≡ 1) es → filter (λ pair. not (list_any is_none pair.0)) es ≡ filter (λ pair. not (eq_by_cmp combination_cmp (None ∷ []) pair.0)) es
 filter-alike [] all = refl
 filter-alike (e ∷ es) all =

@@ -10,23 +10,23 @@ use Rattle.cell_stats_combinations.specs.Combinations.{Combination}
 use Rattle.cell_stats.specs.parts.Preceded.{preceded_texts, pick_text, next_text, others_text}
 use Rattle.cell_stats.specs.TableText.{FormatValue, cell_fields, combination_fields, count_fields, label_of_cell, pair_line}
 
--- the first text, and each other one after the byte
+-- a joined text is the first text, then each other text after the separator
 pub join-cons : (c : ℕ) (text : List ℕ) (texts : List (List ℕ)) → join_with_byte c (text ∷ texts) ≡ text ++ preceded_texts c texts
 join-cons c text [] = sym (append-nil text)
 join-cons c text (next ∷ texts) = ap (λ (l : List ℕ). text ++ (c ∷ l)) (join-cons c next texts)
 
--- more texts follow, each after the byte
+-- more texts follow, each after the separator
 pub join-more : (c : ℕ) (text : List ℕ) (texts more : List (List ℕ)) → join_with_byte c (text ∷ (texts ++ more)) ≡ join_with_byte c (text ∷ texts) ++ preceded_texts c more
 join-more c text texts more =
     join-cons c text (texts ++ more) ∙ ap (λ (l : List ℕ). text ++ l) (flat_map-append (λ (t : List ℕ). c ∷ t) texts more)
     ∙ sym (append_assoc text (preceded_texts c texts) (preceded_texts c more)) ∙ ap (λ (l : List ℕ). l ++ preceded_texts c more) (sym (join-cons c text texts))
 
--- the fields of one map, each after the byte
+-- the fields of one map, each after the separator
 next_text-preceded : (format : FormatValue) (maps : List Grid) (p : ℕ × CellValue) → preceded_texts format.separator (cell_fields format maps p.0 p.1) ≡ next_text format maps p
 next_text-preceded format maps p =
     ap (λ (l : List ℕ). format.separator ∷ l) (sym (join-cons format.separator (cell_text format.null_text p.1) (if format.labels then label_of_cell maps p.0 p.1 ∷ [] else [])))
 
--- and the fields of several maps
+-- the fields of several maps, each after the separator
 others-preceded : (format : FormatValue) (maps : List Grid) (ps : List (ℕ × CellValue)) → preceded_texts format.separator (flat_map (λ p. cell_fields format maps p.0 p.1) ps) ≡ flat_map (next_text format maps) ps
 others-preceded format maps [] = refl
 others-preceded format maps (p ∷ ps) =
@@ -34,7 +34,7 @@ others-preceded format maps (p ∷ ps) =
     ∙ ap (λ (l : List ℕ). l ++ preceded_texts format.separator (flat_map (λ p. cell_fields format maps p.0 p.1) ps)) (next_text-preceded format maps p)
     ∙ ap (λ (l : List ℕ). next_text format maps p ++ l) (others-preceded format maps ps)
 
--- the first map's cell, and then the others
+-- the fields of a combination are the fields of the first map's cell, then the fields of the others
 pub combination-others : (format : FormatValue) (maps : List Grid) (picks : List ℕ) (k : Combination) (d : ℕ) (e : CellValue) → 0 < length picks → length k ≡ length picks → join_with_byte format.separator (combination_fields format maps picks k) ≡ pick_text format maps (get_or picks 0 d) (get_or k 0 e) ++ others_text format maps (drop 1 picks) (drop 1 k)
 combination-others format maps [] k d e some same = absurd (omega arith)
 combination-others format maps (p ∷ picks) [] d e some same = absurd (omega arith)
@@ -75,7 +75,7 @@ module _ (picks : List ℕ) (k : Combination) (i : ℕ) (within : i < length pic
   pub zip-within : i < length (zip picks k)
   zip-within = omega (arith, within, same, length-zip picks k)
 
--- all but the first
+-- dropping the first element leaves all others
 others-whole : {X : Type 0} (xs : List X) → take (length xs - 1) (drop 1 xs) ≡ drop 1 xs
 others-whole xs = take_all (length xs - 1) (drop 1 xs) (omega (arith, length-drop 1 xs))
 
@@ -88,7 +88,7 @@ length-others xs ys same =
 pub All-others : {X : Type 0} (P : X → Type 0) (xs : List X) → All P xs → All P (take (length xs - 1) (drop 1 xs))
 All-others P xs all = subst (λ l. All P l) (sym (others-whole xs)) (λ i d within. subst P (sym (get_or-drop 1 xs i d)) (all (1 + i) d (omega (arith, within, length-drop 1 xs))))
 
--- the first map's cell, and all others
+-- a combination is the first map's cell and all other cells
 pub combination-parts : (format : FormatValue) (maps : List Grid) (picks : List ℕ) (k : Combination) (x : CellValue) → x ≡ get_or k 0 x → 0 < length picks → length k ≡ length picks → pick_text format maps (get_or picks 0 0) x ++ others_text format maps (take (length picks - 1) (drop 1 picks)) (take (length k - 1) (drop 1 k)) ≡ join_with_byte format.separator (combination_fields format maps picks k)
 combination-parts format maps picks k x is some same =
     ap (λ (y : CellValue). pick_text format maps (get_or picks 0 0) y ++ others_text format maps (take (length picks - 1) (drop 1 picks)) (take (length k - 1) (drop 1 k))) is
@@ -96,6 +96,6 @@ combination-parts format maps picks k x is some same =
     ∙ ap (λ (l : Combination). pick_text format maps (get_or picks 0 0) (get_or k 0 x) ++ others_text format maps (drop 1 picks) l) (others-whole k)
     ∙ sym (combination-others format maps picks k 0 x some same)
 
--- the combination, the count and the line feed
+-- a line is the combination, the count and the line feed
 pub pair-parts : (format : FormatValue) (maps : List Grid) (picks : List ℕ) (k : Combination) (n : ℕ) → 0 < length picks → length k ≡ length picks → (join_with_byte format.separator (combination_fields format maps picks k) ++ preceded_texts format.separator (count_fields format n)) ++ 10 ∷ [] ≡ pair_line format maps picks (k, n)
 pair-parts format maps picks k n some same = ap (λ (l : List ℕ). l ++ 10 ∷ []) (sym (line-more format maps picks k (count_fields format n) some same))

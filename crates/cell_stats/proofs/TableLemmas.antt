@@ -1,4 +1,4 @@
--- What is found in a table, and that there is one table.
+-- A table's entries, and the proof that the table is unique.
 use Rattle.std.proofs.Common.{◌≡◌, ℕ, zero, suc, ◌+◌, ◌<◌, map, get_or, [], ◌∷◌, List, Option, Some, None, Bool, true, false, ◌↔◌, cond, IsTrue, ap, sym, ◌∙◌, refl, arith, zero-add}
 use Rattle.std.specs.Prelude.{T}
 use Rattle.std.specs.Ordering.{eq_by_cmp, is_eq}
@@ -30,7 +30,7 @@ from_T false t = absurd t
 abbrev pub keys_of : Pairs → List Combination
 keys_of es = map (λ e. e.0) es
 
--- the table of cells of which none is left out
+-- the table of cells if none is left out
 pub record IsTally (cells : List Combination) (pairs : Pairs) : Type 0 where
   pub ascending : IsStrictlySortedBy combination_cmp (map (λ pair. pair.0) pairs)
   pub counted : (k : Combination) (n : ℕ) → Contains pairs (k, n) ↔ ((0 < n) × (n ≡ count_of k cells))
@@ -53,17 +53,17 @@ unfolding IsStrictlySortedBy
 ascending_to [] h = refl
 ascending_to (e ∷ es) h = rw (below_to e.0 es h.0) (ascending_to es h.1)
 
--- a count of nothing is not an entry
+-- a count of 0 is not an entry
 abbrev pub found : ℕ → Option ℕ
 found zero = None
 found (suc n) = Some (suc n)
 
--- the pairs in order, and what is found at each combination
+-- the pairs are in order, and each combination is found with its count
 pub record IsFound (cells : List Combination) (es : Pairs) : Type 0 where
   pub sorted : IsTrue (is_sorted combination_cmp es)
   pub finds : (k : Combination) → find combination_cmp k es ≡ found (count_of k cells)
 
--- what is found is in the list
+-- a combination that is found is in the list
 pub stands : (k : Combination) (n : ℕ) (es : Pairs) → find combination_cmp k es ≡ Some n → Contains es (k, n)
 stands k n [] e = cc
 stands k n (x ∷ es) e =
@@ -75,7 +75,7 @@ stands k n (x ∷ es) e =
       | false ↦ λ t is. let rest = stands k n es is in (suc rest.0, omega (arith, rest.1), rest.2)
     ] refl e
 
--- and what is listed is found
+-- a combination in the list is found
 pub found-listed : (k : Combination) (n : ℕ) (es : Pairs) → IsStrictlySortedBy combination_cmp (keys_of es)
     → Contains es (k, n) → find combination_cmp k es ≡ Some n
 found-listed k n es up c =
@@ -133,7 +133,7 @@ one_table cells a b p q =
 pub count_cons : (q k : Combination) (cells : List Combination) → count_of q (k ∷ cells) ≡ cond (eq_by_cmp combination_cmp q k) 1 0 + count_of q cells
 count_cons q k cells = sum_by-append (λ (x : Combination). cond (eq_by_cmp combination_cmp q x) 1 0) (k ∷ []) cells ∙ ap (λ n. n + count_of q cells) (zero-add _)
 
--- a value if the count is not of nothing
+-- a value if the count is not 0, otherwise none
 abbrev occurring : ℕ → ℕ → Option ℕ
 occurring zero v = None
 occurring (suc n) v = Some v
@@ -142,7 +142,7 @@ occurring_itself : (n : ℕ) → occurring n n ≡ found n
 occurring_itself zero = refl
 occurring_itself (suc n) = refl
 
--- what is found among the cells, each with the value of a function
+-- looking up a combination in the list of cells finds its value if it occurs
 found_among : (f : Combination → ℕ) (q : Combination) (cells : List Combination) → find combination_cmp q (map (λ k. (k, f k)) cells) ≡ occurring (count_of q cells) (f q)
 found_among f q [] = refl
 found_among f q (k ∷ cells) =
@@ -173,7 +173,7 @@ kept_out skip x cells l = rw l refl
 kept_in : (skip : Skip) (x : Combination) (cells : List Combination) → is_left_out skip x ≡ false → kept_cells skip (x ∷ cells) ≡ x ∷ kept_cells skip cells
 kept_in skip x cells l = rw l refl
 
--- cells that are left out are not counted
+-- combinations that are left out have a count of 0
 pub count_kept : (skip : Skip) (k : Combination) (cells : List Combination) → count_of k (kept_cells skip cells) ≡ cond (is_left_out skip k) 0 (count_of k cells)
 count_kept skip k [] = nothing (is_left_out skip k)
   where
@@ -197,7 +197,7 @@ count_kept skip k (x ∷ cells) = by (is_left_out skip x) (eq_by_cmp combination
         ∙ ap (λ n. cond (is_left_out skip k) 0 n) (sym (count_cons k x cells ∙ ap (λ b. cond b 1 0 + count_of k cells) e ∙ zero-add (count_of k cells)))
 
 module _ (skip : Skip) (cells : List Combination) (es : Pairs) where
-  -- what is in the table of the cells that are kept, and what in the table of all cells
+  -- an entry of the table of kept cells is an entry of the table of all cells that is not left out
   stands_kept : (b : Bool) (k : Combination) (n : ℕ) → is_left_out skip k ≡ b → ((0 < n) × (n ≡ count_of k (kept_cells skip cells))) ↔ ((is_left_out skip k ≡ false) × ((0 < n) × (n ≡ count_of k cells)))
   stands_kept true k n left = (
     λ h.
@@ -238,7 +238,7 @@ table_is skip cells es table = one_table_kept skip cells es (table_of skip cells
 
 -- ---- the table from the counts in a list
 
--- a combination is not counted if all entries come after it
+-- a combination smaller than all entries is not counted
 none_behind : (x : Combination) (es : Counts) → AllByRecursion (λ y. combination_cmp x y ≡ Less) (keys_of es) → listed_of x es ≡ 0
 none_behind x [] above = refl
 none_behind x (e ∷ es) above =
@@ -264,7 +264,7 @@ find_listed k (e ∷ es) up zeros =
     added : (n m : ℕ) → m ≡ 0 → n ≡ n + m
     added n m none = omega (arith, none)
 
--- a list in order that has no count of nothing, and else the counts of cells, is their table
+-- an ascending list of the counts of the kept cells, without zeros, is their table
 pub IsTable-listed : (skip : Skip) (cells : List Combination) (es : Counts) → IsStrictlySortedBy combination_cmp (keys_of es) → ((k : Combination) → listed_of k es ≡ count_of k (kept_cells skip cells)) → HasNoZero es → IsTable skip cells es
 IsTable-listed skip cells es ascends counts zeros =
     IsTable-kept skip cells es (IsTally-from (kept_cells skip cells) es (record {

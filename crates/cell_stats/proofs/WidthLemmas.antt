@@ -1,4 +1,4 @@
--- Each combination of a table is as wide as the picks.
+-- Each combination of a table has as many cells as there are picks.
 use Rattle.std.proofs.Common.{◌≡◌, ℕ, zero, suc, ◌+◌, ◌<◌, List, [], ◌∷◌, length, map, take, drop, get_or, All, true, false, cond, refl, ap, sym, subst, ◌∙◌, arith, zero-add}
 use Rattle.std.proofs.lemmas.List.{length-map}
 use Rattle.std.proofs.lemmas.List.Elements.{All-append, All-drop, All-map, All-take}
@@ -12,7 +12,7 @@ use Rattle.cell_stats.specs.CategoryTables.{Pairs, IsTable}
 use Rattle.cell_stats_combinations.proofs.OrderLemmas.{combination_cmp-exact, is_equal}
 use Rattle.cell_stats.proofs.TableLemmas.{count_cons}
 
--- a combination that occurs has what each cell's has
+-- a combination that occurs has each property that all cells have
 occurs : (P : Combination → Type 0) (k : Combination) (cells : List Combination) → All P cells → 0 < count_of k cells → P k
 occurs P k [] all some = absurd (omega (arith, some))
 occurs P k (x ∷ cells) all some =
@@ -42,6 +42,6 @@ module _ (maps : List Grid) (picks : List ℕ) where
       get_or-any (x ∷ xs) zero d e h = refl
       get_or-any (x ∷ xs) (suc i) d e h = get_or-any xs i d e (omega (arith, h))
 
--- what holds of each holds of each of a part
+-- a property of all elements holds for the elements of a part
 pub All-part : {X : Type 0} (P : X → Type 0) (xs : List X) (n i : ℕ) → All P xs → All P (take n (drop i xs))
 All-part P xs n i all = All-take P n (drop i xs) (All-drop P i xs all)
