@@ -1,4 +1,4 @@
--- Rows of several maps, and the stretch of columns in which none changes.
+-- Rows of several maps, and the stretch of columns in which no map changes.
 use Rattle.std.proofs.Common.{◌≡◌, ℕ, zero, suc, ◌+◌, ◌-◌, ◌<◌, ◌≤◌, List, Some, [], ◌∷◌, ◌++◌, length, take, drop, map, replicate, get_or, set, All, refl, ap, sym, ◌∙◌, arith, length-append, length-take, add-one, add-zero}
 use Rattle.std.proofs.Math.Seq.{get_or-append_seam}
 use Rattle.std.proofs.lemmas.List.Elements.{All-push}
@@ -9,7 +9,7 @@ use Rattle.cell_core.specs.Grid.{Grid, CellValue, row_at}
 use Rattle.cell_core.specs.Runs.{RunValue}
 use Rattle.cell_stats_combinations.specs.Cursors.{AreCursorsReady, row_in}
 
--- some columns of the first run are passed
+-- passing some columns of the first run leaves the rest of that run
 pub drop-run : (n left : ℕ) (x : CellValue) (rest : List CellValue) → n ≤ left → drop n (replicate left x ++ rest) ≡ replicate (left - n) x ++ rest
 drop-run n left x rest h =
     let fits : n ≤ length (replicate left x) = omega (arith, length-replicate left x) in
@@ -46,11 +46,11 @@ drop_one zero xs = refl
 drop_one (suc i) [] = refl
 drop_one (suc i) (x ∷ xs) = drop_one i xs
 
--- and after it
+-- lists that agree from a place on agree after it
 pub same-behind : {X : Type 0} (xs ys : List X) (i : ℕ) → drop i xs ≡ drop i ys → drop (i + 1) xs ≡ drop (i + 1) ys
 same-behind xs ys i e = rw add-one (sym (drop_one i xs) ∙ ap (drop 1) e ∙ drop_one i ys)
 
--- what holds of the items before a place, and of the item there
+-- the items before a place keep a property, and the item set there has it
 pub All-take-set : {X : Type 0} (P Q : X → Type 0) (xs : List X) (i : ℕ) (y : X) → i < length xs → ((x : X) → P x → Q x) → All P (take i xs) → Q y → All Q (take (i + 1) (set xs i y))
 All-take-set P Q xs i y h weaker all here = rw (take_more_set xs i y h) (All-push Q (take i xs) y (λ k d within. weaker _ (all k d within)) here)
 

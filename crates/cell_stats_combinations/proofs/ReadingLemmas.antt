@@ -1,4 +1,4 @@
--- A text is read as the combination that it spells.
+-- Reading a text returns the combination that it spells.
 use Rattle.std.proofs.Common.{◌≡◌, ℕ, ℤ, Bool, true, false, cond, List, [], ◌∷◌}
 use Rattle.std.proofs.Common.{length, Option, Some, None, Ok, codes, refl, ap, sym, ◌∙◌, arith}
 use Rattle.std.specs.List.{AllZip}

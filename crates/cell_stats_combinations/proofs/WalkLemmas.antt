@@ -49,7 +49,7 @@ drop-drop n (suc i) (x ∷ xs) =
     drop-drop n i xs ∙ ap (λ k. drop k (x ∷ xs)) sum
 
 module _ (maps : List Grid) (row col : ℕ) where
-  -- the cells of the cursors are the combination of each column of the stretch
+  -- in each column of the stretch, the combination is the cells of the cursors
   pub alike : (cs : List CursorValue) (picks : List ℕ) (n j : ℕ) → map to_come cs ≡ map (λ p. drop col (row_in maps row p)) picks → All (λ c. n ≤ c.left) cs → j < n → combination_at maps picks row (col + j) ≡ map (λ c. c.cell) cs
   alike [] [] n j e all h = refl
   alike [] (p ∷ picks) n j e all h = cc
@@ -61,7 +61,7 @@ module _ (maps : List Grid) (row col : ℕ) where
       let cell : cell_of_map maps row (col + j) p ≡ c.cell = cell-row maps row (col + j) p ∙ sym (get_or-drop col (row_in maps row p) j None) ∙ ap (λ l. get_or l j None) (sym here) ∙ first-cell c j within in
       ap (λ x. x ∷ combination_at maps picks row (col + j)) cell ∙ ap (λ l. c.cell ∷ l) (alike cs picks n j others (tail_of (λ (x : CursorValue). n ≤ x.left) c cs all) h)
 
-  -- in a column within the region each cursor is at a cell
+  -- in each column within the region, each cursor has a cell
   pub alive : (cs : List CursorValue) (picks : List ℕ) (cols : ℕ) → map to_come cs ≡ map (λ p. drop col (row_in maps row p)) picks → All (λ p. length (row_in maps row p) ≡ cols) picks → col < cols → All AreCursorsReady cs → All (λ c. 0 < c.left) cs
   alive cs picks cols e wide h ready i d within =
       let c = get_or cs i d in
@@ -81,7 +81,7 @@ module _ (maps : List Grid) (row col : ℕ) where
               absurd (omega (arith, z, none, w, h, ap length e, length-append (replicate c.left c.cell) (written_out c.runs), length-replicate c.left c.cell, length-drop col line))
           by (suc n) z = omega (arith, z)
 
--- the cursors passed a stretch
+-- after a stretch, the cursors are past its columns
 pub passed-on : (maps : List Grid) (row col n : ℕ) (old new : List CursorValue) (picks : List ℕ) → map to_come new ≡ map (λ c. drop n (to_come c)) old → map to_come old ≡ map (λ p. drop col (row_in maps row p)) picks → map to_come new ≡ map (λ p. drop (col + n) (row_in maps row p)) picks
 passed-on maps row col n old new picks e f = e ∙ twice old picks f
   where
@@ -96,7 +96,7 @@ passed-on maps row col n old new picks e f = e ∙ twice old picks f
 
 -- ---- its combinations
 
--- n columns of one combination
+-- n columns with the same combination
 pub stretch : (f : ℕ → Combination) (k : Combination) (col n : ℕ) → ((j : ℕ) → j < n → f (col + j) ≡ k) → map f (range_with_len 0 (col + n)) ≡ map f (range_with_len 0 col) ++ replicate n k
 stretch f k col zero same = ap (λ c. map f (range_with_len 0 c)) (add-zero col) ∙ sym (append-nil (map f (range_with_len 0 col)))
 stretch f k col (suc n) same =
@@ -123,7 +123,7 @@ range_more a zero j e = ap (λ (k : ℕ). k ∷ []) (omega arith)
 range_more a (suc n) j e = ap (λ (l : List ℕ). a ∷ l) (range_more (a + 1) n j (omega arith))
 
 module _ (maps : List Grid) (picks : List ℕ) (cols : ℕ) where
-  -- a row more
+  -- one more row appends its combinations
   pub all_combinations_more : (r : ℕ) → all_combinations maps picks (suc r) cols ≡ all_combinations maps picks r cols ++ row_combinations maps picks cols r
   all_combinations_more r =
       ap (flat_map (row_combinations maps picks cols)) (range_more 0 r r (omega arith))

@@ -11,7 +11,7 @@ some_rows some same = omega arith
 last_row : {row rows all : ℕ} → 1 ≤ rows → row ≡ rows → rows ≡ all → row - 1 < all
 last_row some same is = omega arith
 
--- lists that are mapped to the same have the same length
+-- two lists that map to the same list have the same length
 same_length : {X Y Z : Type 0} (f : X → Z) (g : Y → Z) (xs : List X) (ys : List Y) → map f xs ≡ map g ys
     → length xs ≡ length ys
 same_length f g xs ys same = sym (length-map xs f) ∙ ap length same ∙ length-map ys g

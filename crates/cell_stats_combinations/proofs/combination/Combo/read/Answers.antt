@@ -9,7 +9,7 @@ use Rattle.cell_stats_combinations.specs.Combinations.{Combination}
 use Rattle.cell_stats_combinations.specs.ComboReading.{cell_of_part, cells_of_parts, as_wide}
 use Rattle.cell_stats_combinations.proofs.combination.Combo.read.Goals as goal
 
--- what is read past the last part
+-- the part that is read past the last one
 abbrev behind : Bor (List ℕ)
 behind = record { ref_ptr = (0, 0); now = [] }
 
@@ -18,7 +18,7 @@ rest_first : (items : List (Bor (List ℕ))) (i : ℕ) (d : Bor (List ℕ)) → 
     → map (λ w. w.now) (drop i items) ≡ (get_or items i d).now ∷ map (λ w. w.now) (drop (i + 1) items)
 rest_first items i d within = rw (add-one, drop-cons items i d) refl
 
--- none is read at first
+-- at the start, no part is read
 start : (words : List (List ℕ)) {items : List (List ℕ)} {now : Combination} → now ≡ [] → items ≡ words
     → cells_of_parts words ≡ option_map (λ cells. now ++ cells) (cells_of_parts items)
 start words none same = rw (none, same) (by (cells_of_parts words))
@@ -30,13 +30,13 @@ start words none same = rw (none, same) (by (cells_of_parts words))
 module _ (now : Combination) {found : Option Combination} {all : List (List ℕ)}
     (so_far : found ≡ option_map (λ cells. now ++ cells) (cells_of_parts all)) where
   module _ (part : List ℕ) (parts : List (List ℕ)) (first : all ≡ part ∷ parts) where
-    -- a part has no cell
+    -- if a part has no cell, the text has no combination
     cut : cell_of_part part ≡ None → found ≡ None
     cut none = so_far ∙ ap (λ l. option_map (λ cells. now ++ cells) (cells_of_parts l)) first
         ∙ ap (λ o. option_map (λ cells. now ++ cells)
         (option_and_then (λ cell. option_map (λ cells. cell ∷ cells) (cells_of_parts parts)) o)) none
 
-    -- or its cell comes after the earlier ones
+    -- if a part has a cell, that cell follows the earlier ones
     more : (cell : CellValue) → cell_of_part part ≡ Some cell
         → found ≡ option_map (λ cells. (now ++ cell ∷ []) ++ cells) (cells_of_parts parts)
     more cell some = so_far ∙ ap (λ l. option_map (λ cells. now ++ cells) (cells_of_parts l)) first
