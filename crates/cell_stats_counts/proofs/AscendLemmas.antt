@@ -1,4 +1,4 @@
--- A list that ascends, with a larger combination at its end.
+-- An ascending list with a larger combination appended.
 use Rattle.std.proofs.Common.{◌≡◌, ℕ, suc, [], ◌∷◌, ◌++◌, All, length, get_or, map, ap, arith}
 use Rattle.std.proofs.lemmas.List.Elements.{All-push}
 use Rattle.std.specs.List.{AllByRecursion}
@@ -12,7 +12,7 @@ use Rattle.cell_stats_counts.specs.Listed.{Counts, AreAscending}
 use Rattle.cell_stats_counts.specs.parts.Alone.{alone}
 use Rattle.cell_stats_counts.specs.parts.RisingEnds.{AscendsUpTo}
 
--- one more is above the first
+-- a combination above the last entry is above the first one
 further : (x : Combination) (es : Counts) (e : Combination × ℕ)
     → AllByRecursion (λ y. combination_cmp x y ≡ Less) (map (λ e. e.0) es)
     → combination_cmp x e.0 ≡ Less → AllByRecursion (λ y. combination_cmp x y ≡ Less) (map (λ e. e.0) (es ++ e ∷ []))

@@ -1,4 +1,4 @@
--- What is summed over bytes, by how often each occurs.
+-- A sum over bytes, by how many times each byte occurs.
 use Rattle.std.proofs.Common.{◌≡◌, ℕ, zero, suc, ◌+◌, ◌*◌, ◌<◌, ◌≤◌, List, [], ◌∷◌, length, drop, map}
 use Rattle.std.proofs.Common.{get_or, set, sum_by, Bool, true, false, cond, refl, ap, sym, ◌∙◌, arith, add-zero}
 use Rattle.std.proofs.lemmas.List.{drop_more}
@@ -13,7 +13,7 @@ use Rattle.cell_stats_counts.specs.parts.ByteCounts.{one_counted, sum_counted}
 use Rattle.cell_stats_combinations.specs.parts.Same.{is_same}
 use Rattle.cell_stats_counts.proofs.CountLemmas.{count-both, count-stretch}
 
--- a byte occurs once more
+-- when a byte occurs once more, its value is added to the sum
 pub sum_counted-more : (f : ℕ → ℕ) (byte i d : ℕ) (counts : List ℕ) → i < length counts
     → sum_counted f byte (set counts i (get_or counts i d + 1)) ≡ sum_counted f byte counts + f (byte + i)
 sum_counted-more f byte i d [] within = absurd (omega (arith, within))
@@ -26,13 +26,13 @@ sum_counted-more f byte (suc i) d (n ∷ counts) within =
     let on = sum_counted-more f (byte + 1) i d counts (omega (arith, within)) in
     omega (arith, on, ap f place)
 
--- no byte is counted more often than all
+-- the count of one byte is at most the count of all bytes
 pub counted-le : (byte i : ℕ) (counts : List ℕ) → get_or counts i 0 ≤ sum_counted (λ b. 1) byte counts
 counted-le byte i [] = omega arith
 counted-le byte zero (n ∷ counts) = omega arith
 counted-le byte (suc i) (n ∷ counts) = omega (arith, counted-le (byte + 1) i counts)
 
--- the counts from a byte on
+-- the sum from a byte on is that byte's share and the sum after it
 pub sum_counted-first : (f : ℕ → ℕ) (byte n : ℕ) (counts : List ℕ) → byte < length counts → n ≡ get_or counts byte 0
     → sum_counted f byte (drop byte counts) ≡ f byte * n + sum_counted f (byte + 1) (drop (byte + 1) counts)
 sum_counted-first f byte n counts within is =
@@ -57,7 +57,7 @@ times-cond false n = omega arith
 
 module _ (skip : Skip) (k : Combination) (byte n : ℕ) (counts : List ℕ) (within : byte < length counts)
     (is : n ≡ get_or counts byte 0) where
-  -- the cells of a byte that are left out, or are none, add nothing
+  -- a byte whose cells are left out, or that has no cells, adds nothing
   pub byte-left : (now all : ℕ) → is_left_out skip (alone (byte_cell byte)) ≡ true
       → now + sum_counted (one_counted skip k) byte (drop byte counts) ≡ all
       → now + sum_counted (one_counted skip k) (byte + 1) (drop (byte + 1) counts) ≡ all
@@ -75,7 +75,7 @@ module _ (skip : Skip) (k : Combination) (byte n : ℕ) (counts : List ℕ) (wit
       let nothing : one_counted skip k byte * n ≡ 0 = ap (λ m. one_counted skip k byte * m) zero_times ∙ omega arith in
       omega (arith, e, first, nothing)
 
-  -- others add theirs
+  -- a byte whose cells are kept adds its count
   pub byte-more : (now new all : ℕ) → is_left_out skip (alone (byte_cell byte)) ≡ false
       → new ≡ now + cond (is_same k (alone (byte_cell byte))) n 0
       → now + sum_counted (one_counted skip k) byte (drop byte counts) ≡ all
@@ -95,7 +95,7 @@ module _ (skip : Skip) (k : Combination) (byte n : ℕ) (counts : List ℕ) (wit
   cond-le true = omega arith
   cond-le false = omega arith
 
-  -- and what is left still fits
+  -- after a byte, the rest of the sum still fits
   pub room-on : (now most : ℕ) → now + sum_counted (λ b. 1) byte (drop byte counts) < most
       → now + sum_counted (λ b. 1) (byte + 1) (drop (byte + 1) counts) < most
   room-on now most h = omega (arith, h, ones-first)

@@ -1,4 +1,4 @@
--- How the counts of parts add up, and that they fit.
+-- The counts of parts add up, and fit.
 use Rattle.std.proofs.Common.{◌≡◌, ℕ, zero, suc, ◌+◌, ◌^◌, ◌<◌, ◌≤◌, List, [], ◌∷◌, ◌++◌, map, replicate}
 use Rattle.std.proofs.Common.{Bool, true, false, not, cond, refl, ap, ◌∙◌, arith, length-append, add-zero, mul-le-mul}
 use Rattle.std.proofs.lemmas.List.Elements.{filter-append}
@@ -29,11 +29,11 @@ count-replicate k q (suc n) = count-append k (q ∷ []) (replicate n q) ∙ by (
     by true e on = rw e (ap (λ m. 1 + m) (on ∙ ap (λ b. cond b n 0) e) ∙ omega arith)
     by false e on = rw e (ap (λ m. 0 + m) (on ∙ ap (λ b. cond b n 0) e))
 
--- the counts of two parts
+-- the count in two parts is the sum of their counts
 pub count-both : (skip : Skip) (k : Combination) (xs ys : List Combination) → count_of k (kept_cells skip (xs ++ ys)) ≡ count_of k (kept_cells skip xs) + count_of k (kept_cells skip ys)
 count-both skip k xs ys = ap (count_of k) (filter-append (λ x. not (is_left_out skip x)) xs ys) ∙ count-append k (kept_cells skip xs) (kept_cells skip ys)
 
--- a stretch of a combination by itself
+-- the count in a stretch of one combination is 0 if it is left out or is another, otherwise its length
 pub count-stretch : (skip : Skip) (k q : Combination) (n : ℕ) (b : Bool) → is_left_out skip q ≡ b → count_of k (kept_cells skip (replicate n q)) ≡ cond b 0 (cond (is_same k q) n 0)
 count-stretch skip k q n true l = ap (count_of k) (kept-replicate skip q n true l)
 count-stretch skip k q n false l = ap (count_of k) (kept-replicate skip q n false l) ∙ count-replicate k q n
@@ -47,7 +47,7 @@ module _ (skip : Skip) (k q : Combination) (n : ℕ) (xs : List Combination) whe
       ∙ ap (λ m. count_of k (kept_cells skip xs) + m) (count-stretch skip k q n true l)
       ∙ add-zero (count_of k (kept_cells skip xs))
 
-  -- another adds its cells
+  -- a combination that is kept adds its cells
   pub count-more : is_left_out skip q ≡ false → count_of k (kept_cells skip (xs ++ replicate n q))
       ≡ count_of k (kept_cells skip xs) + cond (is_same k q) n 0
   count-more l =

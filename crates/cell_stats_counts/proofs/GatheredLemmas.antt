@@ -5,6 +5,6 @@ use Rattle.cell_stats_counts.specs.Listed.{entry_of}
 use Rattle.cell_stats_combinations.specs.parts.Same.{is_same}
 use Rattle.cell_stats_combinations.proofs.OrderLemmas.{same-itself}
 
--- what an entry counts of its own combination
+-- an entry counts its own combination
 pub entry-own : (k : Combination) (e : Combination × ℕ) → e.0 ≡ k → entry_of k e ≡ e.1
 entry-own k e same = ap (λ x. cond (is_same k x) e.1 0) same ∙ ap (λ b. cond b e.1 0) (same-itself k)

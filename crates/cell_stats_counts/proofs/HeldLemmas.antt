@@ -1,4 +1,4 @@
--- Counts that are added, and counting for as many maps.
+-- Adding counts, and counting for the same number of maps.
 use Rattle.std.proofs.Common.{◌≡◌, ℕ, ◌+◌, Bool, true, false, cond, subst, refl}
 use Rattle.cell_stats_counts.specs.declared.counting.CountPlaces.{CountPlaces}
 use Rattle.cell_stats_counts.specs.Listed.{Counts}

@@ -1,4 +1,4 @@
--- Entries of one combination added up in a list in order.
+-- Adding up the entries of equal combinations in a sorted list.
 use Rattle.std.proofs.Common.{◌≡◌, ℕ, zero, suc, ◌+◌, ◌<◌, ◌≤◌, List, [], ◌∷◌, length, get_or, set, take, drop, map, cond, false, refl, ap, sym, ◌∙◌, arith, add-one, length-take, subst, ◌⊎◌, inl, inr}
 use Rattle.std.proofs.lemmas.List.{take_more, take_more_set, take-set-le, get_or-take, get_or-set_other, length-set, get_or-map}
 use Rattle.std.proofs.Math.Seq.{map-set_same}
@@ -64,7 +64,7 @@ module _ (old : Counts) (rising : IsRising old) (zeros : HasNoZero old) where
     no_zero = All-take (λ (e : Combination × ℕ). 0 < e.1) 1 old zeros;
   }
 
--- if no count up to a place is 0, no count before it is, and its own is not
+-- if the first n + 1 counts are not 0, the first n counts are not 0
 front : (n : ℕ) (xs : Counts) → HasNoZero (take (n + 1) xs) → HasNoZero (take n xs)
 front n xs all i d within =
     let sizes : i < n = omega (arith, within, length-take n xs) in
@@ -77,7 +77,7 @@ latest n xs d within all =
     let more : n < length (take (n + 1) xs) = omega (arith, within, length-take (n + 1) xs) in
     subst (λ (e : Combination × ℕ). 0 < e.1) (get_or-take (n + 1) xs n d (omega arith)) (all n d more)
 
--- keys stay if an entry keeps its own
+-- the keys stay the same if an entry is replaced by one with the same key
 keys-set : (xs : Counts) (at j : ℕ) (y d : Combination × ℕ) → j < length xs → y.0 ≡ (get_or xs at d).0 → (get_or (set xs at y) j d).0 ≡ (get_or xs j d).0
 keys-set xs at j y d within same =
     let size : j < length (set xs at y) = omega (arith, within, length-set xs at y) in
@@ -92,7 +92,7 @@ module _ (old : Counts) (rising : IsRising old) (zeros : HasNoZero old) (now : C
   at_now : at < length now
   at_now = omega (arith, joined.size, here)
 
-  -- both entries fit into one
+  -- the sum of two entries of a combination fits in one entry
   pub joined-fits : (k : Combination) → (get_or now last d).0 ≡ k → (get_or now at d).0 ≡ k → (get_or now last d).1 + (get_or now at d).1 ≤ listed_of k old
   joined-fits k one two =
       let f = entry_of k in
@@ -100,7 +100,7 @@ module _ (old : Counts) (rising : IsRising old) (zeros : HasNoZero old) (now : C
       let left : listed_of k (drop at old) ≡ f (get_or old at d) + listed_of k (drop (at + 1) old) = sum_by-drop_more f old at d here in
       omega (arith, was, left, joined.counts k, entry-own k (get_or now last d) one, entry-own k (get_or now at d) two, ap f (joined.others at d (omega arith)))
 
-  -- the last entry takes the cells of the one at the place
+  -- the last entry takes the cells of the entry at the place
   module _ (y : Combination × ℕ) (key : y.0 ≡ (get_or now last d).0) (sum : y.1 ≡ (get_or now last d).1 + (get_or old at d).1) (same : (get_or old at d).0 ≡ (get_or now last d).0) where
     key_any : (e : Combination × ℕ) → y.0 ≡ (get_or now last e).0
     key_any e = key ∙ ap (λ (x : Combination × ℕ). x.0) (any now last d e last_now)
@@ -134,7 +134,7 @@ module _ (old : Counts) (rising : IsRising old) (zeros : HasNoZero old) (now : C
       no_zero = All-take-set (λ (e : Combination × ℕ). 0 < e.1) (λ (e : Combination × ℕ). 0 < e.1) now last y last_now (λ x h. h) (front last now joined.no_zero) (omega (arith, sum, latest last now d last_now joined.no_zero));
     }
 
-  -- the entry at the place is the next
+  -- the entry at the place becomes the one after the last
   module _ (new : Counts) (swapped : SwappedAt now new (last + 1) at) (size : length new ≡ length now) (other : is_same (get_or old at d).0 (get_or now last d).0 ≡ false) where
     next_is : (e : Combination × ℕ) → get_or new (last + 1) e ≡ get_or old at e
     next_is e = swapped.0 e ∙ joined.others at e (omega arith)

@@ -19,7 +19,7 @@ use Rattle.cell_stats_counts.proofs.CountLemmas.{count-both, count-stretch}
 use Rattle.cell_stats_combinations.proofs.WalkLemmas.{all_combinations_more, cell-row}
 use Rattle.cell_stats_combinations.proofs.CursorLemmas.{row-of}
 
--- the cell at a column, and those after it
+-- the count from a column is the cell there and the count after it
 pub count_from-step : (skip : Skip) (k : Combination) (cells : List Combination) (col : ℕ) (q : Combination) (b : Bool)
     → col < length cells → get_or cells col [] ≡ q → is_left_out skip q ≡ b
     → count_from skip k cells col ≡ cond b 0 (cond (is_same k q) 1 0) + count_from skip k cells (col + 1)
@@ -30,7 +30,7 @@ count_from-step skip k cells col q b within here left =
     ∙ count-both skip k (q ∷ []) (drop (col + 1) cells)
     ∙ ap (λ m. m + count_from skip k cells (col + 1)) (count-stretch skip k q 1 b left)
 
--- no cell is left
+-- the count after the last column is 0
 pub count_from-end : (skip : Skip) (k : Combination) (cells : List Combination) (col : ℕ) → length cells ≤ col
     → count_from skip k cells col ≡ 0
 count_from-end skip k cells col ended =
@@ -52,14 +52,14 @@ get-both (x ∷ xs) (y ∷ ys) (suc i) d e within same =
     let rest : length ys ≡ length xs = omega (arith, same) in
     get-both xs ys i d e (omega (arith, within)) rest
 
--- the pair at a column
+-- the combination of two maps at a column is the pair of their cells
 pub pair-at : (xs ys : List CellValue) (i : ℕ) (x y : CellValue) → i < length xs → length ys ≡ length xs
     → x ≡ get_or xs i x → y ≡ get_or ys i y → get_or (both xs ys) i [] ≡ x ∷ y ∷ []
 pair-at xs ys i x y within same first second =
     get-both xs ys i x y within same ∙ ap (λ (c : CellValue). c ∷ get_or ys i y ∷ []) (sym first)
     ∙ ap (λ (c : CellValue). x ∷ c ∷ []) (sym second)
 
--- the cell at a column by itself
+-- the combination of one map at a column is its cell
 pub alone-at : (xs : List CellValue) (i : ℕ) (x : CellValue) → i < length xs → x ≡ get_or xs i x
     → get_or (map alone xs) i [] ≡ alone x
 alone-at [] i x within is = absurd (omega (arith, within))
@@ -82,7 +82,7 @@ both-get (x ∷ xs) (y ∷ ys) a f e h =
     next : (j : ℕ) → a + 1 + j ≡ a + suc j
     next j = omega arith
 
--- the combinations of a row of two maps
+-- the combinations of a row of two maps are the pairs of their cells
 pub row-both : (maps : List Grid) (row p q cols : ℕ) → length (row_in maps row p) ≡ cols
     → length (row_in maps row q) ≡ cols
     → row_combinations maps (p ∷ q ∷ []) cols row ≡ both (row_in maps row p) (row_in maps row q)
@@ -93,7 +93,7 @@ row-both maps row p q cols wide wide_too =
     ∙ ap (λ (c : CellValue). c ∷ cell_of_map maps row j q ∷ []) (cell-row maps row j p)
     ∙ ap (λ (c : CellValue). get_or (row_in maps row p) j None ∷ c ∷ []) (cell-row maps row j q))
 
--- the two places
+-- a list of two places is its first and its second place
 pub twin : (places : List ℕ) (d : ℕ) → length places ≡ 2 → places ≡ get_or places 0 d ∷ get_or places 1 d ∷ []
 twin [] d e = absurd (omega (arith, e))
 twin (p ∷ []) d e = absurd (omega (arith, e))
@@ -112,18 +112,18 @@ module _ (skip : Skip) (k : Combination) (cells : List Combination) (col : ℕ) 
       → now + count_from skip k cells (col + 1) ≡ all
   cell-left now all left e = omega (arith, e, count_from-step skip k cells col q true within here left)
 
-  -- another is counted
+  -- a cell that is kept is counted
   pub cell-more : (now new all : ℕ) → is_left_out skip q ≡ false → new ≡ now + cond (is_same k q) 1 0
       → now + count_from skip k cells col ≡ all → new + count_from skip k cells (col + 1) ≡ all
   cell-more now new all kept grown e =
       omega (arith, e, grown, count_from-step skip k cells col q false within here kept)
 
-  -- and no combination has more than one cell more
+  -- a cell adds at most 1 to each count
   pub cell-few : (now new from old : ℕ) → new ≡ now + cond (is_same k q) 1 0 → now + from ≤ old + col
       → new + from ≤ old + (col + 1)
   cell-few now new from old grown few = omega (arith, few, grown, cond-le (is_same k q))
 
--- a row more of two maps is counted
+-- one more row of two maps is counted
 pub counted-both : (skip : Skip) (k : Combination) (maps : List Grid) (picks : List ℕ) (row p q cols : ℕ)
     (one other : Grid)
     (old new : ℕ) → picks ≡ p ∷ q ∷ [] → slice_get maps p ≡ Some one → slice_get maps q ≡ Some other
@@ -147,7 +147,7 @@ counted-both skip k maps picks row p q cols one other old new twins first second
 
 -- ---- the steps from a column to the next
 
--- what is counted after the cells that the places held
+-- what the places held is counted when the cells after it are
 pub joined : {now list old was : ℕ} (listed rest left all : ℕ) → now ≡ list → list + left ≡ old + rest → old ≡ was
     → was + listed + rest ≡ all → now + listed + left ≡ all
 joined listed rest left all same counts value before = omega arith
@@ -177,6 +177,6 @@ still_some same some = omega arith
 pub past : {all wide col : ℕ} → all ≡ wide → wide ≤ col → all ≤ col
 past same ended = omega arith
 
--- no cell is left
+-- when no cells are left, all are counted
 pub at_end : {now left : ℕ} (all : ℕ) → left ≡ 0 → now + left ≡ all → now ≡ all
 at_end all none counted = omega arith

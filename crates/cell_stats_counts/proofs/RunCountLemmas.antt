@@ -1,4 +1,4 @@
--- What the runs of one map add to the counts.
+-- The effect of one map's runs on the counts.
 use Rattle.std.proofs.Common.{◌≡◌, ℕ, zero, suc, ◌+◌, ◌^◌, ◌<◌, ◌≤◌, List, [], ◌∷◌, ◌++◌, length, map, replicate, get_or, Bool, true, false, cond, Some, None, refl, ap, sym, ◌∙◌, arith, append-nil, length-append, add-one, add-zero, zero-add}
 use Rattle.std.proofs.lemmas.List.{length-replicate, map-append}
 use Rattle.std.specs.List.{range_with_len}
@@ -20,11 +20,11 @@ map-replicate : (n : ℕ) (x : CellValue) → map alone (replicate n x) ≡ repl
 map-replicate zero x = refl
 map-replicate (suc n) x = ap (λ (l : List Combination). alone x ∷ l) (map-replicate n x)
 
--- how many cells of a combination some runs have that are not left out
+-- the number of cells of a combination in some runs, without those that are left out
 abbrev pub runs-count : Skip → Combination → List RunValue → ℕ
 runs-count skip k runs = count_of k (kept_cells skip (map alone (written_out runs)))
 
--- the first run, and the others
+-- the count in runs is the count in the first run plus the count in the others
 pub runs-first : (skip : Skip) (k : Combination) (x : CellValue) (n : ℕ) (rest : List RunValue) (b : Bool) → is_left_out skip (alone x) ≡ b → runs-count skip k ((x, n) ∷ rest) ≡ cond b 0 (cond (is_same k (alone x)) n 0) + runs-count skip k rest
 runs-first skip k x n rest b l =
     ap (λ (z : List Combination). count_of k (kept_cells skip z)) (map-append alone (replicate n x) (written_out rest) ∙ ap (λ (z : List Combination). z ++ map alone (written_out rest)) (map-replicate n x))
@@ -47,7 +47,7 @@ module _ (skip : Skip) (k : Combination) (runs rest : List RunValue) (x : CellVa
       let first : runs-count skip k runs ≡ 0 + runs-count skip k rest = ap (runs-count skip k) steps ∙ runs-first skip k x n rest true l in
       omega (arith, e, first)
 
-  -- another adds its cells
+  -- a run that is kept adds its cells
   pub run-more : (old new all : ℕ) → is_left_out skip (alone x) ≡ false → new ≡ old + cond (is_same k (alone x)) n 0 → old + runs-count skip k runs ≡ all → new + runs-count skip k rest ≡ all
   run-more old new all l grown e =
       let first : runs-count skip k runs ≡ cond (is_same k (alone x)) n 0 + runs-count skip k rest = ap (runs-count skip k) steps ∙ runs-first skip k x n rest false l in
@@ -79,7 +79,7 @@ row-alone maps row p cols wide =
     ap (λ n. map (combination_at maps (p ∷ []) row) (range_with_len 0 n)) (sym wide)
     ∙ row-get (row_in maps row p) 0 (combination_at maps (p ∷ []) row) (λ j. ap (combination_at maps (p ∷ []) row) (zero-add j) ∙ ap alone (cell-row maps row j p))
 
--- a row more of one map is counted
+-- one more row of one map is counted
 pub counted-alone : (skip : Skip) (k : Combination) (maps : List Grid) (picks : List ℕ) (row p cols : ℕ) (m : Grid)
     (old new : ℕ) → picks ≡ p ∷ [] → slice_get maps p ≡ Some m → length (row_at m row) ≡ cols
     → old ≡ count_of k (kept_cells skip (all_combinations maps picks row cols))
@@ -97,7 +97,7 @@ counted-alone skip k maps picks row p cols m old new sole e wide was grown =
     ∙ ap (λ (l : List Combination). count_of k (kept_cells skip l)) (sym (all_combinations_more maps picks cols row))
     ∙ ap (λ r. count_of k (kept_cells skip (all_combinations maps picks r cols))) (sym (add-one row))
 
--- what was counted above a row is not many
+-- the count of the rows above is less than 65535 rows of cells
 pub few-alone : (skip : Skip) (k : Combination) (maps : List Grid) (picks : List ℕ) (row cols old : ℕ)
     → row ≤ 65535 → cols ≤ 65535 → old ≡ count_of k (kept_cells skip (all_combinations maps picks row cols)) → old < 2 ^ 63
 few-alone skip k maps picks row cols old hr hc was =
@@ -108,7 +108,7 @@ few-alone skip k maps picks row cols old hr hc was =
     ap (λ (l : List Combination). count_of k (kept_cells skip l)) (append-nil base) in
     omega (arith, small, same, was)
 
--- and the cells of the row fit
+-- the cells of the row still fit in the count
 pub fits-alone : (skip : Skip) (k : Combination) (maps : List Grid) (picks : List ℕ) (row cols old size : ℕ) → row ≤ 65535 → cols ≤ 65535 → old ≡ count_of k (kept_cells skip (all_combinations maps picks row cols)) → size ≡ cols → old + size < 2 ^ 64
 fits-alone skip k maps picks row cols old size hr hc was wide =
     omega (arith, few-alone skip k maps picks row cols old hr hc was, wide, hc)

@@ -1,4 +1,4 @@
--- Combinations side by side.
+-- Combinations stored side by side.
 use Rattle.std.proofs.Common.{◌≡◌, ℕ, zero, suc, ◌+◌, ◌*◌, ◌<◌, ◌≤◌, ◌++◌, List, [], ◌∷◌, Bool, true, false, cond, length, take, drop, get_or, set, refl, ap, sym, ◌∙◌, arith, length-drop, take_all}
 use Rattle.std.proofs.Math.Nat.{suc-mul}
 use Rattle.std.proofs.Math.Seq.{drop-drop}
@@ -16,7 +16,7 @@ pub length-side : (w : ℕ) (cells : List CellValue) (ns : List ℕ) → length 
 length-side w cells [] = refl
 length-side w cells (n ∷ ns) = ap suc (length-side w (drop w cells) ns)
 
--- the combination at a place
+-- the combination at the next place is one width further on
 key-next : (w i : ℕ) (cells : List CellValue) → take w (drop (i * w) (drop w cells)) ≡ take w (drop (suc i * w) cells)
 key-next w i cells =
     let same : w + i * w ≡ suc i * w = omega (arith, suc-mul i w) in
@@ -35,7 +35,7 @@ side-at w cells (n ∷ ns) zero d e within = ap (λ (k : Combination). (k, n)) (
 side-at w cells (n ∷ ns) (suc i) d e within =
     side-at w (drop w cells) ns i d e (omega (arith, within)) ∙ ap (λ (k : Combination). (k, get_or ns i e)) (key-next w i cells)
 
--- another count at a place
+-- setting a count sets it in the entries side by side
 pub side-set : (w : ℕ) (cells : List CellValue) (ns : List ℕ) (i m : ℕ) → i < length ns
     → side_by_side w cells (set ns i m) ≡ set (side_by_side w cells ns) i (take w (drop (i * w) cells), m)
 side-set w cells [] i m within = absurd (omega (arith, within))
@@ -45,7 +45,7 @@ side-set w cells (n ∷ ns) (suc i) m within =
     ap (λ (l : Counts). (take w cells, n) ∷ l) (side-set w (drop w cells) ns i m (omega (arith, within))
     ∙ ap (λ (k : Combination). set (side_by_side w (drop w cells) ns) i (k, m)) (key-next w i cells))
 
--- one more at the end
+-- appending a combination and its count appends an entry
 pub side-push : (w : ℕ) (cells key : List CellValue) (ns : List ℕ) (n : ℕ) → length cells ≡ length ns * w → length key ≡ w
     → side_by_side w (cells ++ key) (ns ++ n ∷ []) ≡ side_by_side w cells ns ++ (key, n) ∷ []
 side-push w cells key [] n side wide =
@@ -64,7 +64,7 @@ side-push w cells key (m ∷ ns) n side wide =
     ∙ ap (λ (l : List CellValue). (take w cells, m) ∷ side_by_side w l (ns ++ n ∷ [])) (drop-append-le w cells key enough)
     ∙ ap (λ (l : Counts). (take w cells, m) ∷ l) (side-push w (drop w cells) key ns n rest wide)
 
--- a new combination is counted
+-- appending a new combination adds its count
 pub gathered-push : (k : Combination) (w : ℕ) (key cells : List CellValue) (ns : List ℕ) (n : ℕ) → length cells ≡ length ns * w
     → length key ≡ w → listed_of k (side_by_side w (cells ++ key) (ns ++ n ∷ []))
     ≡ listed_of k (side_by_side w cells ns) + cond (is_same k key) n 0
@@ -76,7 +76,7 @@ module _ (k : Combination) (w : ℕ) (cells : List CellValue) (ns : List ℕ) (a
   inside : at < length (side_by_side w cells ns)
   inside = omega (arith, within, length-side w cells ns)
 
-  -- another count, and the one before
+  -- replacing the count of a place takes the old count away and adds the new one
   turned : (m : ℕ) → listed_of k (side_by_side w cells (set ns at m)) + cond (is_same k key) (get_or ns at 0) 0
       ≡ listed_of k (side_by_side w cells ns) + cond (is_same k key) m 0
   turned m =
@@ -89,7 +89,7 @@ module _ (k : Combination) (w : ℕ) (cells : List CellValue) (ns : List ℕ) (a
       let now = ap (λ x. cond (is_same k x) m 0) same in
       omega (arith, sums, new, was, old, now)
 
-  -- what a place counted is taken from it
+  -- setting the count of a place to 0 takes its count away
   pub gathered-set : listed_of k (side_by_side w cells (set ns at 0)) + cond (is_same k key) (get_or ns at 0) 0
       ≡ listed_of k (side_by_side w cells ns)
   gathered-set = let none : ℕ = 0 in omega (arith, turned none, nothing (is_same k key) none refl)
@@ -98,12 +98,12 @@ module _ (k : Combination) (w : ℕ) (cells : List CellValue) (ns : List ℕ) (a
       nothing true m e = e
       nothing false m e = refl
 
-  -- more is counted at a place
+  -- raising the count of a place raises the count of its combination
   pub gathered-more : (n : ℕ) → listed_of k (side_by_side w cells (set ns at (get_or ns at 0 + n)))
       ≡ listed_of k (side_by_side w cells ns) + cond (is_same k key) n 0
   gathered-more n = omega (arith, turned (get_or ns at 0 + n), cond-add (is_same k key) (get_or ns at 0) n)
 
-  -- which is no more than all
+  -- the count of a place is at most the count of its combination
   pub gathered-least : k ≡ key → get_or ns at 0 ≤ listed_of k (side_by_side w cells ns)
   gathered-least own =
       let all = side_by_side w cells ns in

@@ -11,7 +11,7 @@ fit small = omega arith
 inside : {byte wide : ℕ} → Fits w8 byte → wide ≡ 256 → byte < wide
 inside small wide = omega arith
 
--- a byte was counted at most as often as there were bytes so far
+-- a byte is counted at most as many times as there were bytes so far
 few : (bytes counts : List ℕ) (old i byte : ℕ) → i < length bytes → old + length bytes < 2 ^ 64
     → sum_counted (λ b. 1) 0 counts ≡ old + sum_by (λ b. 1) (take i bytes) → get_or counts byte 0 + 1 < 2 ^ 64
 few bytes counts old i byte within room sums =

@@ -25,7 +25,7 @@ ended within end all = omega arith
 high_enough : {row last rows : ℕ} → row ≤ last → last ≡ rows → rows ≤ 65535 → row ≤ 65535
 high_enough before all few = omega arith
 
--- what follows of a result holds if there is one
+-- a consequence of a property holds if the result is `Ok`
 on_ok : {T E P Q : Type 0} (result : Result T E) → (P → Q) → OnOk result P → OnOk result Q
 on_ok (Ok x) step p = step p
 on_ok (Err e) step p = p
@@ -34,11 +34,11 @@ all_fit : (total one : ℕ) {sum most : ℕ} → total + one < 2 ^ 63 → sum �
     → total + sum < 2 ^ 64
 all_fit total one small few most = omega arith
 
--- what the places count fits, since with the bytes it does
+-- the total without the bytes fits because the total with them does
 fits : (total bytes more : ℕ) → total + bytes + more < 2 ^ 64 → total + more < 2 ^ 64
 fits total bytes more all = omega arith
 
--- a row in bytes adds to their counts, another to the places
+-- a row held as bytes adds to the counts of bytes; any other row adds to the places
 by_bytes : (total old more : ℕ) {new : ℕ} → new ≡ old + more → total + new ≡ total + old + more
 by_bytes total old more grown = omega arith
 

@@ -16,7 +16,7 @@ use Rattle.cell_stats_counts.proofs.alone.count_bytes.Goals.{else-count-gt0}
 use Rattle.cell_stats_counts.proofs.alone.count_bytes.Goals.{else-count-gt0-via-then-count-gt0+else-not-is_left_out}
 use Rattle.cell_stats_counts.proofs.alone.count_bytes.Goals.{else-count-gt0-via-else-count-gt0}
 
--- whether the cell is left out
+-- the test of a byte is the test of its cell
 left_as : (skip : Skip) (cell : CellValue) (byte : ℕ) {reported left : Bool} → cell ≡ byte_cell byte
     → reported ≡ is_left_out skip (alone cell) → reported ≡ left → is_left_out skip (alone (byte_cell byte)) ≡ left
 left_as skip cell byte stands reported left = ap (λ x. is_left_out skip (alone x)) (sym stands) ∙ sym reported ∙ left

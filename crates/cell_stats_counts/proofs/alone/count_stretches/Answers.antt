@@ -19,7 +19,7 @@ some_same some same = omega arith
 shorter : {X : Type 0} (x : X) (rest : List X) {all : List X} → all ≡ x ∷ rest → length rest < length all
 shorter x rest steps = omega (arith, ap length steps)
 
--- no run is left
+-- when no runs are left, all runs are counted
 all_counted : (skip : Skip) (k : Combination) (runs : List RunValue) (now : ℕ) {all : ℕ} → runs ≡ []
     → now + runs-count skip k runs ≡ all → now ≡ all
 all_counted skip k runs now none counted =

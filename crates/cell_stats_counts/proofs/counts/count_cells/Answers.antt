@@ -6,7 +6,7 @@ use Rattle.cell_stats_counts.proofs.counts.count_cells.Goals as goal
 fit : {n : ℕ} → n < 2 ^ 63 → n < 2 ^ 64
 fit small = omega arith
 
--- what was side by side and in the table is in the list
+-- the list holds what was listed before, what was side by side and what was in the table
 brought : (listed gathered paired : ℕ) {more all : ℕ} → more ≡ listed + gathered → all ≡ more + paired
     → all ≡ paired + listed + gathered
 brought listed gathered paired first second = omega arith

@@ -19,7 +19,7 @@ use Rattle.cell_stats_counts.proofs.counts.count_columns.Goals as goal
 use Rattle.cell_stats_counts.proofs.counts.count_columns.Goals.{then-not-is_left_out+in_ok-add_count}
 use Rattle.cell_stats_counts.proofs.counts.count_columns.Goals.{else-not-is_left_out}
 
--- as many places as cursors
+-- there are as many places as cursors
 wide_as : (cursors : List CursorValue) (picks : List ℕ) (rows : ℕ → List CellValue)
     → map to_come cursors ≡ map rows picks → length picks ≡ length cursors
 wide_as cursors picks rows same = sym (length-map picks rows) ∙ ap length (sym same) ∙ length-map cursors to_come

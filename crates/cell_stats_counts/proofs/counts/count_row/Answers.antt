@@ -18,12 +18,12 @@ just_one some few = omega arith
 just_two : {n : ℕ} → 2 ≤ n → n < 3 → n ≡ 2
 just_two some few = omega arith
 
--- what the table and the list count fits
+-- the counts of the table and the list fit
 part : (paired listed gathered wide cols : ℕ) → wide ≡ cols → paired + listed + gathered + cols < 2 ^ 64
     → paired + listed + wide < 2 ^ 64
 part paired listed gathered wide cols same all = omega arith
 
--- what they count more is all that is counted more
+-- the increase of the table and the list is the whole increase
 whole : (paired listed gathered now later more : ℕ) → now + later ≡ paired + listed + more
     → now + later + gathered ≡ paired + listed + gathered + more
 whole paired listed gathered now later more grown = omega arith
