@@ -1,4 +1,4 @@
--- What several proofs share.
+-- Lemmas that several proofs share.
 pub mod WindowLemmas
 pub mod LoadingLemmas
 pub mod TextLemmas

@@ -1,4 +1,4 @@
--- One grid more on the shelf.
+-- One more grid on the shelf.
 use Rattle.std.proofs.Common.{◌≡◌, ◌≢◌, ℕ, zero, suc, ◌+◌, Bool, true, false, cond, List, [], ◌∷◌, ◌++◌, length, take, Option, Some, None, Result, Ok, Err, IsSome, IfOk, IfErr, slice_get, refl, ap, sym, subst, ◌∙◌, arith, add-one}
 use Rattle.std.specs.List.{position_from}
 use Rattle.std.specs.Prelude.{IfSome}
@@ -26,13 +26,13 @@ pub differs : (t : Bool) → (t ≡ true → ⊥) → t ≡ false
 differs true apart = absurd (apart refl)
 differs false apart = refl
 
--- another region is rejected
+-- a map of another region is rejected
 pub added-other : (grid : ℕ) (shelf : ShelfValue) (name : List ℕ) (map : Grid) → place_of name shelf.names ≡ None → map.region ≢ shelf.region → shelf_with_map grid shelf name map (place_of name shelf.names) ≡ Err (GridRegion grid)
 added-other grid shelf name map free apart =
     let other : is_same_region map.region shelf.region ≡ false = differs _ (λ t. apart ((is_same_region-Decides map.region shelf.region).0 t)) in
     rw (free, other) refl
 
--- a map of the shelf's region, under a new name, goes last
+-- a map of the shelf's region, under a new name, goes at the end
 pub added-same : (grid : ℕ) (shelf : ShelfValue) (name : List ℕ) (map : Grid) → place_of name shelf.names ≡ None → map.region ≡ shelf.region → shelf_with_map grid shelf name map (place_of name shelf.names) ≡ Ok (record shelf { names = shelf.names ++ name ∷ []; maps = shelf.maps ++ map ∷ [] })
 added-same grid shelf name map free same =
     let same_test : is_same_region map.region shelf.region ≡ true = (is_same_region-Decides map.region shelf.region).1 same in
@@ -43,7 +43,7 @@ pub added-twice : (grid : ℕ) (shelf : ShelfValue) (name : List ℕ) (map : Gri
 added-twice grid shelf name map None some = cc
 added-twice grid shelf name map (Some place) some = refl
 
--- an error of the shelf becomes an error of the grid
+-- an error of the shelf is reported as an error of the grid
 pub added-refused : (grid : ℕ) (shelf : ShelfValue) (name : List ℕ) (map : Grid) (fault : ShelfFault) → IsMapRefused shelf name map fault → IsOfInput (of_shelf grid fault)
     → shelf_with_map grid shelf name map (place_of name shelf.names) ≡ Err (of_shelf grid fault)
 added-refused grid shelf name map Exists reason input = added-twice grid shelf name map _ reason
@@ -56,7 +56,7 @@ refused-whose grid Exists = record { early = tt; reported = λ count within. wit
 refused-whose grid OtherRegion = record { early = tt; reported = λ count within. within; whose = refl }
 refused-whose grid Memory = record { early = refl; reported = λ count within. tt; whose = tt }
 
--- the first map makes the shelf
+-- the first map creates the shelf
 pub added-first : (grid : ℕ) (region : RegionValue) (name : List ℕ) (map : Grid) → map.region ≡ region → shelf_with_map grid (record { region = region; names = []; maps = [] }) name map None ≡ Ok (record { region = region; names = name ∷ []; maps = map ∷ [] })
 added-first grid region name map same =
     let same_test : is_same_region map.region region ≡ true = (is_same_region-Decides map.region region).1 same in
@@ -73,7 +73,7 @@ first_placed r grid region shelf name map is same reported =
     ∙ ap (λ r. Ok (record { region = r; names = name ∷ []; maps = map ∷ [] })) same in
     subst (λ (x : Result ShelfValue RunFault). AnswersInput (λ s. s) r x) first reported
 
--- what holds of a map that was read holds of its grid
+-- the outcome of placing a map is the outcome for the grid that it was read from
 pub grid_placed : (given : Option Coming) (placed : Result ShelfValue RunFault) (grid : ℕ)
     (shelf : Option ShelfValue) (name : List ℕ) (map : Grid)
     → IfSome given (λ c. grid_of c ≡ Ok map) → AnswersInput (λ s. s) placed (shelf_placed grid shelf name map)
@@ -82,7 +82,7 @@ grid_placed None placed grid shelf name map read reported = tt
 grid_placed (Some c) placed grid shelf name map read reported =
     subst (λ (m : Result Grid GridFault). AnswersInput (λ s. s) placed (with_grid grid shelf name m)) (sym read) reported
 
--- a grid that was not read
+-- a grid that cannot be read is rejected with its error
 pub grid_unread : (given : Option Coming) (grid : ℕ) (shelf : Option ShelfValue) (name : List ℕ) (fault : GridFault)
     → IfSome given (λ c. fault.kind ≢ kinds.Memory → grid_of c ≡ Err fault)
     → IfSome given (λ c. AnswersInput {A = ShelfValue} (λ s. s) (Err (faults.Grid grid fault)) (with_grid grid shelf name (grid_of c)))
@@ -90,7 +90,7 @@ grid_unread None grid shelf name fault reported = tt
 grid_unread (Some c) grid shelf name fault reported = λ input. ap (with_grid grid shelf name) (reported input)
 
 module _ {R : Type 0} (coming : R → Option Coming) (grid : ℕ) (shelf : Option ShelfValue) (g : List ℕ × R) (rest : List (List ℕ × R)) where
-  -- what the first grid gives is known
+  -- a property of the content of the first grid holds for the known content
   one_known : (n : Named) (P : Coming → Type 0) → coming g.1 ≡ Some n.1 → IfSome (coming g.1) P → P n.1
   one_known n P same one = rw same at one
 
@@ -121,7 +121,7 @@ module _ {R : Type 0} (coming : R → Option Coming) (grid : ℕ) (shelf : Optio
       ap (then_grids (λ s. shelf_from (grid + 1) (Some s) named))
       (ap (λ name. with_grid grid shelf name (grid_of n.1)) (sym report.0.0) ∙ first)
 
-  -- a grid more
+  -- one more grid is placed
   pub shelf_more : (gs : List (List ℕ × R)) (next : ShelfValue) (named : List Named) → gs ≡ g ∷ rest
       → Report coming gs named
       → IfSome (coming g.1) (λ c. with_grid grid shelf g.0 (grid_of c) ≡ Ok next)
@@ -129,12 +129,12 @@ module _ {R : Type 0} (coming : R → Option Coming) (grid : ℕ) (shelf : Optio
       × (shelf_from grid shelf named ≡ shelf_from (grid + 1) (Some next) others))
   shelf_more gs next named is report one = more next named (rw is at report) one
 
-  -- the grid is rejected
+  -- a rejected grid ends the loading
   pub shelf_fails : (gs : List (List ℕ × R)) (f : RunFault) (named : List Named) → gs ≡ g ∷ rest → Report coming gs named → IsOfInput f
       → IfSome (coming g.1) (λ c. IsOfInput f → with_grid grid shelf g.0 (grid_of c) ≡ Err f) → shelf_from grid shelf named ≡ Err f
   shelf_fails gs f named is report input one = fails f named (rw is at report) input one
 
--- no grid is left
+-- when no grids are left, all are placed
 pub none_left : {R : Type 0} (coming : R → Option Coming) (gs : List (List ℕ × R)) (named : List Named) → gs ≡ []
     → Report coming gs named → named ≡ []
 none_left coming gs [] none report = refl
@@ -162,7 +162,7 @@ position_from-before {K} t i (x ∷ xs) p (suc j) e at = by (t x) (λ h. positio
 pub place_of-before : (name : List ℕ) (names : List (List ℕ)) (i : ℕ) → place_of name names ≡ Some i → place_of name (take i names) ≡ None
 place_of-before name names i e = position_from-before _ 0 names i i e (omega arith)
 
--- one element more
+-- taking one more element appends that element
 take_got : {X : Type 0} (xs : List X) (i : ℕ) (x : X) → slice_get xs i ≡ Some x → take (suc i) xs ≡ take i xs ++ x ∷ []
 take_got [] i x e = cc
 take_got (y ∷ ys) zero x e = cc

@@ -1,4 +1,4 @@
--- One shelf after each command, one output, and outputs that join.
+-- A command leaves only one shelf and writes only one output; outputs of consecutive parts join.
 use Rattle.std.proofs.Common.{◌≡◌, ℕ, [], ◌∷◌, ◌++◌, List, Option, Some, None, refl, ap, sym, ◌∙◌, arith, subst, append_assoc}
 use Rattle.std.specs.Prelude.{slice_get}
 use Rattle.cell_calc_binding.specs.Formula.{Formula}
@@ -17,7 +17,7 @@ use Rattle.rcell.specs.After.{IsShelfAfter}
 use Rattle.rcell.specs.Output.{Executes, command_text}
 use Rattle.rcell.specs.OutputLaw.{OneOutput, PartsJoin}
 
--- an expression has one map of values
+-- an expression has only one map of values
 AreValues-one : (bound : Formula) (shelf : ShelfValue) (a b : Grid) → AreValues bound shelf a → AreValues bound shelf b → a ≡ b
 AreValues-one bound shelf a b one other =
     let region : a.region ≡ b.region = one.region ∙ sym other.region in
@@ -36,7 +36,7 @@ module _ (law : ClumpingIsOne) where
   one_numbering joining None a b one other = absurd one
   one_numbering joining (Some m) a b one other = law joining m a b one.filled other.filled one.clumping other.clumping
 
-  -- a command leaves one shelf
+  -- a command leaves only one shelf
   pub IsAfter-one : (shelf : ShelfValue) (command : Command) (a b : ShelfValue) → IsShelfAfter shelf command a → IsShelfAfter shelf command b → a ≡ b
   IsAfter-one shelf (Mapcalc target bound) a b one other =
       one.1.1 ∙ ap (λ m. with_map shelf target m) (AreValues-one bound shelf one.0 other.0 one.1.0 other.1.0) ∙ sym other.1.1
@@ -46,7 +46,7 @@ module _ (law : ClumpingIsOne) where
   IsAfter-one shelf (Stats places options) a b one other = one ∙ sym other
   IsAfter-one shelf (OutAscii place null_text) a b one other = one ∙ sym other
 
-  -- statements write one text
+  -- statements write only one text
   Executes-one : (statements : List Statement) (shelf : ShelfValue) (a b : List ℕ) (one_after other_after : ShelfValue) → Executes shelf statements a one_after → Executes shelf statements b other_after → a ≡ b
   Executes-one [] shelf a b one_after other_after one other = one.0 ∙ sym other.0
   Executes-one (s ∷ ss) shelf a b one_after other_after one other =
@@ -58,7 +58,7 @@ module _ (law : ClumpingIsOne) where
   pub one_output : OneOutput
   one_output shelf statements a b one other = Executes-one statements shelf a b one.0 other.0 one.1 other.1
 
--- one part, and then another
+-- the output of two parts is the first part's output, then the second part's output
 pub Executes-append : (first second : List Statement) (shelf between after : ShelfValue) (one other : List ℕ) → Executes shelf first one between → Executes between second other after
     → Executes shelf (first ++ second) (one ++ other) after
 Executes-append [] second shelf between after one other x y =
@@ -66,7 +66,7 @@ Executes-append [] second shelf between after one other x y =
 Executes-append (s ∷ ss) second shelf between after one other x y =
     (x.0, (x.1.0 ++ other, (x.1.1.0, (Executes-append ss second x.0 between after x.1.0 other x.1.1.1.0 y, ap (λ t. t ++ other) x.1.1.1.1 ∙ append_assoc (command_text shelf s.command) x.1.0 other))))
 
--- the outputs of two scripts, one executed after the other, are together the text
+-- the text is the outputs of two scripts, executed one after the other
 abbrev pub Parts : (first second : List Statement) → ShelfValue → List ℕ → ShelfValue → Type 0
 Parts first second shelf text after = (between : ShelfValue) × ((one other : List ℕ) × (Executes shelf first one between × (Executes between second other after × (text ≡ one ++ other))))
 
@@ -92,13 +92,13 @@ parts_join shelf first second text after = (
       subst (λ (t : List ℕ). Executes shelf (first ++ second) t after) (sym y.1.2.1.1) (Executes-append first second shelf y.0 after y.1.0 y.1.1 y.1.2.0 y.1.2.1.0),
 )
 
--- what the maps of a place have in common
+-- a shelf made from a map has the names that every such shelf has
 of_map : (f : Grid → ShelfValue) (m : Option Grid) (after : ShelfValue) (names : List (List ℕ)) → IsOfMap (λ m. after ≡ f m) m
     → ((m : Grid) → (f m).names ≡ names) → after.names ≡ names
 of_map f None after names h are = absurd h
 of_map f (Some m) after names h are = ap (λ (s : ShelfValue). s.names) h ∙ are m
 
--- the names after a command are those that are known then
+-- the names after a command are the names known after it
 pub names_after : (shelf : ShelfValue) (c : Command) (after : ShelfValue) → IsShelfAfter shelf c after
     → after.names ≡ known_after shelf.names c
 names_after shelf (Mapcalc target bound) after h = ap (λ (s : ShelfValue). s.names) h.1.1

@@ -1,4 +1,4 @@
--- What r.stats writes, by every table of its maps.
+-- The output of r.stats, for any table of its maps.
 use Rattle.std.proofs.Common.{◌≡◌, ℕ, true, false, List, [], ◌∷◌, ◌++◌, refl, ap, ◌∙◌}
 use Rattle.std.specs.Prelude.{sum_by, decimal}
 use Rattle.std.specs.List.{flat_map}

@@ -1,4 +1,4 @@
--- Windows of maps, one more or one row further.
+-- Windows over maps: one more window, or one row further.
 use Rattle.std.proofs.Common.{◌≡◌, ◌<◌, ◌≤◌, ◌+◌, ℕ, zero, suc, List, [], ◌∷◌, ◌++◌, length, get_or, refl, ap, sym, arith, take, drop, ◌∙◌, Option, Some, None, below_more}
 use Rattle.std.proofs.lemmas.List.{take-append-le, take_all}
 use Rattle.std.proofs.lemmas.List.Elements.{All-tail}
@@ -12,7 +12,7 @@ use Rattle.cell_calc_binding.specs.Reach.{up_of, down_of}
 use Rattle.cell_calc.specs.Window.{Window, IsWindowOf}
 use Rattle.rcell.specs.parts.WindowsSet.{IsSet, AreSet, then_maps, picked_maps}
 
--- an item before the last, and the last
+-- an item before the last, and the last item
 pub before : {A : Type 0} (xs ys : List A) (i : ℕ) → i < length xs → slice_get (xs ++ ys) i ≡ slice_get xs i
 before [] ys i lt = absurd (let no : ⊥ = omega arith in no)
 before (x ∷ xs) ys zero lt = refl
@@ -24,7 +24,7 @@ behind [] x (suc i) e = absurd (let no : ⊥ = omega arith in no)
 behind (y ∷ xs) x zero e = absurd (let no : ⊥ = omega arith in no)
 behind (y ∷ xs) x (suc i) e = behind xs x i (omega arith)
 
--- one more window
+-- one more window is set at the first row
 pub set_more : (f : Formula) (windows : List Window) (maps : List Grid) (n : ℕ) (w : Window) (m : Grid)
     → length windows ≡ n → AreSet f n 0 windows maps → slice_get maps n ≡ Some m
     → w.centre ≡ 0 → (w.above ≡ up_of n f) × (w.below ≡ down_of n f) → IsWindowOf w m
@@ -34,7 +34,7 @@ set_more f windows maps n w m count set place centre reach window =
     (λ i lt. let short : i < length windows = omega arith in rw (before windows (w ∷ []) i short) (set i lt))
     (rw (behind windows w n count, place) (centre, (reach.0, (reach.1, window))))
 
--- a window that is set is one of the map
+-- a window that is set is over its map
 pub set_over : (row up down : ℕ) (w : Option Window) (m : Option Grid) → IsSet row up down w m → IsOver w m
 set_over row up down None m h = h
 set_over row up down (Some w) None h = h
@@ -45,12 +45,12 @@ set_reach row up down None m h = h
 set_reach row up down (Some w) None h = absurd h
 set_reach row up down (Some w) (Some m) h = (h.0, (omega (arith, h.1.0), omega (arith, h.1.1.0)))
 
--- a window that is read, and its map
+-- a window that is read is over its map
 pub set_read : (row up down i : ℕ) (windows first : List Window) (d : Window) (maps : List Grid) (m : Grid) → i < length windows → slice_get windows i ≡ slice_get first i
     → slice_get maps i ≡ Some m → IsSet row up down (slice_get first i) (slice_get maps i) → IsSet row up down (Some (get_or windows i d)) (Some m)
 set_read row up down i windows first d maps m lt same place is = rw (sym same ∙ slice_get-get_or windows i d lt, place) at is
 
--- one window in a list is written
+-- setting an item changes that item
 set_here : {A : Type 0} (xs : List A) (i : ℕ) (x : A) → i < length xs → slice_get (set xs i x) i ≡ Some x
 set_here [] i x lt = absurd (let no : ⊥ = omega arith in no)
 set_here (y ∷ xs) zero x lt = refl
@@ -74,7 +74,7 @@ pub moved_rest : (windows first : List Window) (i : ℕ) (w : Window) → ((k : 
     → (k : ℕ) → i + 1 ≤ k → slice_get (set windows i w) k ≡ slice_get first k
 moved_rest windows first i w rest k past = set_other windows i k w (λ e. omega arith) ∙ rest k (omega arith)
 
--- the counts
+-- the row below is in the map if the counts leave one
 pub row_below : {centre row rows a b n : ℕ} → centre ≡ row → rows ≡ a → a ≡ b → n ≡ b → row + 1 < n → centre + 1 < rows
 row_below at of same all left = omega arith
 
@@ -99,13 +99,13 @@ row_made lt same past = omega arith
 pub least : (i : ℕ) → i ≤ i
 least i = omega arith
 
--- a place of a list has a map
+-- each place within the list has a map
 pub got : (maps : List Grid) (i : ℕ) → i < length maps → slice_get maps i ≡ None → ⊥
 got [] i lt e = let no : ⊥ = omega arith in no
 got (m ∷ maps) zero lt e = cc
 got (m ∷ maps) (suc i) lt e = got maps i (omega arith) e
 
--- a map before others is the first
+-- a map put before others is the first map
 pub first : (o : Option Grid) (maps : List Grid) → (o ≡ None → ⊥) → slice_get (then_maps o maps) zero ≡ o
 first None maps some = absurd (some refl)
 first (Some m) maps some = refl
@@ -114,7 +114,7 @@ pub others : (o : Option Grid) (maps : List Grid) (k : ℕ) → (o ≡ None → 
 others None maps k some = absurd (some refl)
 others (Some m) maps k some = refl
 
--- the maps picked are those at the places
+-- the maps picked are the maps at the places
 pub picked_at : (places : List ℕ) (maps : List Grid) → All (λ place. place < length maps) places
     → (k i : ℕ) → slice_get places k ≡ Some i → slice_get (picked_maps places maps) k ≡ slice_get maps i
 picked_at [] maps within k i e = cc
@@ -125,12 +125,12 @@ picked_at (p ∷ places) maps within (suc k) i e =
     others (slice_get maps p) (picked_maps places maps) k (got maps p (within zero p (omega arith)))
     ∙ picked_at places maps (All-tail (λ place. place < length maps) p places within) k i e
 
--- the map at a place that is read from the list of places
+-- each place read from the list has its map
 pub map_read : (places : List ℕ) (maps : List Grid) (i d : ℕ) (m : Grid) → All (λ place. place < length maps) places → i < length places
     → slice_get maps (get_or places i d) ≡ Some m → slice_get (picked_maps places maps) i ≡ Some m
 map_read places maps i d m within lt e = picked_at places maps within i (get_or places i d) (slice_get-get_or places i d lt) ∙ e
 
--- one more row
+-- appending rows does not change earlier rows
 row_before : (rows more : List (List CellValue)) (r : ℕ) → r < length rows → slice_index_or (rows ++ more) r [] ≡ slice_index_or rows r []
 row_before [] more r lt = absurd (let no : ⊥ = omega arith in no)
 row_before (x ∷ rows) more zero lt = refl
@@ -150,6 +150,6 @@ rows_more P rows new n count done last =
     (λ r lt. let short : r < length rows = omega arith in rw (row_before rows (new ∷ []) r short) (done r lt))
     (rw (row_behind rows new n count) last)
 
--- what a slice of all of a list's items writes
+-- a slice of the length of the list replaces the whole list
 pub written : {A : Type 0} (n : ℕ) (new old : List A) → n ≡ length old → length new ≡ length old → take n (new ++ drop (length new) old) ≡ new
 written n new old all same = take-append-le n new (drop (length new) old) (omega arith) ∙ take_all n new (omega arith)

@@ -66,7 +66,7 @@ all_placed (g ∷ gs) (m ∷ ms) grid shelf denote distinct same =
     ∙ all_placed gs ms (grid + 1) (with_map shelf g.0 m) denote.1 (rw names distinct) (λ k d h. same (suc k) d (omega arith))
     ∙ (λ i. Ok (Some (record { region = shelf.region; names = names i; maps = maps i })))
 
--- the first grid makes the shelf
+-- the first grid creates the shelf
 pub all_loaded : (gs : List Named) (shelf : ShelfValue) → AreGrids gs shelf → shelf_from 0 None gs ≡ Ok (Some shelf)
 unfolding shelf_from
 all_loaded gs shelf are = by gs shelf.maps are.some are.denote are.names are.distinct are.one_region refl
@@ -81,14 +81,14 @@ all_loaded gs shelf are = by gs shelf.maps are.some are.denote are.names are.dis
         ∙ all_placed gs ms (0 + 1) (shelf_of_one g.0 m) denote.1 (rw names at distinct) (λ k d h. same (suc k) d (omega arith) ∙ sym region)
         ∙ (λ i. Ok (Some (record { region = region i; names = sym names i; maps = maps i })))
 
--- an accepted script over grids is read
+-- an accepted script over grids is read completely
 accepted_read : (grids : List Named) (script : Coming) (shelf : ShelfValue) (statements : List Statement) → IsAccepted grids script shelf statements → IsReadScript grids script shelf statements
 accepted_read grids script shelf statements ok =
     let short : nat_lt 1048576 (length script.bytes) ≡ false = let h = ok.short in grind (arith, nat_tests) in
     let text : script_text script ≡ Ok script.bytes = rw (short, ok.ends) refl in
     record { loaded = all_loaded grids shelf ok.loaded; reads = record { text = script.bytes; bytes = text; denoted = ok.denoted } }
 
--- what is written of whatever is read is written of an accepted script over grids
+-- the text written for any script that is read is written for an accepted script over grids
 pub when_accepted : (grids : List Named) (script : Coming) (shelf : ShelfValue) (statements : List Statement) (before now : Option (List ℕ)) (failed : Bool) (outcome : Outcome)
     → (IsReadScript grids script shelf statements → Writes shelf statements before now failed outcome) → IsAccepted grids script shelf statements → Writes shelf statements before now failed outcome
 when_accepted grids script shelf statements before now failed outcome whole ok = whole (accepted_read grids script shelf statements ok)

@@ -1,4 +1,4 @@
--- The outcome of an execution, and the calls of the sink that failed.
+-- The outcome of an execution, and the failed calls of the sink.
 use Rattle.std.proofs.Common.{◌≡◌, ◌∙◌, ◌<◌, ◌||◌, ℕ, Bool, true, false, List, All, Option, Some, None, Result, Ok, Err, refl, sym, ap}
 use Rattle.std.specs.Prelude.{IsNone, IfOk, IfErr}
 use Rattle.std.proofs.lemmas.Bool.{true≢false}
@@ -63,7 +63,7 @@ module _ (shelf : ShelfValue) (statements : List Statement) (numbered : All (λ 
         first = (false, flush ∙ ap (λ (f : Faults). after_flush f true) puts);
       }
 
-  -- the outcome of an execution and a flush is the end of a run
+  -- an execution and its flush together give the outcome of a run
   pub is_end : (executed : Result ℕ Stopped) (outcome : Outcome) → outcome ≡ run_ended executed fails → IfOk executed (λ written. IsDone shelf statements before now written)
       → IfErr executed (λ s. Stops shelf statements before now s.written s.stop) → between ≡ after_put old (stops_write executed) → new ≡ after_execution between executed fails
       → IsRunEnd shelf statements before now old new outcome
@@ -74,7 +74,7 @@ pub sound : (fault : Option RunFault) (old new : Faults) → Failing fault old n
 sound None old new failing none = failing
 sound (Some fault) old new failing none = not_none none
 
--- if a write failed, a call failed
+-- if the error is a failed write, a call of the sink failed
 pub write : (fault : Option RunFault) (old new : Faults) → Failing fault old new → fault ≡ Some faults.Write → has_failed new ≡ true
 write fault old new failing is = by (rw is at failing)
   where

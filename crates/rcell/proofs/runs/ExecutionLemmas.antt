@@ -1,4 +1,4 @@
--- One statement more.
+-- Execution of one more statement.
 use Rattle.std.proofs.Common.{◌≡◌, ℕ, suc, ◌+◌, ◌<◌, Some, false, List, [], ◌∷◌, ◌++◌, length, take, drop, get_or, Option, refl, ap, sym, ◌∙◌, arith, subst, add-one, append-nil, length-append, take-append-drop, All}
 use Rattle.std.specs.Prelude.{slice_get}
 use Rattle.std.proofs.Math.Seq.{drop-cons}
@@ -23,12 +23,12 @@ use Rattle.rcell.specs.runs.Execution.{IsShelfBefore, IsWithin}
 use Rattle.rcell.specs.runs.Outcomes.{IsDone}
 use Rattle.rcell.proofs.OutputLemmas.{Executes-append}
 
--- the text of a statement that asks for the grid text of a map
+-- the text of an r.out.ascii statement is the grid text of its map
 pub grid_command : (shelf : ShelfValue) (command : Command) (place : ℕ) (text : List ℕ) (m : Grid) → command ≡ OutAscii place text → slice_get shelf.maps place ≡ Some m
     → grid_text text m ≡ command_text shelf command
 grid_command shelf command place text m is map = rw (is, map) refl
 
--- the text of r.stats
+-- the text of an r.stats statement is its table
 pub stats_command : (shelf : ShelfValue) (command : Command) (places : List ℕ) (options : StatsOptions) → command ≡ Stats places options → stats_text shelf places options ≡ command_text shelf command
 stats_command shelf command places options is = rw is refl
 
@@ -54,7 +54,7 @@ module _ (statements : List Statement) (i : ℕ) (s : Statement) (h : i < length
       (Executes-append (take i statements) (s ∷ []) shelf after next text (command_text after s.command) executed last)
 
   module _ {shelf after : ShelfValue} {before taken : Option (List ℕ)} {start faults : Faults} {old : BlockValue} (executed : HasExecuted shelf (take i statements) before start taken faults old after) where
-    -- the statement at place i is executed, and the block emptied
+    -- the statement at place i is executed, and its text is appended
     pub executed_more : {next : ShelfValue} {S : Type 0} {known : S → Option (List ℕ)} {failing : S → Faults} {was now : S} {new : BlockValue} → taken ≡ known was → faults ≡ failing was → IsShelfAfter after s.command next
         → Appends known failing was old (command_text after s.command) now new → HasExecuted shelf (take (i + 1) statements) before start (known now) (failing now) new next
     executed_more {next} t f step appends = record {
@@ -63,7 +63,7 @@ module _ (statements : List Statement) (i : ℕ) (s : Statement) (h : i < length
       appended = appends.adds before start executed.text (rw (t, f) at executed.appended);
     }
 
-    -- memory ran out at the statement at place i
+    -- if memory ran out at the statement at place i, the statements before it are written
     pub before_at : old.failed ≡ false → old.held ≡ [] → IsShelfBefore shelf statements before taken old.written s.line
     before_at good none =
         let put = appended_put executed.appended good none in
@@ -80,7 +80,7 @@ module _ (statements : List Statement) (i : ℕ) (s : Statement) (h : i < length
           count = put.1.0;
         }
 
--- a put failed
+-- after the statements before place i, the output is a prefix of the full output
 pub executed_within : (shelf after : ShelfValue) (statements : List Statement) (i : ℕ) (before now : Option (List ℕ)) (start faults : Faults) (block : BlockValue)
     → HasExecuted shelf (take i statements) before start now faults block after → IsWithin shelf statements before now block.written
 executed_within shelf after statements i before now start faults block executed = record {
@@ -95,7 +95,7 @@ executed_within shelf after statements i before now start faults block executed 
   count = executed.appended.count;
 }
 
--- where all was written and the flush failed, the prefix is the whole output
+-- if everything was written and the flush failed, the prefix is the full output
 pub done_within : (shelf : ShelfValue) (statements : List Statement) (before now : Option (List ℕ)) (written : ℕ) → IsDone shelf statements before now written → IsWithin shelf statements before now written
 done_within shelf statements before now written done = record {
   first = statements;
@@ -113,7 +113,7 @@ got_at : (front : List Statement) (s : Statement) (back : List Statement) (d : S
 got_at [] s back d = refl
 got_at (x ∷ front) s back d = got_at front s back d
 
--- the line of a statement that was not begun is above 0
+-- a statement that was not begun has a line number above 0
 pub line_above : (shelf : ShelfValue) (statements : List Statement) (before now : Option (List ℕ)) (written line : ℕ) → All (λ s. 0 < s.line) statements → IsShelfBefore shelf statements before now written line → 0 < line
 line_above shelf statements before now written line numbered at =
     let within : length at.first < length statements = omega (arith, ap length at.whole, length-append at.first (at.statement ∷ at.others)) in

@@ -1,4 +1,4 @@
--- What is read is written, if memory suffices and the sink takes everything.
+-- The output is written if memory suffices and the sink accepts everything.
 use Rattle.std.proofs.Common.{◌≡◌, ◌≢◌, ℕ, Bool, true, List, Option, Some, None, Result, Ok, Err, refl, ap, sym, ◌∙◌, subst}
 use Rattle.std.specs.Prelude.{IsNone, IfSome}
 use Rattle.std.proofs.lemmas.Bool.{true≢false}
@@ -15,7 +15,7 @@ use Rattle.rcell.specs.declared.outcome.Outcome.{Outcome}
 use Rattle.rcell.specs.declared.run_fault.RunFault.{RunFault}
 use Rattle.rcell.specs.declared.run_fault.RunFault.TheVariants.{GridTwice, GridRegion, Grid, ScriptRead, ScriptSize, Script, Memory, Write}
 
--- an error before execution whose status is not 3, out of memory, is an error of the input
+-- an error before execution with a status other than 3 is an error of the input
 pub input_unless_memory : (f : RunFault) → IsBeforeExecution f → fault_status f ≢ 3 → IsOfInput f
 input_unless_memory (GridTwice grid) early bad = tt
 input_unless_memory (GridRegion grid) early bad = tt
@@ -26,7 +26,7 @@ input_unless_memory (Script fault) early bad = λ e. bad (ap script_status e)
 input_unless_memory (Memory line) early bad = absurd (bad refl)
 input_unless_memory Write early bad = absurd early
 
--- what was written in execution, if memory lasted and the sink took everything
+-- the output of an execution is written if memory suffices and the sink accepts everything
 written : (shelf : ShelfValue) (statements : List Statement) (before now : Option (List ℕ)) (failed : Bool) (outcome : Outcome)
     → (IsNone outcome.fault → IsDone shelf statements before now outcome.written) → IfSome outcome.fault IsInExecution → outcome.status ≡ status_after outcome.fault
     → (outcome.fault ≡ Some Write → failed ≡ true) → Writes shelf statements before now failed outcome
@@ -56,7 +56,7 @@ module _ (grids : List Named) (script : Coming) (loaded : ShelfValue) (is_loaded
   reads : ReadsScript loaded.names script statements
   reads = subst (λ (s : ShelfValue). ReadsScript s.names script statements) (sym one_shelf) read.reads
 
-  -- what was read was executed
+  -- a script that is read is executed
   pub read_written : (found : List Statement) → ((ss : List Statement) → ReadsScript loaded.names script ss → found ≡ ss) → (IsNone outcome.fault → IsDone loaded found before now outcome.written)
       → IfSome outcome.fault IsInExecution → outcome.status ≡ status_after outcome.fault → (outcome.fault ≡ Some Write → failed ≡ true) → Writes shelf statements before now failed outcome
   read_written found only done late status write =

@@ -13,7 +13,7 @@ use Rattle.rcell.specs.declared.run_fault.RunFault.TheVariants.{Script}
 use Rattle.rcell.specs.runs.Endings.{ReadsScript, IsScriptRefusal}
 use Rattle.rcell.proofs.running.read_statements.Goals as goal
 
--- what holds of what a source gives
+-- a property of the content of a source holds for the known content
 at_known : (coming : Option Coming) (given : Coming) (P : Coming → Type 0) → coming ≡ Some given → IfSome coming P → P given
 at_known coming given P same is = rw same at is
 

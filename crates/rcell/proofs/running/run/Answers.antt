@@ -84,7 +84,7 @@ when_zero : {status : ℕ} {P : Type 0} (fault : Option RunFault) → status ≡
 when_zero None is sound zero = sound refl
 when_zero (Some fault) is sound zero = not_zero fault (sym is ∙ zero)
 
--- First, since a run that touches its sink before execution meets none of the clauses below either.
+-- This clause comes first: a run that touches its sink before execution meets none of the clauses below.
 pub returns-in-Err-clause-untouched : goal.returns-in-Err-clause-untouched
 returns-in-Err-clause-untouched g c = rw c.refused_outcome.ensures (λ early. (refl, refl))
 

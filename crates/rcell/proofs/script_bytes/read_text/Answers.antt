@@ -9,7 +9,7 @@ use Rattle.cell_core_devices.specs.declared.device.DeviceFault.{DeviceFault}
 use Rattle.rcell.proofs.TextLemmas.{text_ends, no_memory, text_fails, text_long, block_more, same_most, past_most, still_short, less_left, block_len, block_fits, room_fits}
 use Rattle.rcell.proofs.script_bytes.read_text.Goals as goal
 
--- a call gave bytes
+-- a count other than 0 means that the call gave bytes
 not_none : (n : ℕ) → n ≢ 0 → (n == 0) ≡ false
 not_none n some = grind (arith, nat_tests)
 
