@@ -1,4 +1,4 @@
--- What clap finds among words of which the first does not begin with a hyphen.
+-- The values that clap finds among words whose first word does not begin with a hyphen.
 use Rattle.std.proofs.Common.{◌≡◌, ◌&&◌, ◌≤◌, nat_le, ◌∷◌, ◌++◌, ◌∙◌, ap, ap₂, sym, Bool, List, []}
 use Rattle.std.proofs.Common.{Some, None, true, false, not, refl, is_some, length, codes, drop, arith}
 use Rattle.std.specs.List.{fold, list_all}
@@ -15,7 +15,7 @@ use Rattle.clap.specs.declared.parser.matches.ValueSource.TheVariants.{CommandLi
 use Rattle.rcell_command.specs.CommandWords.{begins_with_hyphen, is_command}
 use Rattle.rcell_command.specs.parts.ClapWords.{command_line}
 
--- of whatever program
+-- the rules of the command, which do not depend on the program's name
 abbrev rules : List Rule
 rules = (built (command_line [])).top.rules
 
@@ -37,7 +37,7 @@ rest_row rest = record {
   reading = AsWritten;
 }
 
--- the walk after the first word
+-- the state of the walk after the first word
 abbrev after_first : Text → Walk
 after_first first = record {
   held = record { rows = []; pending = Some (codes "FIRST", first ∷ []); skip = 0 };
@@ -47,7 +47,7 @@ after_first first = record {
   stopped = None;
 }
 
--- the walk after the first word and these
+-- the state of the walk after the first word and some further words
 abbrev at_rest : Text → List Text → Walk
 at_rest first rest = record {
   held = record { rows = first_row first ∷ []; pending = Some (codes "REST", rest); skip = 0 };
@@ -114,7 +114,7 @@ matches_are : (program own first second : Text) (rest : List Text) → begins_wi
     → matches_of (command_line program) (own ∷ first ∷ second ∷ rest) ≡ first_row first ∷ rest_row (second ∷ rest) ∷ []
 matches_are program own first second rest plain = ap (λ w. finished rules w.held) (walk_is first second rest plain)
 
--- words that clap finds are all the words after the first, in their order
+-- the words that clap finds are all words after the first, in order
 pub words_asked : (program : Text) (words : List Text) (first : Text) (rest : List Text)
     → is_command (drop 1 words) ≡ true
     → first_of (codes "FIRST") (matches_of (command_line program) words) ≡ Some first
@@ -131,7 +131,7 @@ words_asked program (own ∷ word ∷ second ∷ words) first rest good one othe
     ap (all_of (codes "REST")) are in
     cc
 
--- if there are enough words, clap finds them
+-- clap finds all words if there are enough of them
 pub words_found : (program : Text) (words : List Text) → is_command (drop 1 words) ≡ true
     → (is_some (first_of (codes "FIRST") (matches_of (command_line program) words)) ≡ true)
     × (is_some (all_of (codes "REST") (matches_of (command_line program) words)) ≡ true)
@@ -160,7 +160,7 @@ module _ (program : Text) where
       ap₂ (λ a b. a && b) turn (ap (λ w. walk_passes shape [] w words) (word_walked first rest word)
       ∙ rest_passes first (rest ++ word ∷ []) words)
 
-  -- what the walk has to end with for the words to be taken
+  -- the condition on the end of the walk under which the words are accepted
   abbrev ends : List Text → Walk → Bool
   ends words end = entered_passes (built (command_line program)) end.stopped
       && (walk_passes shape [] (walk_from nothing_held) words
@@ -187,7 +187,7 @@ module _ (program : Text) where
       (ap (λ w. turn_passes shape [] w second && walk_passes shape [] (walked rules [] w second) rest)
       (first_walked first plain) ∙ others)
 
-  -- two words or more are taken if the first does not begin with a hyphen
+  -- two words or more are accepted if the first does not begin with a hyphen
   pub words_taken : (words : List Text) → length words ≤ usize_max → is_command (drop 1 words) ≡ true
       → takes (command_line program) words ≡ true
   words_taken [] few good = apart good

@@ -1,4 +1,4 @@
--- Files that were opened one after the other, and what is known after each.
+-- Files that are opened one after another, and what is known after each.
 use Rattle.std.proofs.Common.{Bor, ℕ, IfSome, List, [], ◌∷◌, ◌++◌, ◌≡◌, ◌<◌, ◌+◌, ◌∙◌, ap, sym}
 use Rattle.std.proofs.Common.{refl, take, length, Bool, Option, None, Some, arith, subst, get_or, map, zero, suc}
 use Rattle.std.specs.List.{AllZip}
@@ -25,20 +25,20 @@ take_none (suc n) = refl
 pub nowhere : (i : ℕ) → i < 0 → ⊥
 nowhere i within = omega arith
 
--- the text of a word at a place
+-- the text of the word at a place is the text at that place
 pub text_at : (words : List (Bor Text)) (i : ℕ) (d : Bor Text) (e : Text) → i < length words → (get_or words i d).now
     ≡ get_or (texts words) i e
 text_at [] i d e within = absurd (nowhere i within)
 text_at (word ∷ words) zero d e within = refl
 text_at (word ∷ words) (suc i) d e within = text_at words i d e (omega arith)
 
--- a known file gives what it holds
+-- a known file gives its known content
 pub known_gives : (known : Option Coming) {given : Option Coming} {text : Coming} → known ≡ Some text → IfSome known
     (λ t. given ≡ Some t) → given ≡ Some text
 known_gives None is gives = cc
 known_gives (Some held) is gives = gives ∙ is
 
--- lists grow by pairs
+-- two related lists stay related when a related pair is appended
 pub zip_push : {A B : Type 0} (R : A → B → Type 0) (xs : List A) (ys : List B) (x : A) (y : B) → AllZip R xs ys → R x
     y → AllZip R (xs ++ x ∷ []) (ys ++ y ∷ [])
 zip_push R [] [] x y pairs pair = (pair, tt)
@@ -93,7 +93,7 @@ module _ {P : Type 0} {files : P → List ℕ → Option Coming} {opened : P →
       (take_more paths at path within) in
       some_of (at + 1) (opened_as whole (opened_then before one))
 
-  -- the next path too, or not
+  -- the next path opens, or fails to open
   pub some_more : {a b c : P} (paths : List (List ℕ)) (at : ℕ) (path : List ℕ) → at < length paths → path ≡ get_or
       paths at path
       → OpensFiles files opened errors failed a b (take at paths) → OpensSomeFiles files opened errors failed b c
@@ -111,7 +111,7 @@ module _ {P : Type 0} {files : P → List ℕ → Option Coming} {opened : P →
   all_of_some {a} {b} {paths} is = some_of (length paths) (opened_as (sym (take_all (length paths) paths (omega
       arith))) is)
 
-  -- what is reported after files were opened
+  -- the report after files are opened counts from the start
   pub told_after : {a b c : P} {paths : List (List ℕ)} {program : List ℕ} {place : Option PlaceValue} {status : ℕ} →
       OpensFiles files opened errors failed a b paths
       → HasReported opened errors failed b c program place status → IsTold errors failed a c program place status
