@@ -1,4 +1,4 @@
--- What words ask for, by what is found among them.
+-- The request that some words make.
 use Rattle.std.proofs.Common.{Bor, Bool, Global, String, ◌≡◌, ◌≤◌, ◌∷◌, ◌==◌, [], List, Ok, Err, true, false, not}
 use Rattle.std.proofs.Common.{drop, length, map, refl, arith}
 use Rattle.std.proofs.lemmas.Bool.{eqb-true}
@@ -17,14 +17,14 @@ use Rattle.rcell_join.specs.declared.join_refusal.Usage.TheVariants as usages
 apart : {X : Type 0} → true ≡ false → X
 apart bad = cc
 
--- one table or more, in the format of the words
+-- the words ask for one table or more, in the format that they give
 pub tables_read : (labels : Bool) (words : List Text) (found : List (Bor Text)) → has_hyphen_word words ≡ false
     → texts found ≡ paths_in words → (length found == 0) ≡ false
     → asked_labelled labels words ≡ (format_in labels words >>= λ format. Ok (Tables format (texts found)))
 tables_read labels words [] plain are some = apart some
 tables_read labels words (table ∷ tables) plain are some = rw (plain, ← are) refl
 
--- a numbering, and one table or more
+-- the words ask for sizes, with a numbering and one table or more
 pub sizes_read : (words : List Text) (found : List (Bor Text)) (numbering : Bor Text) (tables : List (Bor Text))
     → has_hyphen_word words ≡ false → texts found ≡ paths_in words → 2 ≤ length found
     → numbering ≡ slice_index_or found 0 numbering → tables ≡ remove found 0
@@ -36,7 +36,7 @@ sizes_read words (one ∷ two ∷ rest) numbering tables plain are some first ot
     let those : tables ≡ two ∷ rest = others in
     rw (plain, ← are, is, those) refl
 
--- tiles, by the flag or without it
+-- the words ask for tiles, with the flag or without it
 pub tiles_read : (usage : Usage) (words : List Text) (found : List (Bor Text))
     → has_hyphen_word (tile_paths words) ≡ false
     → texts found ≡ tile_paths words → (length found == 0) ≡ false
@@ -44,7 +44,7 @@ pub tiles_read : (usage : Usage) (words : List Text) (found : List (Bor Text))
 tiles_read usage words [] plain are some = apart some
 tiles_read usage words (tile ∷ tiles) plain are some = rw (plain, ← are) refl
 
--- none
+-- no tiles are an error
 pub tiles_lack : (usage : Usage) (words : List Text) (found : List (Bor Text)) → texts found ≡ tile_paths words
     → (length found == 0) ≡ true → joined_tiles usage words ≡ Err (refusals.Usage usage)
 tiles_lack usage words [] are none = rw (← are) refl
@@ -63,7 +63,8 @@ hyphen_command (b ∷ rest) words hyphen =
     let is : b ≡ 45 = eqb-true b 45 (hyphen_of _ hyphen) in
     rw is refl
 
--- no word after the program's own name, or two words or more of which the first begins with a hyphen
+-- no request is made by no words after the program's name, or by several words of which the first begins with a
+-- hyphen
 pub no_command : (words : List (String Global)) → is_command (drop 1 (map string_bytes words)) ≡ false
     → (length words ≡ 2 → ⊥)
     → asked_of (drop 1 (map string_bytes words)) ≡ Err (refusals.Usage usages.AnyCommand)
@@ -73,7 +74,7 @@ no_command (own ∷ word ∷ []) few not_two = elim (not_two refl) [ ]
 no_command (own ∷ first ∷ word ∷ words) few not_two =
     hyphen_command (string_bytes first) (string_bytes word ∷ map string_bytes words) few
 
--- a word begins with a hyphen
+-- a word that begins with a hyphen is an error of usage
 pub tiles_misused : (usage : Usage) (words : List Text) → has_hyphen_word (tile_paths words) ≡ true
     → joined_tiles usage words ≡ Err (refusals.Usage usage)
 tiles_misused usage words flagged = rw flagged refl

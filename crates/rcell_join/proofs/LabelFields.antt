@@ -1,4 +1,4 @@
--- Fields of two lines, side by side.
+-- Fields of two lines, compared in pairs.
 use Rattle.std.proofs.Common.{◌≡◌, ◌≢◌, ℕ, ◌<◌, List, [], ◌∷◌, ◌++◌, length, Bool, true, false, not, refl}
 use Rattle.std.proofs.Common.{ap, sym, ◌∙◌, ◌==◌}
 use Rattle.std.proofs.lemmas.List.{append_assoc}
@@ -8,7 +8,7 @@ use Rattle.std.specs.Str.{bytes_eq}
 use Rattle.std.specs.List.{position_or_len, before_first, after_first}
 use Rattle.rcell_join.specs.TwoLabels.{fields_of, last_field}
 
--- fields that are the same on both lines were read
+-- some fields, equal on both lines, are read
 pub record AreReadOn (separator : ℕ) (line other category rest rest_of_other : List ℕ) : Type 0 where
   pub same : List (List ℕ)
   pub on_line : fields_of separator line ≡ same ++ fields_of separator rest
@@ -41,7 +41,7 @@ not-false : (b : Bool) → not b ≡ false → b ≡ true
 not-false true is = refl
 not-false false is = cc
 
--- what the comparison of two fields says
+-- unequal bytes are different fields
 pub fields-differ : (one other : List ℕ) → not (bytes_eq one other) ≡ true → one ≢ other
 fields-differ one other unlike = λ same. not-both (bytes_eq one other) unlike ((bytes_eq-Decides one other).1 same)
 

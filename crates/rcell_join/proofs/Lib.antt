@@ -1,4 +1,4 @@
--- What several proofs share.
+-- Lemmas that several proofs share.
 pub mod CommandLemmas
 pub mod WordLemmas
 pub mod LabelFields

@@ -1,4 +1,4 @@
--- Words that are kept one after another, and words of which one is as asked.
+-- Words that pass a test, and a flag among words.
 use Rattle.std.proofs.Common.{Bor, ◌≡◌, ◌∙◌, ◌+◌, ◌<◌, ◌∷◌, ◌++◌, [], ℕ, Bool, List, true, false, length, take, cond, ap, sym}
 use Rattle.std.specs.List.{filter, list_any, slice_index_or}
 use Rattle.std.proofs.lemmas.List.{append-nil, map-append, take_more}
@@ -16,16 +16,16 @@ module _ (p : Text → Bool) (words : List (Bor Text)) (i : ℕ) (word : Bor Tex
       ∙ filter-append p (texts (take i words)) ((slice_index_or words i word).now ∷ [])
       ∙ ap (λ (b : Text). filter p (texts (take i words)) ++ filter p (b ∷ [])) (sym same)
 
-  -- one that is kept
+  -- a word that passes the test is kept
   pub kept-more : p bytes ≡ true → filter p (texts (take (i + 1) words)) ≡ filter p (texts (take i words)) ++ bytes ∷ []
   kept-more is_kept = one-more ∙ ap (λ t. filter p (texts (take i words)) ++ cond t (bytes ∷ []) []) is_kept
 
-  -- one that is left
+  -- a word that fails the test is left out
   pub left-more : p bytes ≡ false → filter p (texts (take (i + 1) words)) ≡ filter p (texts (take i words))
   left-more is_left = one-more ∙ ap (λ t. filter p (texts (take i words)) ++ cond t (bytes ∷ []) []) is_left
       ∙ append-nil (filter p (texts (take i words)))
 
--- the words that are lent, and their bytes
+-- a flag is among borrowed words exactly if it is among their texts
 pub flags_of_texts : (flag : Text) (words : List (Bor Text)) → list_any (λ word. is_flag flag word.now) words
     ≡ contains_flag flag (texts words)
 flags_of_texts flag words = list_any-map (is_flag flag) (λ (w : Bor Text). w.now) words
