@@ -28,7 +28,7 @@ use Rattle.cell_join_law.proofs.RightLemmas.{right-texts-are-added-up}
 use Rattle.cell_join_law.specs.RightTexts.{IsOfNoText}
 use Rattle.cell_join_law.specs.WrittenBorders.{written_text}
 
--- how many clumps tiles have, and their numbers in the whole, of which a numbering can be read
+-- the counts of clumps of tiles, and their numbers in the full map, are small enough to be read from a numbering
 pub record AreInRange (counts numbers : List ℕ) : Type 0 where
   pub short : length counts < 2 ^ 31
   pub few : All (λ n. n < 2 ^ 31) counts

@@ -1,4 +1,4 @@
--- Statements that print no labels write the same over maps that differ in their labels alone.
+-- Statements that print no labels write the same text over maps that differ only in their labels.
 use Rattle.std.proofs.Common.{◌≡◌, ℕ, false, List, [], ◌∷◌, ◌++◌, map, Option, Some, None, IsSome, refl, ap, sym, ◌∙◌}
 use Rattle.std.proofs.Common.{subst, arith}
 use Rattle.std.specs.Prelude.{slice_get, flat_map, if◌then◌else◌, All}
@@ -32,7 +32,7 @@ use Rattle.rcell.specs.Output.{Executes, command_text, format_of, stats_text, ou
 use Rattle.rcell_law.specs.ReadAgain.{bare, prints_labels, PrintNoLabels, LabelsChangeNoOtherText}
 use Rattle.rcell_law.proofs.BareLemmas.{combinations_bare, grid_text_bare, value_bare, line_bare, pair_bare}
 
--- shelves that differ in the labels of their maps alone
+-- shelves whose maps differ only in their labels
 pub record AreAlike (a b : ShelfValue) : Type 0 where
   pub region : a.region ≡ b.region
   pub names : a.names ≡ b.names
@@ -157,7 +157,7 @@ module _ (a b : ShelfValue) (alike : AreAlike a b) where
         ∙ sym (map-append without_labels b.maps (y ∷ []));
   }
 
-  -- the map in a place of both
+  -- the maps at a place are equal without labels
   same_places : (place : ℕ)
       → option_map without_labels (slice_get a.maps place) ≡ option_map without_labels (slice_get b.maps place)
   same_places place =
@@ -240,7 +240,7 @@ module _ (a b : ShelfValue) (alike : AreAlike a b) where
   after_alike (Stats places options) x h = (b, (refl, subst (λ (s : ShelfValue). AreAlike s b) (sym h) alike))
   after_alike (OutAscii place null_text) x h = (b, (refl, subst (λ (s : ShelfValue). AreAlike s b) (sym h) alike))
 
--- statements write the same, and leave shelves that differ in labels alone
+-- statements write the same text, and leave shelves that differ only in labels
 pub executes_alike : (statements : List Statement) → PrintNoLabels statements → (a b : ShelfValue) → AreAlike a b
     → (text : List ℕ) (x : ShelfValue) → Executes a statements text x
     → (y : ShelfValue) × (Executes b statements text y × AreAlike x y)

@@ -1,4 +1,4 @@
--- What commands read of maps is the same without their labels.
+-- What commands read from maps does not depend on their labels.
 use Rattle.std.proofs.Common.{◌≡◌, ℕ, ℤ, pos, ◌+ℤ◌, Bool, false, List, [], ◌∷◌, ◌++◌, map, Option, Some, None, refl, ap}
 use Rattle.std.proofs.Common.{sym, ◌∙◌}
 use Rattle.std.specs.Prelude.{slice_get, flat_map, if◌then◌else◌}
@@ -18,14 +18,14 @@ use Rattle.cell_stats_combinations.specs.Combinations.{Combination, cell_of_map,
 use Rattle.cell_stats.specs.TableText.{FormatValue, cell_fields, label_of_cell, combination_fields, cell_line}
 use Rattle.cell_stats.specs.TableText.{pair_line, count_fields, line_text}
 
--- a cell of a map that may be there
+-- a cell of a map, if the map exists, does not depend on labels
 read_bare : {X : Type 0} (read : Grid → X) (none : X) (o : Option Grid)
     → ((m : Grid) → read m ≡ read (without_labels m))
     → option_map_or read o none ≡ option_map_or read (option_map without_labels o) none
 read_bare read none None same = refl
 read_bare read none (Some m) same = same m
 
--- what is read of the map in a place
+-- the value read from the map at a place does not depend on labels
 pub at_bare : {X : Type 0} (read : Grid → X) (none : X) (maps : List Grid) (place : ℕ)
     → ((m : Grid) → read m ≡ read (without_labels m))
     → option_map_or read (slice_get maps place) none ≡ option_map_or read

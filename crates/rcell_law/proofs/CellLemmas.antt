@@ -1,4 +1,4 @@
--- A map that is cut into a grid of tiles has as many cells as these together.
+-- A map cut into a grid of tiles has as many cells as all tiles together.
 use Rattle.std.proofs.Common.{◌≡◌, ℕ, ◌+◌, ◌*◌, ◌<◌, ◌≤◌, List, [], ◌∷◌, length, ap, sym, ◌∙◌, subst}
 use Rattle.std.proofs.Common.{arith, ⊎_elim}
 use Rattle.std.specs.Prelude.{All, sum, sum_by}
@@ -49,7 +49,7 @@ each-few [] are = omega arith
 each-few (tile ∷ tiles) are =
     omega (arith, sum_by-cons tile_cells tile tiles, are.0.cells_most, each-few tiles are.1)
 
--- so it has fewer than 2^31 for each
+-- the map has fewer than 2^31 cells per tile
 pub cells-few : (whole : Grid) (tiles : List (List NumberedTile)) → whole.rows ≡ rows_of_tiles tiles
     → IsFilled whole.region whole.rows → AreSized (tile_widths tiles) tiles → Each IsTileOfRegion (all_tiles tiles)
     → whole.region.rows * whole.region.cols ≤ length (all_tiles tiles) * 2147483647

@@ -1,4 +1,4 @@
--- A script cut in two runs.
+-- A script that is cut into two runs.
 use Rattle.std.proofs.Common.{◌≡◌, ℕ, zero, suc, ◌+◌, List, [], ◌∷◌, ◌++◌, length, map, drop, refl, ap, sym, ◌∙◌}
 use Rattle.std.proofs.Common.{subst, arith, length-append}
 use Rattle.std.specs.Prelude.{slice_get, All, ◌↔◌}
@@ -95,7 +95,7 @@ module _ (grids : List Named) (shelf between : ShelfValue) (null_text : List ℕ
   many_names : length grids ≡ length shelf.names
   many_names = sym (ap length are.names ∙ length-map grids (λ g. g.0))
 
-  -- what is left of the names and of the maps
+  -- after the names of the grids are dropped, the names that statements added remain
   names_left : drop (length grids) between.names ≡ grown.names
   names_left = ap (drop (length grids)) grown.names_are ∙ drop_at shelf.names grown.names (length grids)
       (sym many_names)

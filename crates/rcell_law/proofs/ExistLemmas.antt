@@ -1,4 +1,4 @@
--- What statements make and write is there.
+-- The maps that statements make and write exist.
 use Rattle.std.proofs.Common.{◌≡◌, ℕ, ◌+◌, ◌<◌, List, [], ◌∷◌, ◌++◌, length, get_or}
 use Rattle.std.proofs.Common.{Option, Some, refl, ap, sym, ◌∙◌, subst, arith}
 use Rattle.std.specs.Prelude.{slice_get, All}
@@ -25,7 +25,7 @@ use Rattle.rcell.specs.After.{IsShelfAfter}
 use Rattle.rcell.specs.Output.{Executes, command_text}
 use Rattle.rcell_law.specs.OutputExists.{OutputsExist}
 
--- each name has a map of the shelf's region, with the rows and columns of it
+-- each name has a map with the shelf's region, and as many rows and columns
 pub record HasMaps (shelf : ShelfValue) : Type 0 where
   pub named : length shelf.names ≡ length shelf.maps
   pub maps : All (λ m. (m.region ≡ shelf.region) × IsFilled m.region m.rows) shelf.maps
@@ -71,7 +71,7 @@ with_more shelf target made h region filled = record {
       (region, filled);
 }
 
--- the map in a place
+-- the map at a place exists
 map_there : (shelf : ShelfValue) (place : ℕ) → HasMaps shelf → place < length shelf.names → (m : Grid) ×
     ((slice_get shelf.maps place ≡ Some m) × ((m.region ≡ shelf.region) × IsFilled m.region m.rows))
 map_there shelf place h lt =
@@ -85,7 +85,7 @@ map_there shelf place h lt =
       ),
     )
 
--- if a command reads a map to make another of it, the map is known
+-- a map that a command reclassifies or clumps is known
 abbrev pub CanMake : List (List ℕ) → Command → Type 0
 CanMake known (Reclass place target rules) = place < length known
 CanMake known (Clump place target joining) = place < length known
@@ -95,7 +95,7 @@ abbrev pub CanMakeAll : List (List ℕ) → List Statement → Type 0
 CanMakeAll known [] = Unit {0}
 CanMakeAll known (s ∷ ss) = CanMake known s.command × CanMakeAll (known_after known s.command) ss
 
--- a shelf after a command, under the names that are known then
+-- the shelf after a command, with a map for each name, and with the names known then
 record HasShelfAfter (shelf : ShelfValue) (c : Command) : Type 0 where
   after : ShelfValue
   is_after : IsShelfAfter shelf c after

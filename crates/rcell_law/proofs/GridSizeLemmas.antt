@@ -183,7 +183,7 @@ module _ (j : Joining) (whole : Grid) (tiles : List (List NumberedTile)) (text :
   numbers-joined : numbers_of_tiles joined ≡ are.numbering.numbers
   numbers-joined = rows-numbers j 0 tiles (tile_widths tiles) is.counts is.numbers sized is.have is.many
 
-  -- each number has in the whole as many cells as its sizes are together
+  -- the cells of a number in the full map are the sum of its sizes
   sizes-of-number : (own : Grid) → IsClumping j whole own → (n : ℕ) → 0 < n
       → size_of_number own whole.region.rows whole.region.cols n
       ≡ size_of_area n are.numbering.numbers (flat_map sizes_of_tile joined)
@@ -192,14 +192,14 @@ module _ (j : Joining) (whole : Grid) (tiles : List (List NumberedTile)) (text :
       ∙ tile-sizes j whole n (omega (arith, one)) joined are-joined.joined
       ∙ ap (λ (l : List ℕ). size_of_area n l (flat_map sizes_of_tile joined)) numbers-joined
 
-  -- each of the numbers is the number of a clump of the full map
+  -- each number in the numbering is the number of a clump of the full map
   pub numbers-few : (clumps : ℕ) → HasAreas j whole clumps
       → All (λ (n : ℕ). (0 < n) × (n ≤ clumps)) are.numbering.numbers
   numbers-few clumps has =
       subst (All (λ (n : ℕ). (0 < n) × (n ≤ clumps))) numbers-joined
       (numbers-good j whole clumps has joined are-joined.joined)
 
-  -- each number has in the whole as many cells as its sizes in the tables are together
+  -- the cells of a number in the full map are the sum of its sizes in the tables
   size-listed : (skip : Skip) (tables : List Pairs) → AllZip (IsTableOfTile skip) (all_tiles tiles) tables
       → (own : Grid)
       → IsClumping j whole own → (n : ℕ) → 0 < n

@@ -60,7 +60,7 @@ script_new known text statements is = group_new known (numbered_lines 1 (script_
 
 -- ---- the shelf grows
 
--- distinct names, each with a map of the region
+-- a shelf with distinct names, each with a map of the region
 pub record IsOrdered (region : RegionValue) (shelf : ShelfValue) : Type 0 where
   pub region_is : shelf.region ≡ region
   pub named : length shelf.names ≡ length shelf.maps

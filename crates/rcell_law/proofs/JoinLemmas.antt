@@ -1,4 +1,4 @@
--- The tiles of a grid, each with its place and the numbers that its clumps have in the whole.
+-- The tiles of a grid, with their places and their clumps' numbers in the full map.
 use Rattle.std.proofs.Common.{◌≡◌, ℕ, suc, pos, ◌+◌, ◌-◌, ◌<◌, ◌≤◌, List, [], ◌∷◌, ◌++◌, length, map, take, drop}
 use Rattle.std.proofs.Common.{get_or, flat_map, Some, refl, ap, sym, ◌∙◌, subst, arith}
 use Rattle.std.specs.Prelude.{All, slice_get, slice_index, sum}
@@ -134,7 +134,7 @@ module _ (j : Joining) where
 -- ---- they are tiles of the full map, and have its numbers
 
 module _ (j : Joining) (whole : Grid) where
-  -- a tile in a place, with count clumps, and their numbers from a place on
+  -- a tile at its place, with `count` clumps and their numbers in the full map from a place on
   pub record IsTileHere (place : Rectangle) (tile : NumberedTile) (count : ℕ) (numbers : List ℕ)
       (before : ℕ) : Type 0 where
     pub cells : IsTile whole (record { place = place; map = tile.map })

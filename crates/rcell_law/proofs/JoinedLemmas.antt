@@ -1,4 +1,4 @@
--- Two scripts one after the other are a script.
+-- Two scripts, one after the other, form a script.
 use Rattle.std.proofs.Common.{◌≡◌, ℕ, ◌+◌, ◌≤◌, List, [], ◌∷◌, ◌++◌, length, map, refl, ap, sym, ◌∙◌, subst, arith}
 use Rattle.std.proofs.Common.{append_assoc, length-append}
 use Rattle.std.specs.Prelude.{All, ◌↔◌}
@@ -31,7 +31,7 @@ names_after_all (s ∷ ss) shelf after text (next, (rest, (step, (others, same))
     names_after_all ss next after rest others ∙ ap (λ (ns : List (List ℕ)). known_after_all ns ss)
     (names_after shelf s.command next step)
 
--- lines that group, and then lines that group over the maps that are known after them
+-- lines that group, followed by lines that group over the maps known after them, also group
 group_both : (known : List (List ℕ)) (xs : List ScriptLine) (one : List Statement) (ys : List ScriptLine)
     (two : List Statement)
     → Group known xs one → Group (known_after_all known one) ys two → Group known (xs ++ ys) (one ++ two)

@@ -1,4 +1,4 @@
--- Each text of a script is read to its end or to its first error.
+-- Each text of a script is read to its end or has a first error.
 use Rattle.std.proofs.Common.{◌≡◌, ℕ, ◌+◌, Bool, true, false, List, Result, Ok, Err, MatchResult, refl, sym, ap, ◌∙◌, subst, ◌⊎◌, inl, inr}
 use Rattle.std.specs.Prelude.{nat_lt, length, IsOkAnd}
 use Rattle.cell_core_values.specs.Words.{words_of}
@@ -26,13 +26,13 @@ use Rattle.rcell_script.proofs.TotalLemmas.{read_somehow}
 use Rattle.rcell_law.specs.JudgedLaw.{IsGoodText, IsBadText, ScriptTextsAreJudged}
 use Rattle.rcell_law.proofs.Plain.{IsPlain, plain_list}
 
--- an error of the grammar is not out of memory
+-- an error of the grammar is not an error of memory
 grammar_plain : (end : ℕ) (ts : List Placed) (reported : CalcFault) → IsGrammarFault end ts reported
     → reported.kind ≡ calc.Memory → ⊥
 grammar_plain end ts reported (inl (before, rest, next, cut, reports, none), is) e = subst (λ k. Reports k reported.column before next) e reports
 grammar_plain end ts reported (inr (at, can, none), is) e = cc (ap (λ (x : CalcFault). x.kind) at)
 
--- a text is an assignment, or has an error other than out of memory
+-- a text is an assignment, or has an error other than an error of memory
 abbrev IsJudgedText : List ℕ → Type 0
 IsJudgedText text = ((a : Assignment) × IsAssignmentText text a) ⊎ ((reported : CalcFault) × IsTextFault text reported × (reported.kind ≡ calc.Memory → ⊥))
 
@@ -49,7 +49,7 @@ judged_text text = go (token_list text) refl (plain_list text)
         by (inr (reported, is)) =
             inr (reported, inr (subst (λ x. MatchResult x (λ us. IsGrammarFault (length text + 1) us reported) (λ first. reported ≡ first)) (sym e) is), grammar_plain (length text + 1) ts reported is)
 
--- the line of an r.mapcalc comes to something
+-- a reading of the text of an r.mapcalc gives a reading of its line
 mapcalc_head : (known : List (List ℕ)) (line : List ℕ) → IsJudgedText (assignment_text line)
     → (head : Result Head ScriptKind) × IsMapcalc known line head
 mapcalc_head known line (inl (a, is)) = (mapcalc_of known a, inl (a, is, refl))

@@ -1,4 +1,4 @@
--- The lines of two texts, one after the other, if the first ends at a line's end.
+-- The lines of two texts, one after the other, if the first text ends with a line feed.
 use Rattle.std.proofs.Common.{◌≡◌, ℕ, zero, suc, ◌+◌, ◌≤◌, ◌==◌, Bool, true, false, cond, List, [], ◌∷◌, ◌++◌}
 use Rattle.std.proofs.Common.{length, map, take, drop, refl, ap, sym, ◌∙◌, arith, length-append, append_assoc, ⊎_elim}
 use Rattle.std.proofs.lemmas.Bool.{cases_lt}
@@ -34,7 +34,7 @@ most_len (c ∷ front) = by (c == 10) (most_len front)
 
 -- ---- the lines, if there is enough fuel
 
--- the first of them
+-- the first line and the lines after it
 lines_first : (n : ℕ) (bs : List ℕ) → 1 ≤ length bs → lines_from (suc n) bs ≡ take (line_len bs) bs ∷ lines_from n
     (drop (line_len bs) bs)
 unfolding lines_from
@@ -68,7 +68,7 @@ lines_enough (suc n) (suc k) (b ∷ bs) long more =
     (lines_enough n k rest (omega (arith, least, left, long)) (omega (arith, least, left, more)))
     ∙ sym (lines_first k (b ∷ bs) (omega arith))
 
--- a text that ends at a line's end, and another after it
+-- the lines of a text that ends with a line feed and of the text after it are the lines of both
 lines_both : (n : ℕ) (front back : List ℕ) → length (front ++ 10 ∷ back) ≤ n → lines_from n
     (front ++ 10 ∷ back) ≡ lines_from n (front ++ 10 ∷ []) ++ lines_from (length back) back
 lines_both zero front back long = absurd (let l = length-append front (10 ∷ back) in omega (arith, l, long))
@@ -94,7 +94,7 @@ lines_both (suc n) front back long =
     ∙ ap (λ (ls : List (List ℕ)). ls ++ lines_from (length back) back)
     (sym (lines_first n text (omega (arith, long_text))))
   where
-    -- after the first line
+    -- the lines after the first line split in the same way
     rest : ((other : List ℕ) → length (other ++ 10 ∷ back) ≤ n → lines_from n (other ++ 10 ∷ back) ≡ lines_from n
         (other ++ 10 ∷ []) ++ lines_from (length back) back)
         → (len : ℕ) → 1 ≤ len → len ≤ length front + 1 → length (front ++ 10 ∷ back) ≡ length front + length (10 ∷ back)

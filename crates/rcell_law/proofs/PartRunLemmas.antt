@@ -1,4 +1,4 @@
--- The output of one statement r.stats is its printed table, and printed tables of parts join.
+-- The output of one statement r.stats is its table, and the tables of parts join.
 use Rattle.std.proofs.Common.{◌≡◌, ℕ, List, [], ◌∷◌, ◌++◌, map, false, cond, refl, ap, sym, subst, ◌∙◌, append-nil}
 use Rattle.std.proofs.lemmas.List.Elements.{All-head, All-tail}
 use Rattle.std.specs.Prelude.{All}

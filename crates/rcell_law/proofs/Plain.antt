@@ -1,4 +1,4 @@
--- The tokens of a text have no error out of memory.
+-- Reading tokens does not run out of memory.
 use Rattle.std.proofs.Common.{◌≡◌, ℕ, ◌+◌, Bool, true, false, List, [], ◌∷◌, Option, Some, None, Result, Ok, Err}
 use Rattle.std.specs.Prelude.{nat_le, nat_lt, length, if◌then◌else◌}
 use Rattle.std.specs.List.{list_all, list_any}
@@ -13,7 +13,7 @@ use Rattle.cell_calc_grammar.specs.declared.token.Token.{Token}
 use Rattle.cell_calc_grammar.specs.declared.token.Token.TheVariants as token
 use Rattle.cell_calc_grammar.specs.Tokens.{token_fault, is_float_byte, not_whole, token_name, token_number, word_of, sign_of, mark_of, token_of, Piece, pieces, token_at, next_token, before, tokens_of, token_list}
 
--- there is a value, or an error other than out of memory
+-- a value, or an error other than an error of memory
 abbrev pub IsPlain : {A : Type 0} → Result A CalcFault → Type 0
 IsPlain (Ok x) = Unit {0}
 IsPlain (Err reported) = reported.kind ≡ Memory → ⊥

@@ -1,4 +1,4 @@
--- Cells that are made of cells in the range of categories are in it.
+-- Cells calculated from cells in the range of categories are in that range.
 use Rattle.std.proofs.Common.{◌≡◌, ℕ, ℤ, pos, negsuc, ◌+◌, ◌<◌, ◌≤◌, ◌+ℤ◌, ◌-◌, Bool, true, false, cond, not, ◌||◌}
 use Rattle.std.proofs.Common.{List, [], ◌∷◌}
 use Rattle.std.proofs.Common.{length, fold, get_or, Option, Some, None, refl, sym, subst, arith, ⊎_elim}
@@ -136,7 +136,7 @@ if_of_in (x ∷ a ∷ []) all = chosen_in x a (Some (pos 0)) (item_in (x ∷ a �
 if_of_in (x ∷ a ∷ b ∷ []) all = chosen_in x a b (item_in (x ∷ a ∷ b ∷ []) 1 all) (item_in (x ∷ a ∷ b ∷ []) 2 all)
 if_of_in _ all = tt
 
--- a row and a column of a region
+-- a row and a column inside a region
 pub record IsPosition (s : GridPosition) : Type 0 where
   pub row : s.row < s.rows
   pub col : s.col < s.cols

@@ -1,4 +1,4 @@
--- What a run reads without an error is an accepted script over grids.
+-- A run without an error reads an accepted script over grids.
 use Rattle.std.proofs.Common.{◌≡◌, ℕ, ◌+◌, ◌<◌, ◌≤◌, Bool, true, false, cond, List, [], ◌∷◌, ◌++◌, length, Option, Some}
 use Rattle.std.proofs.Common.{None, Result, Ok, Err, refl, sym, ◌∙◌, subst, arith, append_assoc, append-nil}
 use Rattle.std.specs.Prelude.{All, nat_lt, if◌then◌else◌}
@@ -29,7 +29,7 @@ use Rattle.rcell.proofs.runs.AcceptedLemmas.{AllDenote, names_of}
 
 -- ---- one grid more
 
--- a grid was put on a shelf, after its maps
+-- a grid is added to a shelf after its maps
 record IsPlaced (g : Named) (shelf after : ShelfValue) : Type 0 where
   map : Grid
   denotes : Denotes g.1 map
@@ -65,7 +65,7 @@ module _ (grid : ℕ) (shelf after : ShelfValue) (g : Named) where
 
 -- ---- all grids
 
--- grids were put on a shelf, after its maps
+-- grids are added to a shelf after its maps
 record ArePlaced (gs : List Named) (shelf after : ShelfValue) : Type 0 where
   maps : List Grid
   denote : AllDenote gs maps
@@ -99,7 +99,7 @@ one-more g gs shelf after m denotes same rest = record {
   one_region = All-cons (λ m. m.region ≡ shelf.region) m rest.maps same rest.one_region;
 }
 
--- for any shelf: the remaining grids are put on it
+-- for any shelf, the remaining grids are added to it
 abbrev Rest : List Named → ℕ → ShelfValue → Type 0
 Rest gs grid after = (next : ShelfValue) → AreDistinct next.names → shelf_from grid (Some next) gs ≡ Ok (Some after)
     → ArePlaced gs next after
@@ -128,7 +128,7 @@ placed-all (g ∷ gs) grid shelf after distinct e =
 one-distinct : (name : List ℕ) → AreDistinct (name ∷ [])
 one-distinct name = λ i j d lt within. absurd (omega (arith, lt, within))
 
--- what grids give is the shelf of the maps that they denote
+-- grids make the shelf of the maps that they denote
 grids-given : (gs : List Named) (shelf : ShelfValue) → 0 < length gs → shelf_of gs ≡ Ok (Some shelf)
     → AreGrids gs shelf
 unfolding shelf_from

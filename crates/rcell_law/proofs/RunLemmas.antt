@@ -1,4 +1,4 @@
--- A run that numbers clumps wrote a text that denotes the numbers of the areas of its map.
+-- A run that numbers clumps writes a text that denotes the clumping of its map.
 use Rattle.std.proofs.Common.{◌≡◌, ℕ, List, [], ◌∷◌, ◌++◌, length, Option, Some, None, zero, suc, refl, ap}
 use Rattle.std.proofs.Common.{sym, ◌∙◌, subst, arith, append-nil, length-append}
 use Rattle.std.proofs.Math.Seq.{get_or-append_seam}
@@ -94,7 +94,7 @@ denoted-there (one ∷ grids) (map ∷ maps) zero g m denote is there =
 denoted-there (one ∷ grids) (map ∷ maps) (suc place) g m denote is there =
     denoted-there grids maps place g m denote.1 is there
 
--- the map of numbers that was made, and what was written
+-- the map of numbers, and the text written from it
 record HasNumbered (shelf : ShelfValue) (place : ℕ) (joining : Joining) (target null_text text : List ℕ)
     (after : ShelfValue) : Type 0 where
   map : Grid
@@ -153,7 +153,7 @@ some-denoted (one ∷ grids) (map ∷ maps) zero g denote is =
     (map, subst (λ (o : Named). Denotes o.1 map) source denote.0)
 some-denoted (one ∷ grids) (map ∷ maps) (suc place) g denote is = some-denoted grids maps place g denote.1 is
 
--- the text of its map denotes one
+-- the text of a run's map denotes a map
 pub run-map : (script : Coming) (place : ℕ) (run : MapRun script place) → (m : Grid) × Denotes run.grid.1 m
 run-map script place run =
     some-denoted run.grids run.done.shelf.maps place run.grid (accepted-of script place run).loaded.denote run.there
@@ -172,7 +172,7 @@ module _ (one : OneScript) (script : Coming) (names : List (List ℕ)) (place : 
   pub run-maps : length run.done.shelf.names ≡ length run.done.shelf.maps
   run-maps = (grids_have_maps run.grids run.done.shelf run-accepted.loaded).named
 
-  -- it wrote what the statements that the script denotes write
+  -- the run writes the output of the statements that its script denotes
   pub run-executes : (statements : List Statement) → IsScript names script.bytes statements
       → Executes run.done.shelf statements run.text after
   run-executes statements denotes =
@@ -183,7 +183,7 @@ module _ (one : OneScript) (script : Coming) (names : List (List ℕ)) (place : 
       (subst (λ (ss : List Statement). Executes run.done.shelf ss run.done.done.text after)
       (one names script.bytes run.done.statements statements own denotes) run.done.done.output.1)
 
-  -- the last of the maps that it left can be written
+  -- the last map that the run leaves can be written
   pub run-writable : (target : List ℕ) (made : Grid) → after ≡ with_map run.done.shelf target made
       → (null_text : List ℕ) → whole_number null_text ≡ None → IsWritable null_text made
   run-writable target made left null_text free =
@@ -202,7 +202,7 @@ module _ (one : OneScript) (script : Coming) (names : List (List ℕ)) (place : 
 
 -- ---- a run that numbers clumps
 
--- two texts denote a map and the numbers of its clumps
+-- two texts denote a map and its clumping
 pub record IsNumbered (joining : Joining) (text number_text : Coming) : Type 0 where
   pub map : Grid
   pub numbers : Grid

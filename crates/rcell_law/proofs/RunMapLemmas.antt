@@ -148,7 +148,7 @@ classes_in given h (row ∷ rows) all =
 
 -- ---- numbers of areas
 
--- cells in row order have places that rise
+-- cells in row order have ascending places
 rising : (w : ℕ) (ps : List Position) (d : Position) → AllPairs IsEarlierCell ps →
     ((i : ℕ) → i < length ps → (get_or ps i d).col < w) → (i : ℕ) → i < length ps → i ≤ cell_place w (get_or ps i d)
 rising w ps d order inside zero lt = omega arith
@@ -196,7 +196,7 @@ numbers_in j m made filled is made_filled clumping = cells-in made made_filled
 
 -- ---- what holds of each map
 
--- it has the region, its rows and columns, and categories in range
+-- a map has the region, its rows and columns, and only categories in range
 record IsSound (region : RegionValue) (m : Grid) : Type 0 where
   region_is : m.region ≡ region
   filled : IsFilled m.region m.rows
@@ -246,7 +246,7 @@ mutual
   all_categories names term.NoTrees h = tt
   all_categories names (term.Then a xs) h = (placed_categories names a h.0, all_categories names xs h.1)
 
--- the numbers of an assignment's text are categories
+-- the numbers in the text of an assignment are categories
 assigned : (text : List ℕ) (a : Assignment) → IsAssignmentText text a → IsGrammatical a.expr
 assigned text a is = by (token_list text) refl is
   where

@@ -1,4 +1,4 @@
--- A run that is done wrote the output of the one statement that its script denotes.
+-- A run without an error writes the output of the one statement of its script.
 use Rattle.std.proofs.Common.{◌≡◌, ℕ, List, [], ◌∷◌, map, Bool, true, false, cond, Some, Ok, Err, subst}
 use Rattle.std.proofs.lemmas.List.Elements.{All-nil, All-cons, All-head, All-tail}
 use Rattle.std.specs.Prelude.{All, nat_lt, length}
@@ -28,7 +28,7 @@ written : (text all : List ℕ) → Some all ≡ append_known (Some []) text →
 written text all is = cc
 
 module _ (script : Coming) (run : ScriptRun script) where
-  -- its statements, over the names of its grids
+  -- the script denotes the run's statements over the names of its grids
   run-denotes : IsScript run.done.shelf.names script.bytes run.done.statements
   run-denotes = subst (λ (text : List ℕ). IsScript run.done.shelf.names text run.done.statements)
       (script-bytes script run.done.read.reads.text run.done.read.reads.bytes) run.done.read.reads.denoted

@@ -1,4 +1,4 @@
--- What is added up of the tables of tiles is what the script writes over the full map, and they are added up.
+-- Sizes added up from the tables of tiles exist, and are the output of the script over the full map.
 use Rattle.std.proofs.Common.{◌≡◌, ℕ, ◌+◌, ◌*◌, ◌<◌, ◌≤◌, ◌^◌, List, [], ◌∷◌, ◌++◌, length, map, refl, ap, sym, ◌∙◌}
 use Rattle.std.proofs.Common.{subst, arith}
 use Rattle.std.specs.Prelude.{All}
@@ -104,7 +104,7 @@ module _ (one : OneScript) (script counting : Coming) (names : List (List ℕ)) 
 
 -- ---- the numbering can be read
 
--- a tile has fewer clumps than 2^31, as it has cells
+-- each tile has fewer than 2^31 clumps
 module _ (j : Joining) where
   all-low : (tiles : List NumberedTile) (counts : List ℕ) → All (IsNumberedTile j) tiles
       → AllZip (λ (b : NumberedTile) (n : ℕ). HasAreas j b.map n) tiles counts → All (λ (n : ℕ). n < 2 ^ 31) counts
@@ -118,7 +118,8 @@ module _ (j : Joining) where
       All-cons (λ (k : ℕ). k < 2 ^ 31) n counts (omega (arith, few, most))
       (all-low tiles counts (All-tail (IsNumberedTile j) tile tiles numbered) have.1)
 
-  -- fewer than 2^31 tiles, and numbers of clumps of the full map
+  -- the counts and numbers are in range if there are fewer than 2^31 tiles and each number belongs to a clump of
+  -- the full map
   in-range : (whole : Grid) (tiles : List (List NumberedTile)) (text : List ℕ)
       (reported : IsNumberingOfGrid j whole tiles text) → All (IsNumberedTile j) (all_tiles tiles)
       → length (all_tiles tiles) < 2 ^ 31 → (clumps : ℕ) → clumps < 2 ^ 64
@@ -144,7 +145,7 @@ entries-wide n (size ∷ sizes) =
     All-cons (λ (entry : Combination × ℕ). length entry.0 ≡ 1) _ (number_entries (n + 1) sizes) refl
     (entries-wide (n + 1) sizes)
 
--- sizes that are listed as the table of the full map are printed as the script does over it
+-- sizes listed as the table of the full map are printed as the script prints them
 printed-as-whole : (full : Coming) (names : List (List ℕ)) (place : ℕ) (joining : Joining)
     (options whole_options : StatsOptions) (counts : CountsClumps full names place joining whole_options)
     → format_of whole_options ≡ format_of options → whole_options.skip ≡ AnyNull → (shelf : ShelfValue) (whole : Grid)
@@ -203,7 +204,7 @@ module _ (one : OneScript) (script counting : Coming) (names : List (List ℕ)) 
       let short = are.short in
       omega (arith, short, long)
 
-  -- so the map has fewer cells than 2^64
+  -- the full map has fewer than 2^64 cells
   few-cells : whole.region.rows * whole.region.cols < 2 ^ 64
   few-cells =
       let tiles = tiles_of_runs runs in

@@ -1,4 +1,4 @@
--- A run that counts the cells of areas wrote a text that is read as the table of the numbers of the areas of its map.
+-- A run that counts the cells of clumps writes a text that is read as the table of its map's clumping.
 use Rattle.std.proofs.Common.{◌≡◌, ℕ, ◌*◌, ◌<◌, ◌^◌, inr, List, [], ◌∷◌, ◌++◌, length, map, flat_map, Option}
 use Rattle.std.proofs.Common.{Some, None, refl, ap, sym, ◌∙◌, subst, arith}
 use Rattle.std.specs.Prelude.{All, slice_get}
@@ -58,7 +58,7 @@ picked-alone maps m n last rows cols =
 
 -- ---- what the two statements write
 
--- the map of numbers that was made, and what was printed of it
+-- the map of numbers, and the table printed from it
 pub record HasCounted (shelf : ShelfValue) (place n : ℕ) (joining : Joining) (target : List ℕ) (options : StatsOptions)
     (text : List ℕ) (after : ShelfValue) : Type 0 where
   pub map : Grid
@@ -134,7 +134,7 @@ module _ (format : FormatValue) (n : ℕ) (can : CanBeReadBack format (n ∷ [])
 
 -- ---- a run that counts areas
 
--- a text denotes a map, and another is read as the table of the numbers of its areas
+-- one text denotes a map, and another is read as the table of its clumping
 pub record IsCounted (joining : Joining) (options : StatsOptions) (text counts : Coming) : Type 0 where
   pub map : Grid
   pub numbers : Grid

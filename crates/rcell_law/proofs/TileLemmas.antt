@@ -1,4 +1,4 @@
--- The texts of the borders of tiles whose clumps runs numbered are joined to the numbering of the full map.
+-- The texts of the borders of tiles whose clumps were numbered by runs join to the numbering of the full map.
 use Rattle.std.proofs.Common.{◌≡◌, ℕ, pos, ◌+◌, ◌-◌, ◌<◌, List, [], ◌∷◌, ◌++◌, Some, None, inl, inr, map, refl}
 use Rattle.std.proofs.Common.{get_or, ap, sym, ◌∙◌, subst, arith}
 use Rattle.std.specs.Prelude.{All, slice_index}
@@ -46,7 +46,7 @@ runs-have-borders script place run Write is = inr refl
 
 module _ (one : OneScript) (script : Coming) (names : List (List ℕ)) (place : ℕ) (joining : Joining)
     (script_is : NumbersClumps script names place joining) where
-  -- whatever two maps the texts of a run denote, one is numbered by the other
+  -- for any two maps that the texts of a run denote, the second is the clumping of the first
   pub numbers-are : (run : MapRun script place) → run.done.shelf.names ≡ names → (cells numbers : Grid)
       → Denotes run.grid.1 cells → Denotes (written_text run.text) numbers → IsClumping joining cells numbers
   numbers-are run named cells numbers denoted own =
@@ -126,7 +126,7 @@ scripts-of-tiles-number one script names place joining script_is runs are = reco
 
 -- ---- one run
 
--- a cell of a tile has in the full map the number that stands for its clump
+-- a cell of a tile has in the full map the number of its clump
 number-here : (j : Joining) (whole numbered : Grid) → IsClumping j whole numbered → (tile : NumberedTile)
     → IsClumping j tile.map tile.numbers → (numbers : List ℕ) (before : ℕ) (p q : Position)
     → cell_at_position whole q ≡ cell_at_position tile.map p

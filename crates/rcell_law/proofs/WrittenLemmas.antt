@@ -1,4 +1,4 @@
--- What r.out.ascii wrote of maps are grids of the same maps.
+-- The texts written by r.out.ascii are grids of the same maps.
 use Rattle.std.proofs.Common.{◌≡◌, ℕ, suc, ◌+◌, false, List, [], ◌∷◌, length, map, Option, Some, refl, ap, sym, ◌∙◌}
 use Rattle.std.proofs.Common.{subst, arith}
 use Rattle.std.specs.Prelude.{slice_get, All}
@@ -33,7 +33,7 @@ module _ (null_text : List ℕ) (can : IsNullText null_text) (shelf : ShelfValue
       subst (λ (o : Option Grid). Denotes (record { bytes = option_map_or (grid_text null_text) o []; fails = false })
       (without_labels m)) (sym is) (writing_is_read null_text m can writable)
 
-  -- the maps from a place on
+  -- the texts of the maps from a place on denote these maps
   pub all_denote : (place : ℕ) (names : List (List ℕ)) (maps : List Grid) → length names ≡ length maps
       → ((i : ℕ) → slice_get shelf.maps (place + i) ≡ slice_get maps i) → All (IsWritable null_text) maps
       → AllDenote (written_from shelf null_text place names) (map without_labels maps)
