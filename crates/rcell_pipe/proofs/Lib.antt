@@ -1,2 +1,2 @@
--- Answered requests.
+-- Lemmas on requests that get a response.
 pub mod StatusLemmas

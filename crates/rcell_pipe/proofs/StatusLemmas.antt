@@ -1,4 +1,4 @@
--- What a status of 0 says.
+-- What a status of 0 means.
 use Rattle.std.proofs.Common.{◌≡◌, ◌∙◌, ℕ, Bool, true, false, List, [], ◌∷◌, drop, length, Option}
 use Rattle.std.proofs.Common.{Some, None, refl, ap, sym, subst, arith}
 use Rattle.std.specs.Prelude.{◌≢◌, ◌==◌, ◌&&◌, if◌then◌else◌}
@@ -54,7 +54,7 @@ unfolding starts_with
 begins_itself [] = refl
 begins_itself (x ∷ xs) = ap (λ b. if b then starts_with xs xs else false) (eq-eqb x x refl) ∙ begins_itself xs
 
--- a source that has ended holds what it gave
+-- a source that has ended can hold exactly the bytes that it gave
 holds_given : (gave : List ℕ) → may_hold gave Ended (record { bytes = gave; fails = false }) ≡ true
 unfolding may_hold
 holds_given gave =
@@ -62,7 +62,7 @@ holds_given gave =
     ap (λ b. b && (has_none (drop (length gave) gave) && true)) (begins_itself gave)
     ∙ ap (λ (xs : List ℕ). true && (has_none xs && true)) rest
 
--- without an error, the request was accepted
+-- if there is no error, the request was accepted
 pub answered : (before gave : List ℕ) (asked : Asked) (taken : Option (List ℕ)) (start : Faults) (now : Option (List ℕ))
     (after : Faults) (error reported : Option PipeError) (written status : ℕ)
     → status ≡ 0 → status ≡ end_status_after error
