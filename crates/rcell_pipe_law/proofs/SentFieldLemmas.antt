@@ -21,7 +21,7 @@ use Rattle.rcell_pipe_law.specs.SentBytes.{sized, signed_bytes, code_of_type, fo
 use Rattle.rcell_pipe_law.specs.SentMaps.{IsOfType, IsSentLabel, Spells}
 use Rattle.rcell_pipe_law.proofs.SentNumberLemmas.{reads_8, reads_16, signed_32, signed_64}
 
--- what comes after two texts
+-- the bytes after two texts are the bytes after the first, then after the second
 pub after-append : (a b : List ℕ) (rest : Coming) → after (a ++ b) rest ≡ after a (after b rest)
 after-append a b rest = ap (λ (bs : List ℕ). record { bytes = bs; fails = rest.fails }) (append_assoc a b
     rest.bytes)

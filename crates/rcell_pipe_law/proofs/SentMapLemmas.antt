@@ -21,7 +21,7 @@ use Rattle.rcell_pipe_law.proofs.SentFieldLemmas.{label_reads}
 use Rattle.rcell_pipe_law.proofs.SentNumberLemmas.{reads_32}
 use Rattle.rcell_pipe_law.proofs.SentRowLemmas.{row_reads}
 
--- what holds of all items holds of each
+-- a property of all items holds for each item
 pub of_each : {X : Type 0} (P : X → Type 0) (xs : List X) → All P xs → (i : ℕ) (x : X) → slice_get xs i ≡ Some x
     → P x
 of_each P xs all i x is = subst P (get_or_from_slice_get xs i x x is) (all i x (slice_get_within xs i x is))
@@ -32,7 +32,7 @@ head_of P x xs all = all 0 x (omega arith)
 pub tail_of : {X : Type 0} (P : X → Type 0) (x : X) (xs : List X) → All P (x ∷ xs) → All P xs
 tail_of P x xs all = λ k d within. all (suc k) d (omega arith)
 
--- items that are read one after another
+-- items are read one after another
 pub steps_all : {X Y E : Type 0} (P : X → Type 0) (step : List Y → Coming → Result (List Y × Coming) E) (enc : X
     → List ℕ) (val : X → Y) (xs : List X)
     → All P xs → ((so_far : List Y) (x : X) (rest : Coming) → P x → step so_far (after (enc x) rest) ≡ Ok (
@@ -76,7 +76,7 @@ labels_read labels rest few good =
     (steps_all IsSentLabel one_more_label label_bytes (λ label. label) labels good one_label [] rest
     ∙ ap (λ ls. Ok (ls, rest)) (same_map labels))
 
--- the sides of a region fit
+-- the rows and the columns of a region fit in 32 bits
 rows_fit : (m : SentMap) → IsSentMap m → m.region.rows < 2 ^ 32
 rows_fit m is = omega (arith, is.region.rows_most)
 
@@ -104,7 +104,7 @@ region_reads m rest is =
       is.region.accepted,
     ) refl
 
--- the head of a map whose name is new and whose region is the shelf's
+-- the head of a map is read back if its name is new and its region is the shelf's
 pub head_reads : (shelf : Option ShelfValue) (m : SentMap) (rest : Coming) → IsSentMap m
     → is_new shelf m.name ≡ true → is_of_shelf shelf m.region ≡ true
     → head_at shelf (after (sent_head m) rest) ≡ Ok (

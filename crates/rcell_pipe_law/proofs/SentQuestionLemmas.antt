@@ -49,7 +49,7 @@ depth_reads : (depth : ℕ) (rest : Coming) → 1 ≤ depth → depth < 2 ^ 32
 unfolding depth_at
 depth_reads depth rest deep fits = rw (reads_32 depth rest fits, deep_enough depth deep) refl
 
--- the zones
+-- the name of the zones is short
 zones_short : (zones : Option (List ℕ)) → IfSome zones (λ name. is_name name ≡ true)
     → length (unwrap_or zones []) < 2 ^ 8
 zones_short None is = omega arith
@@ -106,7 +106,7 @@ all_read maps so_far (question ∷ more) rest good =
     ∙ ap (λ n. Ok ((so_far ++ one ∷ []) ++ numbered n more, rest)) count
     ∙ ap (λ all. Ok (all, rest)) (append_assoc so_far (one ∷ []) (numbered (length so_far + 1) more)))
 
--- questions that end a request
+-- the questions that end a request are read back
 pub last_questions_read : (maps : ℕ) (questions : List SentQuestion) → All IsSentQuestion questions
     → length questions < 2 ^ 32
     → last_questions_at maps (after (questions_bytes questions) (source_of []))

@@ -134,7 +134,7 @@ first_reads first n rest is some few = rw (
   map_reads 0 None first rest is refl refl,
 ) refl
 
--- the parts of a request
+-- the parts of a request follow one another
 parts : (count first maps script questions : List ℕ) (rest : Coming)
     → after ((count ++ (first ++ maps)) ++ (script ++ questions)) rest
     ≡ after count (after first (after maps (after script (after questions rest))))

@@ -21,7 +21,7 @@ use Rattle.rcell_pipe_law.specs.SentMaps.{SentCell, sent_cell, IsSentCell}
 use Rattle.rcell_pipe_law.proofs.SentFieldLemmas.{after-append}
 use Rattle.rcell_pipe_law.proofs.SentNumberLemmas.{spelt, spelt_len}
 
--- all items of one size
+-- items of the same size have a total of that size times their number
 pub length_all : {X : Type 0} (size : ℕ) (enc : X → List ℕ) (xs : List X) → ((x : X) → length (enc x) ≡ size)
     → length (flat_map enc xs) ≡ length xs * size
 length_all size enc [] each = omega arith
@@ -32,7 +32,7 @@ length_all size enc (x ∷ xs) each = omega (
   length_all size enc xs each,
 )
 
--- the bytes in a place
+-- the bytes of an item are at its place times the size
 at_place : {X : Type 0} (size : ℕ) (enc : X → List ℕ) (xs : List X) (i : ℕ) (x : X) → ((x : X)
     → length (enc x) ≡ size)
     → slice_get xs i ≡ Some x → take size (drop (i * size) (flat_map enc xs)) ≡ enc x
@@ -48,7 +48,7 @@ at_place size enc (y ∷ ys) (suc i) x each is =
     ∙ ap (take size) (drop-append-add (enc y) (flat_map enc ys) (i * size))
     ∙ at_place size enc ys i x each is
 
--- what is made of each place is what is made of the item there
+-- a function of each place gives the same list as a function of each item
 map_places : {X Y : Type 0} (f : ℕ → Y) (g : X → Y) (k : ℕ) (xs : List X) → ((i : ℕ) (x : X)
     → slice_get xs i ≡ Some x → f (k + i) ≡ g x)
     → map f (range_with_len k (length xs)) ≡ map g xs
@@ -66,7 +66,7 @@ none_at f k (x ∷ xs) same =
     let here : f k ≡ false = ap f (omega arith) ∙ same 0 x refl in
     rw here (none_at f (k + 1) xs (λ i y is. ap f (omega arith) ∙ same (suc i) y is))
 
--- the mask in a place
+-- a mask hides a cell if the row is masked and the cell is hidden
 hides : (masked : Bool) (row : List SentCell) (i : ℕ) (cell : SentCell) → slice_get row i ≡ Some cell
     → is_hiding (slice_get (mask_bytes masked row) i) ≡ (masked && cell.hidden)
 hides false row i cell is = refl
@@ -92,7 +92,7 @@ mask_len false row = refl
 mask_len true [] = refl
 mask_len true (cell ∷ row) = ap (λ n. suc n) (mask_len true row)
 
--- the cell of a number
+-- a cell that is hidden, null or a category has the value that it was sent with
 cell_means : (masked hidden : Bool) (null category : Bool) (n : ℤ)
     → (((masked && hidden) || null) || category) ≡ true
     → (if (masked && hidden) then None else (if null then None else (if category then Some n else None)))
