@@ -1,4 +1,4 @@
--- What was read and what is left make what was to come.
+-- The bytes that were read, followed by those that are left, are the bytes that were to come.
 use Rattle.std.proofs.Common.{◌≡◌, ℕ, ◌<◌, true, false, List, [], ◌++◌, length, take, drop, Ok, Err, refl, sym, ap, ◌∙◌, append_assoc, arith, ltb}
 use Rattle.std.proofs.lemmas.List.{take-append-drop, take_at, drop_at, length-append}
 use Rattle.std.proofs.lemmas.Bool.{le-ltb, lt-ltb}
@@ -6,7 +6,7 @@ use Rattle.cell_core_devices.specs.Device.{Coming, after_bytes}
 use Rattle.rcell_pipe_request.specs.RequestFields.{ending, bytes_at}
 use Rattle.rcell_pipe_request.specs.Feeds.{FeedValue, left, after}
 
--- a block of which n bytes are passed
+-- passing n bytes of a block moves them to the bytes that were read
 pub after-pass : (front unread : List ℕ) (n : ℕ) (rest : Coming) → after front (after unread rest) ≡ after (front ++ take n unread) (after (drop n unread) rest)
 after-pass front unread n rest =
     let bytes : front ++ (unread ++ rest.bytes) ≡ (front ++ take n unread) ++ (drop n unread ++ rest.bytes) =
@@ -15,7 +15,7 @@ after-pass front unread n rest =
     ∙ sym (append_assoc front (take n unread) (drop n unread ++ rest.bytes)) in
     ap (λ (bs : List ℕ). record { bytes = bs; fails = rest.fails }) bytes
 
--- after one block more
+-- one more block is read
 pub read_more : (w : Coming) (old one two three : FeedValue) (front more : List ℕ) (n : ℕ)
     → left w old ≡ after front (left w one) → left w two ≡ left w one
     → three ≡ record two { unread = drop n two.unread } → more ≡ front ++ take n two.unread
@@ -33,7 +33,7 @@ bytes_at-all n front c rest is len =
     let long : ltb (length (front ++ rest.bytes)) n ≡ false = le-ltb _ _ (omega (arith, length-append front rest.bytes, len)) in
     rw (is, long, take_at front rest.bytes n len, drop_at front rest.bytes n len) refl
 
--- the source gives no more
+-- the source ends before n bytes
 pub bytes_at-short : (n : ℕ) (front : List ℕ) (c rest : Coming) → c ≡ after front rest → rest.bytes ≡ [] → length front < n → bytes_at n c ≡ Err (ending rest.fails)
 unfolding bytes_at
 bytes_at-short n front c rest is none short =

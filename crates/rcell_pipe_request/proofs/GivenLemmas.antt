@@ -1,4 +1,4 @@
--- What a call of a source adds to what it gave.
+-- How a call of a source extends the bytes that it gave.
 use Rattle.std.proofs.Common.{◌≡◌, ℕ, zero, suc, ◌+◌, ◌≤◌, Bool, true, false, List, [], ◌∷◌, ◌++◌, length, take, drop, Ok, Err, refl, sym, ap, ◌∙◌, arith, subst}
 use Rattle.std.specs.Prelude.{◌==◌, ◌&&◌, not, if◌then◌else◌}
 use Rattle.std.proofs.lemmas.Bool.{eqb-true}
@@ -11,7 +11,7 @@ use Rattle.cell_core_devices.specs.declared.source.Asked.TheVariants.{Going, End
 use Rattle.rcell_pipe_request.specs.Supposed.{starts_with, has_none, may_leave, may_hold}
 use Rattle.rcell_pipe_request.specs.Feeds.{FeedValue, fits, left, after}
 
--- what is left of a list that starts_with with these items, of which the last are more
+-- a list starts with some bytes, and continues with the next bytes and the rest
 record Splits (xs bs all : List ℕ) : Type 0 where
   first : starts_with xs all ≡ true
   rest : drop (length xs) all ≡ bs ++ drop (length (xs ++ bs)) all
@@ -69,7 +69,7 @@ again w now told same is =
     subst (λ (a : Asked). may_leave a w.fails (drop (length now) w.bytes) ≡ true) same
     (both (starts_with now w.bytes) (may_leave told w.fails (drop (length now) w.bytes)) is).1 in cc
 
--- bytes were given
+-- the call gave bytes
 pub more : (w : Coming) (gave now bs : List ℕ) (asked after : Asked) (n : ℕ) → (n ≡ 0 → ⊥)
     → after ≡ after_take {E = DeviceFault} asked (Ok n) → now ≡ gave ++ bs → may_hold now after w ≡ true
     → (may_hold gave asked w ≡ true) × (drop (length gave) w.bytes ≡ bs ++ drop (length now) w.bytes)
@@ -85,7 +85,7 @@ more w gave now bs Ended after n some told grown is = absurd (again w now after 
 more w gave now bs Failed after n some told grown is = absurd (again w now after told is)
 more w gave now bs Again after n some told grown is = absurd (again w now after told is)
 
--- the end, or an `Err`: nothing is left
+-- after the end or an `Err`, nothing is left of the source
 stopped : (w : Coming) (gave now : List ℕ) (asked after : Asked) (fails : Bool) → after ≡ (if fails then Failed else Ended)
     → now ≡ gave → may_hold now after w ≡ true
     → (starts_with gave w.bytes ≡ true) × (drop (length gave) w.bytes ≡ []) × (w.fails ≡ fails)
@@ -126,7 +126,7 @@ same_left w old new unread gave =
     ap (λ (xs : List ℕ). after xs (after_bytes w (length new.gave))) (sym unread)
     ∙ ap (λ (xs : List ℕ). after old.unread (after_bytes w (length xs))) (sym gave)
 
--- after a call that gave no bytes
+-- the effect of a call that gives no bytes
 abbrev pub NoMore : FeedValue → FeedValue → Bool → Type 0
 NoMore old new fails = (w : Coming) → fits w new ≡ true
     → (fits w old ≡ true) × (left w new ≡ left w old) × ((left w old).bytes ≡ []) × (w.fails ≡ fails)
@@ -138,7 +138,7 @@ no_more old new fails fault none none' same told w is =
     let s = from_going w old.gave new.gave old.asked new.asked fails fault told same is in
     (s.0, same_left w old new (none ∙ sym none') (sym same), ap (λ (xs : List ℕ). xs ++ drop (length old.gave) w.bytes) none ∙ s.1, s.2)
 
--- a call that gave bytes
+-- the effect of a call that gives bytes
 pub some_more : (w : Coming) (old new : FeedValue) (n : ℕ) → old.unread ≡ [] → (n ≡ 0 → ⊥)
     → new.asked ≡ after_take {E = DeviceFault} old.asked (Ok n) → new.gave ≡ old.gave ++ new.unread
     → fits w new ≡ true → (fits w old ≡ true) × (left w new ≡ left w old)

@@ -1,4 +1,4 @@
--- The cells of a row so far and one more, and whether one of them is outside.
+-- The cells of a row up to one more cell, and whether one of them is out of range.
 use Rattle.std.proofs.Common.{◌≡◌, ◌+◌, ◌<◌, ◌||◌, ℕ, zero, suc, ℤ, Bool, Option, length, take, List, [], ◌∷◌, ◌++◌}
 use Rattle.std.proofs.Common.{slice_set, sym, ap, ◌∙◌, arith, add-one}
 use Rattle.std.specs.List.{list_any, range_with_len}
@@ -9,7 +9,7 @@ use Rattle.std.proofs.Math.Bool.{or-false}
 use Rattle.rcell_pipe_request.specs.declared.kind.CellType.{CellType}
 use Rattle.rcell_pipe_request.specs.RawRows.{raw_cell, is_raw_outside, places, raw_cells, has_outside}
 
--- the cells so far and one more
+-- one more cell is stored after the cells so far
 pub cells_more : (kind : CellType) (nodata : Option ℤ) (mask bytes : List ℕ) (i : ℕ) (cells : List (Option ℤ)) (cell : Option ℤ) → i < length cells → take i cells ≡ raw_cells kind nodata mask bytes i → cell ≡ raw_cell kind nodata mask bytes i → take (i + 1) (slice_set cells i cell) ≡ raw_cells kind nodata mask bytes (i + 1)
 cells_more kind nodata mask bytes i cells cell within before is =
     take_more_set cells i cell within
@@ -17,7 +17,7 @@ cells_more kind nodata mask bytes i cells cell within before is =
     ∙ ap (λ (x : Option ℤ). raw_cells kind nodata mask bytes i ++ x ∷ []) is
     ∙ sym (map-range_with_len_more (raw_cell kind nodata mask bytes) 0 i i (omega arith))
 
--- the places so far and one more
+-- the places so far, and one more place
 places_from : (a n j : ℕ) → a + n ≡ j → range_with_len a (suc n) ≡ range_with_len a n ++ j ∷ []
 places_from a zero j is = ap (λ (x : ℕ). x ∷ []) (omega (arith, is))
 places_from a (suc n) j is = ap (λ (xs : List ℕ). a ∷ xs) (places_from (a + 1) n j (omega (arith, is)))
@@ -25,7 +25,7 @@ places_from a (suc n) j is = ap (λ (xs : List ℕ). a ∷ xs) (places_from (a +
 places_more : (n : ℕ) → places (n + 1) ≡ places n ++ n ∷ []
 places_more n = ap (range_with_len 0) (add-one n) ∙ places_from 0 n n (omega arith)
 
--- whether one so far or one more is outside
+-- a row up to the next cell has a cell out of range if the row so far has one or the next cell is out of range
 pub outside_more : (kind : CellType) (nodata : Option ℤ) (mask bytes : List ℕ) (i : ℕ) (outside one : Bool) → outside ≡ has_outside kind nodata mask bytes i → one ≡ is_raw_outside kind nodata mask bytes i → (outside || one) ≡ has_outside kind nodata mask bytes (i + 1)
 outside_more kind nodata mask bytes i outside one before is =
     ap (λ (b : Bool). b || one) before

@@ -1,4 +1,4 @@
--- One step after another, as a loop takes them.
+-- The steps of a loop, one after another.
 use Rattle.std.proofs.Common.{◌≡◌, ℕ, suc, ◌-◌, ◌+◌, ◌≤◌, ◌<◌, Bool, true, Result, Ok, Err, refl, sym, ◌∙◌, arith}
 use Rattle.cell_core_devices.specs.Device.{Coming}
 use Rattle.rcell_pipe_request.specs.declared.error.ErrorKind.{ErrorKind}
@@ -10,7 +10,7 @@ use Rattle.rcell_pipe_request.specs.declared.error.RequestStop.TheVariants as re
 use Rattle.rcell_pipe_request.specs.RequestFields.{FieldReading, steps}
 use Rattle.rcell_pipe_request.specs.Feeds.{FeedValue, FieldFails, PlacedFails, Continues, fits, left}
 
--- after one more step
+-- one more step without an error
 pub steps-on : {S E : Type 0} (step : S → Coming → Result (S × Coming) E) (so_far next : S) (count i : ℕ) (c rest : Coming) (all : Result (S × Coming) E)
     → i < count → step so_far c ≡ Ok (next, rest) → steps step so_far (count - i) c ≡ all → steps step next (count - (i + 1)) rest ≡ all
 unfolding steps
@@ -19,7 +19,7 @@ steps-on step so_far next count i c rest all within one before =
     let same : steps step so_far (count - i) c ≡ steps step next (count - (i + 1)) rest = rw (left, one) refl in
     sym same ∙ before
 
--- after a step that has an error
+-- a step with an error is the last step
 pub steps-end : {S E : Type 0} (step : S → Coming → Result (S × Coming) E) (so_far : S) (count i : ℕ) (c : Coming) (error : E) (all : Result (S × Coming) E)
     → i < count → step so_far c ≡ Err error → steps step so_far (count - i) c ≡ all → all ≡ Err error
 unfolding steps
@@ -28,7 +28,7 @@ steps-end step so_far count i c error all within one before =
     let same : steps step so_far (count - i) c ≡ Err error = rw (left, one) refl in
     sym before ∙ same
 
--- after the last step
+-- after the last step, the state is the result
 pub steps-done : {S E : Type 0} (step : S → Coming → Result (S × Coming) E) (so_far : S) (count i : ℕ) (c : Coming) (all : Result (S × Coming) E)
     → count ≤ i → steps step so_far (count - i) c ≡ all → all ≡ Ok (so_far, c)
 unfolding steps
@@ -37,7 +37,7 @@ steps-done step so_far count i c all past before =
     let same : steps step so_far (count - i) c ≡ Ok (so_far, c) = rw left refl in
     sym before ∙ same
 
--- the error of a step is the error of all, if what the source may hold after it was to come before
+-- an error of a step is the error of all steps
 pub FieldFails-of : {X Y : Type 0} (stop : FieldStop) (first old new : FeedValue) (one : Coming → FieldReading X)
     (all : Coming → FieldReading Y) → Continues first old
     → ((c : Coming) → fits c old ≡ true → (kind : ErrorKind) → one (left c old) ≡ Err kind → all (left c first) ≡ Err kind)

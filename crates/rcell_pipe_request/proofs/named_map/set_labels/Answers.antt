@@ -8,13 +8,13 @@ use Rattle.rcell_pipe_request.specs.Heads.{LabelValue, label_value, label_values
 use Rattle.rcell_pipe_request.specs.Requests.{with_labels}
 use Rattle.rcell_pipe_request.proofs.named_map.set_labels.Goals as goal
 
--- one label more
+-- one more label is added
 with_labels-push : (labels : finmap.FinMap int_cmp (List ℕ)) (before : List LabelValue) (label : LabelValue) → with_labels labels (before ++ label ∷ []) ≡ finmap.insert (with_labels labels before) label.category label.text
 unfolding with_labels
 with_labels-push labels [] label = refl
 with_labels-push labels (first ∷ before) label = with_labels-push (finmap.insert labels first.category first.text) before label
 
--- a map with one label more
+-- the map has one more label
 labels_more : (first now new : Grid) (labels : List Label) (i : ℕ) (label : Label) → i < length labels → label ≡ get_or labels i label
     → now ≡ record first { labels = with_labels first.labels (label_values (take i labels)) } → new ≡ record now { labels = finmap.insert now.labels label.category label.text.items }
     → new ≡ record first { labels = with_labels first.labels (label_values (take (i + 1) labels)) }

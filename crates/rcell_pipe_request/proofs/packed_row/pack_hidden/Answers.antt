@@ -32,7 +32,7 @@ number bytes k within =
 is_byte : (b : ℕ) → b < 256 → is_category (pos b) ≡ true
 is_byte b few = search (rules, few)
 
--- a byte, or 255 in place of nodata, denotes the cell of its number
+-- a byte denotes the cell of its number, and 255 stands for nodata
 visible : (nodata : Option ℤ) (null b : ℕ) → b < 256 → ((n : ℕ) → n < 255 → eqb n null ≡ is_nodata nodata (pos n))
     → (b ≡ 255 → is_nodata nodata (pos 255) ≡ true)
     → byte_cell (if eqb b null then 255 else b) ≡ cell_of_raw nodata (pos b)
@@ -76,7 +76,7 @@ module _ (nodata : Option ℤ) (mask bytes new : List ℕ) (null : ℕ) (small :
   at k within = ap (λ (l : List ℕ). get_or l k 0) packed
       ∙ get_or-map-range_with_len (packed_byte mask null bytes) 0 (length bytes) k k 0 within (omega arith)
 
-  -- each number is a byte: it is null or is kept
+  -- each number that is not hidden fits in a byte
   few : (k : ℕ) → k < length bytes → is_hiding (slice_get mask k) ≡ false → number_of k < 256
   few k within seen = by (eqb (number_of k) null) refl
     where
@@ -112,7 +112,7 @@ module _ (nodata : Option ℤ) (mask bytes new : List ℕ) (null : ℕ) (small :
       by false seen = ap (is_outside nodata) (number bytes k within)
           ∙ is_inside nodata (number_of k) (few k within seen)
 
-  -- each number is null or a category
+  -- no number is out of range
   none : has_outside U8 nodata mask bytes (length bytes) ≡ false
   none = list_any_none (is_raw_outside U8 nodata mask bytes) (places (length bytes))
       (λ k d within.

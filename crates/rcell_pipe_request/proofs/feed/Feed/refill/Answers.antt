@@ -12,7 +12,7 @@ use Rattle.rcell_pipe_request.proofs.feed.Feed.refill.Goals as goal
 abbrev feed : List ℕ → List ℕ → Asked → FeedValue
 feed unread gave asked = record { unread = unread; gave = gave; asked = asked }
 
--- no bytes: the end
+-- a call that returns 0 bytes is the end
 ended : (g : _) (c : goal.In-Ok-eq0 g)
     → NoMore c.args.self.now (feed (drop c.self.inside.at (take c.self.inside.end (with_items c.self.inside.block c.take.new.buf).items)) c.take.new.self.0.1
     c.take.new.self.1) false
@@ -41,7 +41,7 @@ returns-in-Ok-clause-same g c = λ w is.
     (some_more w _ now c.in-Ok.count (at_end inside.at inside.end inside.block.items (omega arith)) c.in-Ok.count-test.1
     c.in-Ok.ensures.asked (c.in-Ok.ensures.gave ∙ ap (λ xs. inside.source.0.1 ++ take c.in-Ok.count xs) (sym items)) is)
 
--- an `Err`
+-- a call that returns an `Err` is a failure
 failed : (g : _) (c : goal.In-Err g)
     → NoMore c.args.self.now (feed (drop c.self.inside.at (take c.self.inside.end (with_items c.self.inside.block c.take.new.buf).items)) c.take.new.self.0.1
     c.take.new.self.1) true
