@@ -1,4 +1,4 @@
--- One item more of a list whose bytes are appended.
+-- Appending the bytes of one more item of a list.
 use Rattle.std.proofs.Common.{◌≡◌, ℕ, ◌+◌, ◌<◌, List, length, take, get_or, flat_map, Option, refl, sym, subst, arith}
 use Rattle.std.specs.List.{zip}
 use Rattle.std.proofs.lemmas.Slice.Zip.{length-zip, get_or-zip}
@@ -16,7 +16,7 @@ appends_more {taken = taken} {faults} {old} {mid} {now} {block} {middle} {new} f
     subst (λ (bytes : List ℕ). Appends taken faults old block bytes now new)
     (sym (flat_map-take f xs i d (get_or xs i d) lt refl)) (appends_then before one)
 
--- one item more of each of two lists, whose items are appended in pairs
+-- appending the bytes of one more pair of items from two lists
 pub appends_pair : {S A B : Type 0} {taken : S → Option (List ℕ)} {faults : S → Faults} {old mid now : S}
     {block middle new : BlockValue} (f : A × B → List ℕ) (xs : List A) (ys : List B) (i : ℕ) (x : A) (y : B)
     → i < length xs → length ys ≡ length xs

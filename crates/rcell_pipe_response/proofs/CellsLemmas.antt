@@ -1,4 +1,4 @@
--- The entries of cells: how many, and what they hold.
+-- The number of a table's entries of cells, and their content.
 use Rattle.std.proofs.Common.{◌≡◌, ℕ, suc, ◌+◌, ◌-◌, ◌≤◌, List, [], ◌∷◌, ◌++◌, map, length, not, refl, ap, sym, ◌∙◌, arith, mul-le-mul, Bool}
 use Rattle.std.proofs.lemmas.List.Sums.{count_by-le-length, length-filter}
 use Rattle.std.proofs.lemmas.List.Folds.{flat_map-map}
@@ -16,18 +16,18 @@ use Rattle.rcell_pipe_response.specs.Frames.{combination_labels, each_once}
 use Rattle.rcell_pipe_response.specs.FrameBytes.{combinations_bytes, text_bytes, wide_bytes}
 use Rattle.rcell_pipe_response.specs.parts.CellEntries.{entry_bytes}
 
--- if none is left out, all are kept
+-- if no combination is left out, all cells are kept
 pub kept-all : (cells : List Combination) → kept_cells Nothing cells ≡ cells
 kept-all [] = refl
 kept-all (k ∷ ks) = ap (λ (l : List Combination). k ∷ l) (kept-all ks)
 
--- as many bytes as entries, if each has one
+-- there are as many bytes as entries, if each entry has one byte
 pub marks : (maps : List Grid) (picks : List ℕ) (cells : List Combination)
     → length (flat_map (entry_bytes parts.Mark maps picks) cells) ≡ length cells
 marks maps picks [] = refl
 marks maps picks (k ∷ ks) = ap suc (marks maps picks ks)
 
--- a number of cells is counted in 64 bits
+-- the number of a map's cells is below the largest count, so it is not capped
 capped-small : (n : ℕ) → n ≤ 4294836225 → capped_count n ≡ n
 capped-small n small = omega (arith, small)
 
@@ -40,7 +40,7 @@ kept-few maps picks cols skip rows high wide =
     let few = mul-le-mul high wide in
     capped-small (length (kept_cells skip all)) (omega (arith, few, count_by-le-length p all, length-filter p all, length_all maps picks cols rows))
 
--- the cells and the labels of entries that occur once
+-- the bytes of entries that occur once are their cells and labels
 pub entries-cells : (maps : List Grid) (picks : List ℕ) (cells : List Combination)
     → flat_map (entry_bytes parts.Cells maps picks) cells ≡ combinations_bytes (each_once cells)
 entries-cells maps picks [] = refl

@@ -1,15 +1,15 @@
--- How many bytes a text has, by a sink that takes everything.
+-- The length of a text, measured with a sink that accepts everything.
 use Rattle.std.proofs.Common.{◌≡◌, ◌∙◌, ℕ, Bool, true, false, List, [], length, Option, refl, ap, append-nil}
 use Rattle.cell_core_devices.specs.Device.{Faults, after_put}
 use Rattle.cell_core_devices.specs.Blocks.{BlockValue, Appended, Appends, capped_count}
 use Rattle.cell_ascii_writer.proofs.PutLemmas.{appended_put}
 
--- if no put has failed, this one has not
+-- if no put has failed so far, this put has not failed
 never_failed : (start now : Faults) (failed : Bool) → now ≡ after_put start failed → now.refused ≡ false → failed ≡ false
 never_failed start now false is good = refl
 never_failed start now true is good = absurd cc
 
--- what was put on it is counted
+-- the length of the text that was put is counted
 pub counted : {S : Type 0} {taken : S → Option (List ℕ)} {faults : S → Faults} (start mid now : S) (empty block new : BlockValue) (text : List ℕ)
     → Appended (taken start) (faults start) [] (taken start) (faults start) empty → Appends taken faults start empty text mid block → Appends taken faults mid block [] now new
     → (faults now).refused ≡ false → (new.failed ≡ false → new.held ≡ []) → new.written ≡ capped_count (length text)

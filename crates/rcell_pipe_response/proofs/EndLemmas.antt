@@ -34,12 +34,12 @@ or-true : (b : Bool) → (b || true) ≡ true
 or-true true = refl
 or-true false = refl
 
--- what was appended is cut if the sink stopped
+-- the output is a prefix of the text if the sink stopped
 pub cut : {before now : Option (List ℕ)} {start faults : Faults} {text : List ℕ} {block : BlockValue}
     → Appended before start text now faults block → IsCut before now text block.written
 cut a = record { front = a.front; rest = a.rest; whole = a.whole; taken = a.taken; count = a.count }
 
--- the sink took a text, and was flushed after it
+-- the sink accepted a text, and was flushed after it
 pub sent_flushed : (sending : Sending) (before : Option (List ℕ)) (after : Faults) (text : List ℕ)
     {taken now : Option (List ℕ)}
     {start middle : Faults} {written : ℕ} → taken ≡ append_known before text → middle ≡ start → written ≡ capped_count
@@ -51,7 +51,7 @@ sent_flushed Unflushed before after text all first count same flushed =
     (same ∙ all, flushed ∙ ap (λ (f : Faults). after_flush f true) first, count)
 sent_flushed Refused before after text all first count same flushed = absurd flushed
 
--- the last frame was put, and what the block held
+-- the last frame was put after the content of the block
 module _ {S : Type 0} {taken : S → Option (List ℕ)} {faults : S → Faults} {old mid now : S}
     {block middle new : BlockValue} {end : List ℕ}
     (put : Appends taken faults old block end mid middle) (emptied : Appends taken faults mid middle [] now new)
@@ -71,14 +71,14 @@ module _ {S : Type 0} {taken : S → Option (List ℕ)} {faults : S → Faults} 
       let done = appended_put all_put good none in
       sent_flushed sending before flushed (text ++ end) done.0 done.1.1 done.1.0 same flush
 
--- the end after frames
+-- the frames are followed by the last frame
 pub finished_frames : {before now : Option (List ℕ)} {start after : Faults} {error : Option PipeError} {outcome : PipeOutcome} (frames : List OutputFrame) (one end : EndValue) → one ≡ end
     → Finished before start now after error ((response_magic ++ frames_bytes frames) ++ end_bytes one) outcome → Finished before start now after error (response_bytes frames end) outcome
 finished_frames {before} {now} {start} {after} {error} {outcome} frames one end same finished =
     subst (λ (t : List ℕ). Finished before start now after error t outcome)
     (ap (λ (e : EndValue). (response_magic ++ frames_bytes frames) ++ end_bytes e) same ∙ append_assoc response_magic (frames_bytes frames) (end_bytes end)) finished
 
--- what was finished is how the response ended
+-- the response ends as the finished run does
 pub ends_as : (says : List ℕ → Option PipeError → Type 0) {before now : Option (List ℕ)} {start after : Faults}
     (reported : Option PipeError) {text : List ℕ} {outcome : PipeOutcome} → says text reported
     → (reported ≡ Some errors.Write → ⊥) → Finished before start now after reported text outcome
@@ -98,7 +98,7 @@ ends_as says {before} {now} {start} {after} reported {text} {outcome} is fine fi
       settled = λ write. absurd (fine (sym same ∙ write));
     }
 
--- a run whose sink failed in a statement
+-- the sink failed in a statement of the run
 pub end_broken : (form : RunForm) (read : Result RunRequestValue RequestError) {before now : Option (List ℕ)}
     {start after : Faults} {outcome : PipeOutcome} (shelf : ShelfValue) (first others : List Statement)
     (answered unanswered : List QuestionValue) (text : List ℕ)
@@ -126,7 +126,7 @@ end_broken form read shelf first others answered unanswered text reported error 
       settled = λ write. refl;
     }
 
--- a run that writes text: done, out of memory at a statement, or cut by the sink
+-- a run that writes text finishes, runs out of memory at a statement or is cut by the sink
 module _ (read : Result RunRequestValue RequestError) (shelf : ShelfValue) (statements : List Statement)
     (questions : List QuestionValue) (accepted : IsPipeAccepted Text read shelf statements questions) (written : ℕ) where
   accepted_parts : (parts : List Statement) → parts ≡ statements → IsPipeAccepted Text read shelf parts questions
@@ -177,14 +177,14 @@ module _ (read : Result RunRequestValue RequestError) (shelf : ShelfValue) (stat
       (w.after, w.executed) failed
       (record { front = w.prefix; rest = w.rest; whole = refl; taken = w.taken; count = count ∙ w.count })
 
--- an end that is not lack of memory
+-- an error with a test of memory that is false is not an error of memory
 pub not_memory : (kind : ScriptKind) → is_memory kind ≡ false → kind ≢ script_kinds.Memory
 not_memory kind not same = absurd (cc (not, ap is_memory same))
 
 abbrev pub of_run : ShelfValue → List ℕ → List QuestionValue → RunRequestValue
 of_run shelf script questions = record { shelf = shelf; script = script; questions = questions }
 
--- a rejected script has its response
+-- a script that is rejected has its response
 pub rejection : (form : RunForm) (shelf : ShelfValue) (script : List ℕ) (questions : List QuestionValue)
     (fault : ScriptFault) (error : PipeError) (end : EndValue)
     → IsScriptFault shelf.names script fault → IsRejection fault error end
@@ -204,7 +204,7 @@ rejection form shelf script questions fault (errors.MemoryAt line) end first is 
 rejection form shelf script questions fault errors.MemoryAtQuestion end first is = absurd is
 rejection form shelf script questions fault errors.Write end first is = absurd is
 
--- nor is a rejection a failed write
+-- a rejection is not a failed write
 pub not_write : (fault : ScriptFault) (error : PipeError) (end : EndValue) → IsRejection fault error end → Some error ≡ Some errors.Write → ⊥
 not_write fault (errors.Script error) end is same = cc
 not_write fault errors.Memory end is same = cc
@@ -216,7 +216,7 @@ not_write fault errors.Write end is same = is
 
 -- ---- what became of a response, from how it ended
 
--- all of a text was taken
+-- all bytes of a text were accepted
 taken_whole : (error : Option PipeError) (before : Option (List ℕ)) (text : List ℕ) {now : Option (List ℕ)}
     {written : ℕ}
     → (error ≡ Some errors.Write → ⊥) → now ≡ append_known before text → written ≡ capped_count (length text)
@@ -252,7 +252,7 @@ module _ (says : List ℕ → Option PipeError → Type 0) {before now : Option 
   error_as : (sending : Sending) → h.finished.sending ≡ sending → outcome.error ≡ error_after outcome.reported sending
   error_as sending e = h.finished.error_is ∙ ap (error_after outcome.reported) e
 
-  -- what was sent whole reports no failed write
+  -- a response that was sent completely does not report a failed write
   reports : (sending : Sending) → h.finished.sending ≡ sending → (sending ≡ Refused → ⊥)
       → outcome.reported ≡ Some errors.Write → ⊥
   reports sending e whole write = whole (sym e ∙ h.settled write)
@@ -290,7 +290,7 @@ module _ (says : List ℕ → Option PipeError → Type 0) {before now : Option 
           subst (λ (r : Option PipeError). HasUsed r start after) (sym (error_as Refused e))
           (true, (sent_as Refused e).0)
 
-  -- if no put failed, all of the response was taken
+  -- if no put failed, the whole response was accepted
   pub ended_whole : outcome.error ≡ Some errors.Write → after.refused ≡ false
       → (outcome.reported ≢ Some errors.Write) × HasResponded says before now outcome.reported None outcome.written
   ended_whole write good = by h.finished.sending refl
@@ -328,7 +328,7 @@ module _ (says : List ℕ → Option PipeError → Type 0) {before now : Option 
       by Unflushed e = absurd (fine (error_as Unflushed e))
       by Refused e = absurd (fine (error_as Refused e))
 
--- the response of a run that was rejected is its last frame
+-- the response of a rejected run is only its last frame
 pub only_end_of_run : (form : RunForm) (read : Result RunRequestValue RequestError) (response : List ℕ)
     (error : Option PipeError)
     → IsResponse form read response error → IsOnlyEnd response error

@@ -1,4 +1,4 @@
--- One statement more.
+-- Execution of one more statement.
 use Rattle.std.proofs.Common.{◌≡◌, ℕ, suc, ◌+◌, ◌<◌, List, [], ◌∷◌, ◌++◌, length, take, drop, get_or, Option, refl, ap, sym, ◌∙◌, subst, append_assoc, append-nil, add-one, take-append-drop}
 use Rattle.std.specs.Prelude.{true}
 use Rattle.std.proofs.Math.Seq.{drop-cons}
@@ -14,7 +14,7 @@ use Rattle.rcell_pipe_response.specs.Frames.{OutputFrame, command_frames, GivesF
 use Rattle.rcell_pipe_response.specs.FrameBytes.{frame_bytes, frames_bytes}
 use Rattle.rcell_pipe_response.specs.parts.FrameExecution.{HasGiven, StopsBefore, StopsWithin}
 
--- one part, and then another
+-- the frames of two parts are the first part's frames, then the second part's frames
 GivesFrames-append : (first second : List Statement) (shelf between after : ShelfValue) (one other : List OutputFrame) → GivesFrames shelf first one between → GivesFrames between second other after
     → GivesFrames shelf (first ++ second) (one ++ other) after
 GivesFrames-append [] second shelf between after one other x y =
@@ -22,7 +22,7 @@ GivesFrames-append [] second shelf between after one other x y =
 GivesFrames-append (s ∷ ss) second shelf between after one other x y =
     (x.0, (x.1.0 ++ other, (x.1.1.0, (GivesFrames-append ss second x.0 between after x.1.0 other x.1.1.1.0 y, ap (λ t. t ++ other) x.1.1.1.1 ∙ append_assoc (command_frames shelf s.line s.command) x.1.0 other))))
 
--- nothing was executed
+-- before any statement, no frames are given
 pub given_none : {S : Type 0} {taken : S → Option (List ℕ)} {faults : S → Faults} (shelf : ShelfValue) (now : S) (block : BlockValue) → HasGiven taken faults shelf [] now block now block shelf
 given_none shelf now block = record { frames = []; given = (refl, refl); appends = appends_none }
 

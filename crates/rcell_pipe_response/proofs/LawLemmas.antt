@@ -1,4 +1,4 @@
--- The text of the frames of a statement is what it writes.
+-- The text of a statement's frames is the statement's output.
 use Rattle.std.proofs.Common.{◌≡◌, ℕ, Bool, true, false, [], ◌∷◌, ◌++◌, List, Option, Some, None, map, flat_map, refl, ap, sym, ◌∙◌, append-nil, if◌then◌else◌}
 use Rattle.std.specs.Prelude.{slice_get}
 use Rattle.std.specs.Option.{option_map_or}
@@ -19,7 +19,7 @@ use Rattle.rcell.specs.Output.{Executes, combinations_of, command_text, stats_te
 use Rattle.rcell_pipe_response.specs.Frames.{OutputFrame, Cells, Table, printed_fields, printed_line, frame_text, combination_labels, listed_pairs, each_once, cell_pairs, cells_format, table_frame, stats_frame, map_frames, command_frames, GivesFrames}
 use Rattle.rcell_pipe_response.specs.FrameLaw.{FramesAreOutput, OutputIsFrames}
 
--- the fields of the cells of a combination with its labels
+-- the fields of a combination's cells, paired with their labels, are its printed fields
 fields-same : (format : FormatValue) (maps : List Grid) (places : List ℕ) (k : Combination) → flat_map (printed_fields format) (zip k (map (λ p. label_of_cell maps p.0 p.1) (zip places k))) ≡ combination_fields format maps places k
 fields-same format maps [] [] = refl
 fields-same format maps [] (cell ∷ k) = refl
@@ -35,14 +35,14 @@ table-same format maps places (pair ∷ pairs) =
     ap (λ (l : List ℕ). l ++ flat_map (printed_line format) (zip pairs (map (combination_labels maps places) pairs))) (line-same format maps places pair)
     ∙ ap (λ (l : List ℕ). pair_line format maps places pair ++ l) (table-same format maps places pairs)
 
--- cells are printed without counts
+-- the output with one line per cell is printed without counts
 cells-same : (options : StatsOptions) (maps : List Grid) (places : List ℕ) (cells : List Combination) → table_text (cells_format options) maps places (each_once cells) ≡ flat_map (cell_line (format_of options) maps places) cells
 cells-same options maps places [] = refl
 cells-same options maps places (k ∷ ks) =
     ap (λ (fields : List (List ℕ)). line_text (format_of options) fields ++ table_text (cells_format options) maps places (each_once ks)) (append-nil (combination_fields (format_of options) maps places k))
     ∙ ap (λ (l : List ℕ). cell_line (format_of options) maps places k ++ l) (cells-same options maps places ks)
 
--- of two frames one is chosen, as of two texts
+-- the text of a choice of two frames is the choice of their texts
 chosen : (b : Bool) (x y : OutputFrame) (one other : List ℕ) → frame_text x ≡ one → frame_text y ≡ other → frame_text (if b then x else y) ≡ (if b then one else other)
 chosen true x y one other first second = first
 chosen false x y one other first second = second
@@ -65,7 +65,7 @@ command-same shelf line (Clump place target joining) = refl
 command-same shelf line (Stats places options) = append-nil (frame_text (stats_frame shelf line places options)) ∙ stats-same shelf line places options
 command-same shelf line (OutAscii place null_text) = map-same shelf line place null_text (slice_get shelf.maps place)
 
--- the text of a statement's frames, and of those after it
+-- the text of a statement's frames comes before the text of the frames after it
 text-of : (shelf : ShelfValue) (s : Statement) (frames rest : List OutputFrame) → frames ≡ command_frames shelf s.line s.command ++ rest → flat_map frame_text frames ≡ command_text shelf s.command ++ flat_map frame_text rest
 text-of shelf s frames rest same =
     ap (flat_map frame_text) same ∙ flat_map-append frame_text (command_frames shelf s.line s.command) rest

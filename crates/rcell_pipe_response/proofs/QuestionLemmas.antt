@@ -25,18 +25,18 @@ use Rattle.rcell_pipe_response.specs.QuestionFrames.{IsAnswer, AreAnswers}
 use Rattle.rcell_pipe_response.specs.RunEnds.{GivesAll}
 use Rattle.rcell_pipe_response.specs.parts.Answering.{HasAnswer, HasAnswered, AnswersFirst}
 
--- the question in a place, and those after it
+-- the questions from place i on are the question there and those after it
 next_at : (questions : List Question) (i : ℕ) (q : Question) → i < length questions → q ≡ get_or questions i q
     → drop i questions ≡ q ∷ drop (i + 1) questions
 next_at questions i q h read =
     rw add-one (drop-cons questions i q h ∙ ap (λ x. x ∷ drop (suc i) questions) (sym read))
 
--- a value that is seen by a function is there if the value is
+-- mapping a function over a value does not change whether it exists
 pub some_seen : {A B : Type 0} (f : A → B) (x : Option A) → is_some (option_map f x) ≡ is_some x
 some_seen f None = refl
 some_seen f (Some a) = refl
 
--- neither is rejected
+-- if the first of two has no error and neither do the others, there is none
 none_of_both : (number : ℕ) (fault : Option QuestionKind) (others : Option QuestionError)
     → fault_or number fault others ≡ None → (fault ≡ None) × (others ≡ None)
 none_of_both number None others h = (refl, h)
@@ -52,7 +52,7 @@ module _ (form : RunForm) (names : List (List ℕ)) (questions : List Question) 
   unfolding first_fault
   opened = ap (λ (l : List Question). first_fault form names (question_values l)) (next_at questions i q h read)
 
-  -- the first that is rejected is the one in place i
+  -- if the question at place i is rejected, its error is the first
   pub fault_here : {all : Option QuestionError} (kind : QuestionKind)
       → first_fault form names (question_values (drop i questions)) ≡ all
       → question_fault form names (question_value q) ≡ Some kind
@@ -60,7 +60,7 @@ module _ (form : RunForm) (names : List (List ℕ)) (questions : List Question) 
   fault_here kind before fault =
       sym (ap (λ (f : Option QuestionKind). fault_or q.number f after) fault) ∙ sym opened ∙ before
 
-  -- or it is one after it
+  -- if the question at place i is accepted, the first error belongs to a later question
   pub fault_after : {all : Option QuestionError}
       → first_fault form names (question_values (drop i questions)) ≡ all
       → question_fault form names (question_value q) ≡ None
@@ -68,18 +68,18 @@ module _ (form : RunForm) (names : List (List ℕ)) (questions : List Question) 
   fault_after before fine =
       sym (ap (λ (f : Option QuestionKind). fault_or q.number f after) fine) ∙ sym opened ∙ before
 
-  -- if none is rejected, neither the one in place i is, nor one after it
+  -- if no question is rejected, the question at place i and those after it are not rejected
   pub none_here : first_fault form names (question_values (drop i questions)) ≡ None
       → (question_fault form names (question_value q) ≡ None)
       × (first_fault form names (question_values (drop (i + 1) questions)) ≡ None)
   none_here none = none_of_both q.number (question_fault form names (question_value q)) after (sym opened ∙ none)
 
--- no question is left
+-- no questions have no error
 pub none_left : (form : RunForm) (names : List (List ℕ)) → first_fault form names [] ≡ None
 unfolding first_fault
 none_left form names = refl
 
--- one frame of a question more
+-- one more frame of a question
 answers_more : (first : List QuestionValue) (shelf : ShelfValue) (question : QuestionValue) (place n : ℕ)
     (frames : List OutputFrame) (frame : OutputFrame) → n ≡ place + length first → AreAnswers shelf place first frames
     → IsAnswer shelf n question frame → AreAnswers shelf place (first ++ question ∷ []) (frames ++ frame ∷ [])
@@ -105,7 +105,7 @@ answers_more (q ∷ qs) shelf question place n frames frame is x answer =
       ),
     )
 
--- no question has a frame
+-- before any question, there are no frames of questions
 pub answered_none : {S : Type 0} {taken : S → Option (List ℕ)} {faults : S → Faults} (shelf : ShelfValue) (now : S)
     (block : BlockValue) → HasAnswered taken faults shelf [] now block now block
 answered_none shelf now block = record { frames = []; answers = refl; appends = appends_none }
@@ -113,7 +113,7 @@ answered_none shelf now block = record { frames = []; answers = refl; appends = 
 module _ {S : Type 0} {taken : S → Option (List ℕ)} {faults : S → Faults} {shelf : ShelfValue}
     (questions : List Question) (i : ℕ) {old was : S} {block middle : BlockValue}
     (given : HasAnswered taken faults shelf (question_values (take i questions)) old block was middle) where
-  -- the question in place i has its frame
+  -- the question at place i has its frame
   pub answered_more : (q : Question) → i < length questions → q ≡ get_or questions i q
       → {mid now : S} {between new : BlockValue}
       → HasAnswer taken faults shelf i (question_value q) was middle mid between
@@ -139,7 +139,7 @@ module _ {S : Type 0} {taken : S → Option (List ℕ)} {faults : S → Faults} 
             (appends_then given.appends (appends_then answer.appends emptied));
       }
 
-  -- the frames of questions stop before it
+  -- the frames of questions end before the question at place i
   pub answers_first : AnswersFirst taken faults shelf (question_values questions) old block was middle
   answers_first = record {
     first = question_values (take i questions);
@@ -151,7 +151,7 @@ module _ {S : Type 0} {taken : S → Option (List ℕ)} {faults : S → Faults} 
 
 -- ---- after the frames of statements
 
--- the names at the end
+-- the names on the shelf after all statements are all names
 pub names_at_end : (statements : List Statement) (shelf after : ShelfValue) (frames : List OutputFrame)
     → GivesFrames shelf statements frames after → after.names ≡ all_names shelf.names statements
 names_at_end [] shelf after frames x = ap (λ (s : ShelfValue). s.names) x.1

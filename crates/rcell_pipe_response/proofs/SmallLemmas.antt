@@ -1,4 +1,4 @@
--- The bytes of cells, of rows that are kept as bytes or as runs.
+-- The bytes of cells in rows that are stored as bytes or as runs.
 use Rattle.std.proofs.Common.{◌≡◌, ◌≢◌, ◌<◌, ◌≤◌, ◌+◌, ◌++◌, ◌&&◌, ℕ, zero, suc, pos, Bool, true, false, eqb}
 use Rattle.std.proofs.Common.{List, ◌∷◌, Some, None, Fits, w8, map, replicate, get_or, length, take, drop}
 use Rattle.std.proofs.Common.{refl, sym, ap, ◌∙◌, arith, rules, add-one}
@@ -49,7 +49,7 @@ module _ (bytes : List ℕ) (fits : (i : ℕ) → Fits w8 (get_or bytes i 0)) wh
       ∙ ap (λ (b : Bool). b && is_small_byte (get_or bytes n 0)) (so_many n (omega (arith, within)))
       ∙ small (get_or bytes n 0) (Fits-lt-pow (fits n))
 
-  -- each cell that a byte stands for is small
+  -- the cell of each byte is small
   pub all_small : list_all is_small_cell (cells_of_bytes bytes) ≡ true
   all_small = list_all-map is_small_cell byte_cell bytes
       ∙ ap (list_all is_small_byte) (sym (take_all (length bytes) bytes (omega arith)))
@@ -66,7 +66,7 @@ module _ (bytes : List ℕ) (fits : (i : ℕ) → Fits w8 (get_or bytes i 0)) wh
       ∙ ap byte_of_cell (get_or-map byte_cell bytes k 0 None within)
       ∙ byte_again (at k) (Fits-lt-pow (fits k))
 
-  -- the bytes of the cells that bytes stand for are these
+  -- the bytes of the cells of some bytes are the bytes themselves
   pub bytes_again : map byte_of_cell (cells_of_bytes bytes) ≡ bytes
   bytes_again = fill_by_all at (map byte_of_cell (cells_of_bytes bytes)) (length bytes) 0
       (length-map (cells_of_bytes bytes) byte_of_cell ∙ long) each
@@ -76,7 +76,7 @@ alike : (x : CellValue) (n : ℕ) → is_small_cell x ≡ true → list_all is_s
 alike x zero is = refl
 alike x (suc n) is = ap (λ (b : Bool). b && list_all is_small_cell (replicate n x)) is ∙ alike x n is
 
--- the runs after a small one
+-- if a first run is small, all runs are small exactly if the others are
 pub small_on : {runs rest : List RunValue} (x : CellValue) (n : ℕ) → runs ≡ (x, n) ∷ rest → is_small_cell x ≡ true
     → list_all is_small_cell (written_out rest) ≡ list_all is_small_cell (written_out runs)
 small_on {runs} {rest} x n steps is = sym
@@ -88,7 +88,7 @@ bytes_alike : (x : CellValue) (n : ℕ) → map byte_of_cell (replicate n x) ≡
 bytes_alike x zero = refl
 bytes_alike x (suc n) = ap (λ (l : List ℕ). byte_of_cell x ∷ l) (bytes_alike x n)
 
--- the bytes of one run more
+-- the bytes of one more run are written
 pub write_more : {runs rest : List RunValue} (old new all : List ℕ) (at n : ℕ) (x : CellValue)
     → at + n ≤ length old → new ≡ take at old ++ replicate n (byte_of_cell x) ++ drop (at + n) old
     → runs ≡ (x, n) ∷ rest → take at old ++ map byte_of_cell (written_out runs) ≡ all
@@ -119,7 +119,7 @@ write_more {runs} {rest} old new all at n x within is steps whole =
         ∙ ap (λ (k : ℕ). take k ((take at old ++ run) ++ drop (at + n) old)) (sym long-front)
         ∙ take-append_seam (take at old ++ run) (drop (at + n) old)
 
--- how many cells there are in the runs
+-- the number of cells in runs is the length of the first run plus the number of cells in the others
 pub long_on : {runs rest : List RunValue} (x : CellValue) (n : ℕ) → runs ≡ (x, n) ∷ rest
     → length (written_out runs) ≡ n + length (written_out rest)
 long_on {runs} {rest} x n steps = ap (λ (l : List RunValue). length (written_out l)) steps

@@ -11,19 +11,19 @@ use Rattle.cell_stats.specs.TableText.{label_of_cell, printed_pairs}
 use Rattle.rcell_pipe_response.specs.Frames.{combination_labels}
 use Rattle.rcell_pipe_response.specs.FrameBytes.{text_bytes}
 
--- what holds of each entry holds of those that are printed
+-- a property of all entries holds for the printed entries
 pub printed-all : (P : Combination × ℕ → Type 0) (after : Option Combination) (pairs : Pairs) → All P pairs → All P (printed_pairs after pairs)
 printed-all P None pairs all = all
 printed-all P (Some k) pairs all = All-filter (λ pair. is_lt (combination_cmp k pair.0)) P pairs all
 
--- the first of a list, and the others
+-- a property of a list holds for its first element
 pub first-of : {X : Type 0} (P : X → Type 0) (x : X) (xs : List X) → All P (x ∷ xs) → P x
 first-of P x xs all = all 0 x (omega arith)
 
 pub others-of : {X : Type 0} (P : X → Type 0) (x : X) (xs : List X) → All P (x ∷ xs) → All P xs
 others-of P x xs all = λ k d within. all (suc k) d (omega (arith, within))
 
--- the labels of entries, cell by cell
+-- the labels of entries are their labels cell by cell
 pub labels-same : (maps : List Grid) (places : List ℕ) (pairs : Pairs) → flat_map (flat_map text_bytes) (map (combination_labels maps places) pairs) ≡ flat_map (λ pair. flat_map (λ p. text_bytes (label_of_cell maps p.0 p.1)) (zip places pair.0)) pairs
 labels-same maps places [] = refl
 labels-same maps places (pair ∷ pairs) =
