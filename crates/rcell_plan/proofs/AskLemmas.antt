@@ -1,4 +1,4 @@
--- An expression asks for the position where one of its steps does.
+-- An expression needs the position exactly if one of its steps does.
 use Rattle.std.proofs.Common.{◌≡◌, ℕ, List, [], ◌∷◌, ◌++◌, Bool, true, false, ◌||◌, refl, ap, ◌∙◌}
 use Rattle.std.specs.List.{list_any}
 use Rattle.std.proofs.lemmas.List.Folds.{list_any-append}
@@ -21,7 +21,7 @@ or-swap true false = refl
 or-swap false true = refl
 or-swap false false = refl
 
--- a last step that does not ask
+-- a last step that does not need the position changes nothing
 last_silent : (xs : List (Step ℕ)) (s : Step ℕ) → step_asks s ≡ false
     → list_any step_asks (xs ++ s ∷ []) ≡ list_any step_asks xs
 last_silent xs s silent = list_any-append step_asks xs (s ∷ [])

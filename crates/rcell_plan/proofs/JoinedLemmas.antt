@@ -1,4 +1,4 @@
--- What is so of joined needs is so of each of them.
+-- A property of joined needs holds for each of them.
 use Rattle.std.proofs.Common.{◌≡◌, ℕ, ℤ, suc, pos, negsuc, ◌+◌, ◌≤◌, ◌-◌, ◌+ℤ◌, List, [], ◌∷◌, ◌++◌, map, Option}
 use Rattle.std.proofs.Common.{Bool, true, false, ◌||◌, cond, refl, ap, sym, subst, ◌∙◌, arith}
 use Rattle.std.specs.Prelude.{All, nat_lt, slice_get, if◌then◌else◌}
@@ -30,7 +30,7 @@ module _ {X : Type 0} (P : X → Type 0) where
 
 -- ---- a list of joined needs
 
--- where it holds of joined needs, it holds of both
+-- a property of joined needs that holds for both needs
 abbrev pub Splits : (Need → Type 0) → Type 0
 Splits P = (a b : Need) → a.place ≡ b.place → P (joined a b) → P a × P b
 
@@ -130,7 +130,7 @@ module _ (o p : Option Grid) (row col : ℤ) where
         (within_second a b rows cols within),
   )
 
-  -- within a margin they are alike around each cell of it
+  -- maps that are alike around a cell are alike around each cell within the margin
   pub alike_moved : (whole : Bool) (a b : Margin) (rows cols : ℤ) → StaysWithin a rows cols
       → AreAlike whole (added a b) o p row col → AreAlike whole b o p (row +ℤ rows) (col +ℤ cols)
   alike_moved true a b rows cols within h = h
@@ -149,7 +149,7 @@ alike_splits x y row col a b same h =
           same both.1,
     )
 
--- all of the map is the same
+-- the map at the need's place is the same in both lists
 abbrev pub IsSameMap : (a b : List Grid) → Need → Type 0
 IsSameMap a b n = slice_get a n.place ≡ slice_get b n.place
 

@@ -1,4 +1,4 @@
--- Statements keep what their needs say of two shelves.
+-- Statements preserve what their needs imply about two shelves.
 use Rattle.std.proofs.Common.{◌≡◌, ℕ, ℤ, zero, suc, pos, negsuc, ◌+◌, ◌<◌, ◌≤◌, List, [], ◌∷◌, ◌++◌, map, length}
 use Rattle.std.proofs.Common.{get_or, Option, Some, None, refl, ap, sym, subst, ◌∙◌, arith, ⊎_elim, ◌⊎◌, inl, inr}
 use Rattle.std.specs.Prelude.{All, slice_get}
@@ -34,7 +34,7 @@ use Rattle.rcell_plan.proofs.ReadLemmas.{IsSettled, expression_alike, expression
 
 -- ---- maps of one region
 
--- they have the same cells everywhere, if they do inside
+-- two maps that have the same cells inside the region have the same cells everywhere
 inside_enough : (region : RegionValue) (m n : Grid) → IsFilled region m.rows → IsFilled region n.rows → (row col : ℤ)
     → ((r c : ℕ) → row ≡ pos r → col ≡ pos c → r < region.rows → c < region.cols
     → cell_at m r c ≡ cell_at n r c) → cell_at_offset m row col ≡ cell_at_offset n row col
@@ -80,7 +80,7 @@ module _ (R : List Need → Option Grid → Option Grid → Type 0) (needs : Lis
   grown (k ∷ known) [] y xs ys h place = absurd (let no : ⊥ = omega (arith, xs) in no)
   grown (k ∷ known) (a ∷ x) [] xs ys h place = absurd (let no : ⊥ = omega (arith, ys) in no)
 
--- what is so of two shelves while statements are executed
+-- the relation between two shelves while statements are executed
 record AreSettled (a b : List Grid) (region : RegionValue) (known : List (List Need)) (x y : ShelfValue) : Type 0 where
   first_region : x.region ≡ region
   second_region : y.region ≡ region
@@ -113,7 +113,7 @@ module _ (a b : List Grid) (region : RegionValue) (known : List (List Need)) (x 
         known x.maps y.maps h.first_count h.second_count h.maps;
   }
 
-  -- r.mapcalc
+  -- the statement r.mapcalc
 
   same_value : (f : Formula) (r c : ℕ)
       → value f x.maps (grid_position region r c) ≡ value f y.maps (grid_position region r c)
@@ -169,7 +169,7 @@ module _ (a b : List Grid) (region : RegionValue) (known : List (List Need)) (x 
       same : All (IsSameMap a b) (needs_of_reads known (expression_reads f)) → m ≡ n
       same all = one-map-of-values f f x m n are_m (moved_values all) (λ r c _ _. refl)
 
-  -- maps at a place
+  -- the maps at a place are related by the needs of that place
 
   of_region : (z : ShelfValue) (place : ℕ) (m : Grid) → All (IsOfRegion region) z.maps
       → slice_get z.maps place ≡ Some m → IsOfRegion region m
@@ -197,7 +197,7 @@ reclass_rows : (rules : List RuleValue) (rows : List (List CellValue)) (row : �
 reclass_rows rules rows (pos r) = list.get_or-map (new_row rules) rows r []
 reclass_rows rules rows (negsuc r) = refl
 
--- the new category of a cell of the map
+-- a cell of a reclassified map is the new category of the cell
 reclass_cell : (rules : List RuleValue) (g : Grid) (row col : ℤ)
     → cell_at_offset (reclassed_map rules g) row col ≡ new_category rules (cell_at_offset g row col)
 reclass_cell rules g row col = ap (λ l. item_at None l col) (reclass_rows rules g.rows row)
@@ -265,7 +265,7 @@ module _ (a b : List Grid) (region : RegionValue) (known : List (List Need)) (x 
       subst (λ (s : ShelfValue). AreSettled a b region after s other) (sym first)
       (subst (λ (s : ShelfValue). AreSettled a b region after z s) (sym second) settled)
 
-  -- one statement
+  -- one statement preserves the relation
   settled_after : (command : Command) (next other : ShelfValue) → IsShelfAfter x command next
       → IsShelfAfter y command other
       → AreSettled a b region (needs_after known command) next other
@@ -288,7 +288,7 @@ module _ (a b : List Grid) (region : RegionValue) (known : List (List Need)) (x 
   settled_after (Stats places options) next other u v = same_shelves known next other x y u v h
   settled_after (OutAscii place null_text) next other u v = same_shelves known next other x y u v h
 
--- all statements
+-- all statements preserve the relation
 settled_all : (a b : List Grid) (region : RegionValue) (known : List (List Need)) (x y next other : ShelfValue)
     (statements : List Statement) → AreSettled a b region known x y
     → IsShelfAfterAll x statements next → IsShelfAfterAll y statements other

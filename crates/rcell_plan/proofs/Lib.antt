@@ -1,4 +1,4 @@
--- What several proofs share.
+-- Lemmas that several proofs share.
 pub mod AskLemmas
 pub mod JoinedLemmas
 pub mod LawLemmas

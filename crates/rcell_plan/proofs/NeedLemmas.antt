@@ -1,4 +1,4 @@
--- Needs that are added one after another.
+-- Adding needs one after another.
 use Rattle.std.proofs.Common.{◌≡◌, ℕ, ◌+◌, ◌<◌, List, [], ◌∷◌, ◌++◌, length, drop, get_or, Option, Some, None, Bool}
 use Rattle.std.proofs.Common.{true, false, refl, ap, ◌∙◌, arith, add-one}
 use Rattle.std.specs.Prelude.{◌==◌, nat_lt, nat_le, slice_get, slice_set, if◌then◌else◌}
@@ -8,7 +8,7 @@ use Rattle.rcell_plan.specs.declared.needs.Need.{Need}
 use Rattle.rcell_plan.specs.Needs.{joined, with_need, with_needs}
 use Rattle.rcell_plan.specs.parts.Places.{place_among, put_at, put_need}
 
--- what is left of a list, with its next item
+-- the rest of a list is its next item and the items after it
 pub next_at : {A : Type 0} (xs : List A) (i : ℕ) (d : A) → i < length xs → drop i xs ≡ get_or xs i d ∷ drop (i + 1) xs
 next_at xs i d lt = rw add-one (drop-cons xs i d lt)
 
@@ -31,7 +31,7 @@ put_behind x n xs at = ap (λ o. put_at (x ∷ xs) (at + 1) n o) next ∙ by_opt
     by_option None = refl
     by_option (Some y) = by_case y (y.place == n.place)
 
--- a need that is put at its place is added
+-- a need put at its place in the list is added to it
 pub put_among : (xs : List Need) (n : Need) → put_need xs (place_among n.place xs) n ≡ with_need xs n
 put_among [] n = refl
 put_among (x ∷ xs) n = by_case (nat_le n.place x.place) refl (put_among xs n)

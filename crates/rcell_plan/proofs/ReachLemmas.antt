@@ -1,4 +1,4 @@
--- The reads of an expression are its reach, and each map occurs once.
+-- An expression's reads cover its reach, and each map occurs once in them.
 use Rattle.std.proofs.Common.{◌≡◌, ℕ, zero, suc, ℤ, ◌+◌, ◌<◌, ◌≤◌, max, List, [], ◌∷◌, ◌++◌, map, Bool, true, false}
 use Rattle.std.proofs.Common.{◌||◌, refl, ap, sym, ◌∙◌, arith}
 use Rattle.std.specs.Prelude.{All, ◌==◌, nat_lt, flat_map, if◌then◌else◌}
@@ -130,7 +130,7 @@ module _ (g : Need → ℕ) where
   itself : (n : Need) → here n.place n ≡ g n
   itself n = let same : (n.place == n.place) ≡ true = grind arith in rw same refl
 
-  -- in ascending needs each has the largest of its place
+  -- in ascending needs, each need has the maximum of its place
   alone_past : (place : ℕ) (xs : List Need) → AscendPast place xs
       → All (λ n. (place < n.place) × (g n ≡ most n.place xs)) xs
   alone_past place [] h = All-nil (λ n. (place < n.place) × (g n ≡ most n.place []))
@@ -193,7 +193,7 @@ module _ (g : Need → ℕ) where
     most-append i [] ys = omega arith
     most-append i (x ∷ xs) ys = rw (most-append i xs ys) (omega arith)
 
-    -- the largest of a place among what steps read
+    -- the maximum at a place over the reads of all steps
     pub most_steps : (at : ℕ → ℤ → ℤ → ℕ) (i : ℕ) → ((s : Step ℕ) → most i (step_reads s) ≡ at_step at 0 s)
         → (f : Formula)
         → most i (expression_reads f) ≡ fold_steps at 0 max (postfix f)
@@ -241,7 +241,7 @@ step_right i (step.Binary op) = refl
 step_right i (step.Call f n) = refl
 
 module _ (f : Formula) where
-  -- in each direction
+  -- the needs of an expression are its reach in each direction
   toward : (g : Need → ℕ) → ((a b : Need) → g (joined a b) ≡ max (g a) (g b)) → (at : ℕ → ℕ → ℤ → ℤ → ℕ)
       → ((i : ℕ) (s : Step ℕ) → most g i (step_reads s) ≡ at_step (at i) 0 s)
       → All (λ n. g n ≡ fold_maps (at n.place) 0 max f) (expression_reads f)

@@ -1,4 +1,4 @@
--- Where shelves are alike in what the reads of an expression need, it has one value over both.
+-- An expression has the same value over two shelves that agree on what its reads need.
 use Rattle.std.proofs.Common.{◌≡◌, ℕ, ℤ, pos, ◌+ℤ◌, List, [], ◌∷◌, ◌++◌, Option, refl, ap, subst, ◌∙◌, arith}
 use Rattle.std.specs.Prelude.{All, slice_get, flat_map}
 use Rattle.std.proofs.lemmas.List.Elements.{All-nil, All-cons, All-head, All-weaker}
@@ -20,7 +20,7 @@ use Rattle.rcell_plan.proofs.JoinedLemmas.{alike_splits, IsSameMap, same_splits,
 
 -- ---- values
 
--- what a step reads at a spot is the same over both
+-- a step reads the same cell at a position over both lists of maps
 abbrev pub ReadsAlike : (x y : List Grid) → GridPosition → Step ℕ → Type 0
 ReadsAlike x y s (step.Map i down right) = cell_in (slice_get x i) (pos s.row +ℤ down)
     (pos s.col +ℤ right) ≡ cell_in (slice_get y i) (pos s.row +ℤ down) (pos s.col +ℤ right)
@@ -62,7 +62,7 @@ module _ (x y : List Grid) (s : GridPosition) where
 -- ---- what reads need
 
 module _ (P : Need → Type 0) (splits : Splits P) (known : List (List Need)) where
-  -- the needs of each read
+  -- a property of the needs of all reads holds for the needs of each read
   pub needs_of_reads-all : (reads : List Need) → All P (needs_of_reads known reads)
       → All (λ read. All P (needs_of_read known read)) reads
   needs_of_reads-all reads h = parts reads (with_needs-all P splits [] (flat_map (needs_of_read known) reads) h).1
@@ -75,7 +75,7 @@ module _ (P : Need → Type 0) (splits : Splits P) (known : List (List Need)) wh
           (all_left P (needs_of_read known r) (flat_map (needs_of_read known) rs) h)
           (parts rs (all_right P (needs_of_read known r) (flat_map (needs_of_read known) rs) h))
 
--- what is so of all reads is so of the read of each step
+-- a property of all reads holds for the reads of each step
 module _ (Q : Need → Type 0) (splits : Splits Q) where
   abbrev OfStep : Step ℕ → Type 0
   OfStep s = All Q (step_reads s)
@@ -90,7 +90,7 @@ module _ (Q : Need → Type 0) (splits : Splits Q) where
           (parts ss (all_right Q (step_reads s) (flat_map step_reads ss) h))
 
 module _ (a b : List Grid) (known : List (List Need)) where
-  -- around each cell within the margin of a read, its map's needs are alike
+  -- the maps that a read needs are alike around each cell within its margin
   abbrev pub ReadsAround : (row col : ℤ) → Need → Type 0
   ReadsAround row col read = (rows cols : ℤ) → StaysWithin read.margin rows cols
       → All (AreAlikeAt a b (row +ℤ rows) (col +ℤ cols)) (needs_at known read.place)
@@ -111,7 +111,7 @@ module _ (a b : List Grid) (known : List (List Need)) where
       (needs_at known read.place) (all_of_map (AreAlikeAt a b row col) (moved read.margin)
       (needs_at known read.place) h)
 
-  -- the needs of the map that each step reads are alike around what it reads
+  -- the maps that each step needs are alike around the cells that it reads
   pub steps_around : (row col : ℤ) (steps : List (Step ℕ))
       → All (AreAlikeAt a b row col) (needs_of_reads known (with_needs [] (flat_map step_reads steps)))
       → All (λ s. All (ReadsAround row col) (step_reads s)) steps
@@ -122,7 +122,7 @@ module _ (a b : List Grid) (known : List (List Need)) where
       (read_around row col) reads
       (needs_of_reads-all (AreAlikeAt a b row col) (alike_splits a b row col) known reads h))
 
-  -- the needs of a read's map are the same maps
+  -- the maps that a read needs are the same maps
   abbrev pub ReadsSame : Need → Type 0
   ReadsSame read = All (IsSameMap a b) (needs_at known read.place)
 
@@ -144,7 +144,8 @@ within_itself down right = record { up = omega arith; down = omega arith; left =
 
 -- ---- an expression over two shelves
 
--- over both shelves a map has one cell, where its needs are alike; and it is one map, if they are the same maps
+-- a map has the same cell over both shelves if the maps it needs are alike there, and is the same map if they
+-- are the same
 pub record IsSettled (a b : List Grid) (needs : List Need) (o p : Option Grid) : Type 0 where
   pub cells : (row col : ℤ) → All (AreAlikeAt a b row col) needs → cell_in o row col ≡ cell_in p row col
   pub same : All (IsSameMap a b) needs → o ≡ p
