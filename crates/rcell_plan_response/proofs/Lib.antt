@@ -1,4 +1,4 @@
--- What several proofs share.
+-- Lemmas that several proofs share.
 pub mod LineLemmas
 pub mod PlanEndLemmas
 pub mod ZipLemmas

@@ -1,4 +1,4 @@
--- How responses end.
+-- The ends of responses.
 use Rattle.std.proofs.Common.{◌≡◌, ◌∙◌, ℕ, suc, Bool, true, false, List, [], ◌∷◌, ◌++◌, Option, Some, None}
 use Rattle.std.proofs.Common.{Result, Ok, Err, refl, sym, ap, subst, append_assoc, map}
 use Rattle.std.specs.Prelude.{◌≢◌, length}
@@ -51,7 +51,7 @@ use Rattle.rcell_plan_response.specs.parts.Answered.{IsOfFeed, IsOfSource}
 
 -- ---- what was written
 
--- a response that ends says more
+-- a response that ends under a condition ends under a weaker condition
 pub ends_more : (says more : List ℕ → Option PipeError → Type 0)
     → ((response : List ℕ) (error : Option PipeError) → says response error → more response error)
     → {before now : Option (List ℕ)} {start after : Faults} {outcome : PipeOutcome}
@@ -63,7 +63,7 @@ ends_more says more on {outcome = outcome} h = record {
   settled = h.settled;
 }
 
--- the end after the frames of a plan
+-- the frames of a plan are followed by the last frame
 pub finished_plans : {before now : Option (List ℕ)} {start after : Faults} {error : Option PipeError}
     {outcome : PipeOutcome} (frames : List ℕ) (one end : EndValue) → one ≡ end
     → Finished before start now after error ((response_magic ++ frames) ++ end_bytes one) outcome
@@ -79,7 +79,7 @@ pub length-plans : (known : List (List Need)) (statements : List Statement)
 length-plans known [] = refl
 length-plans known (s ∷ ss) = ap suc (length-plans (needs_after known s.command) ss)
 
--- the names of all maps, and the plans and details of statements
+-- the response has the names of all maps, and the plans and details of the statements
 pub finished_plan : {before now : Option (List ℕ)} {start after : Faults} {outcome : PipeOutcome}
     (names all lines : List (List ℕ)) (statements : List Statement) (plans : List Plan)
     (details : List StatementDetails) → all ≡ all_names names statements
@@ -135,14 +135,14 @@ stopped_plan stops.Memory old new fails c is = (fails c is, refl)
 stopped_plan (stops.Error error) old new fails c is =
     let at = fails c is in (at.0, (ap (λ r. r >>= λ plan. Ok plan.0) at.1, refl))
 
--- whatever the form, if memory ran out
+-- out of memory is a response to a request of any form
 pub memory_form : (form : FieldReading RequestForm)
     → IsResponseTo form (response_bytes [] (memory_end 0)) (Some errors.Memory)
 memory_form (Err kind) = refl
 memory_form (Ok (form.Run run, rest)) = refl
 memory_form (Ok (form.Plan, rest)) = refl
 
--- the first eight bytes were not read
+-- the first eight bytes could not be read
 pub stopped_form : (stop : FieldStop) (old new : FeedValue) → FieldFails stop old new form_at
     → (c : Coming) → fits c new ≡ true → (fits c old ≡ true)
     × IsResponseTo (form_at (left c old)) (response_bytes [] (end_of_stop (stop_at 0 0 stop)))
@@ -154,12 +154,12 @@ stopped_form (field_stops.Error kind) old new fails c is =
     let at = fails c is in
     (at.0, subst (λ (f : FieldReading RequestForm). IsResponseTo f response error) (sym at.1) (refl, refl))
 
--- the last frame of a stop is all of the response
+-- the response to a stop is only its last frame
 pub only_stop : (stop : RequestStop) → IsOnlyEnd (response_bytes [] (end_of_stop stop)) (Some (error_of_stop stop))
 only_stop stops.Memory = refl
 only_stop (stops.Error error) = refl
 
--- a plan that was rejected is its last frame
+-- the response to a rejected plan is only its last frame
 pub only_end_of_plan : (read : Result PlanRequestValue RequestError) (response : List ℕ) (error : Option PipeError)
     → IsPlanResponse read response error → IsOnlyEnd response error
 only_end_of_plan read response None is = tt
@@ -173,7 +173,7 @@ only_end_of_plan read response (Some errors.Write) is = tt
 
 -- ---- how far the source was asked
 
--- of a request that was read, to its end
+-- a request that is read is asked for to its end
 pub asked_of_run : (form : RunForm) (request : RunRequestValue) (response : List ℕ) (error : Option PipeError)
     {asked : Asked}
     → IsResponse form (Ok request) response error → asked ≡ Ended → IsAskedBy error asked
@@ -197,7 +197,7 @@ asked_of_plan request response (Some (errors.MemoryAt line)) is end = end
 asked_of_plan request response (Some errors.MemoryAtQuestion) is end = end
 asked_of_plan request response (Some errors.Write) is end = end
 
--- of a request that was not, up to its error
+-- a request that is not read is asked for up to its error
 pub asked_of_stop : (stop : RequestStop) (error : Option PipeError) {asked : Asked} → error ≡ Some (error_of_stop stop)
     → asked ≡ asked_at_request stop → IsAskedBy error asked
 asked_of_stop stops.Memory error {asked} is far = subst (λ (e : Option PipeError). IsAskedBy e asked) (sym is)
@@ -214,7 +214,7 @@ asked_of_field (field_stops.Error kind) placed error at is far =
 
 -- ---- from a feed to its source
 
--- what is said of a feed is said of its source
+-- a response to the content of a feed is a response to the content of its source
 pub of_source : (gave now : List ℕ) (asked at : Asked) (old new : FeedValue)
     → old ≡ record { unread = []; gave = gave; asked = asked } → now ≡ new.gave → at ≡ new.asked
     → (response : List ℕ) (error : Option PipeError)
@@ -227,7 +227,7 @@ of_source gave now asked at old new first gave_is asked_is response error is = (
       subst (λ (f : FeedValue). IsResponseTo (form_at (left c f)) response error) first (is.1 c known).1,
 )
 
--- of a response to what a source gave: whatever it may hold
+-- a response to the bytes that a source gave is a response to any content that it may hold
 pub held : (before gave : List ℕ) (asked : Asked) {taken now : Option (List ℕ)} {start after : Faults}
     {outcome : PipeOutcome} (c : Coming) → may_hold gave asked c ≡ true
     → EndsAs (IsOfSource before gave asked) taken start now after outcome
@@ -241,7 +241,7 @@ held before gave asked c fit ended =
 abbrev of_plan : List (List ℕ) → List ℕ → PlanRequestValue
 of_plan names script = record { names = names; script = script }
 
--- with another error than want of memory or a failed write, a request was not accepted
+-- a request with an error other than out of memory or a failed write was not accepted
 refused : NoFaultOfAScript → OneScript → (form : FieldReading RequestForm) → IsRequestAccepted form
     → (response : List ℕ) (error : PipeError)
     → end_status_after (Some error) ≢ 3 → (error ≡ errors.Write → ⊥) → IsResponseTo form response (Some error) → ⊥
@@ -280,7 +280,7 @@ refused law one form accepted response (errors.MemoryAt line) lasts fine is = la
 refused law one form accepted response errors.MemoryAtQuestion lasts fine is = lasts refl
 refused law one form accepted response errors.Write lasts fine is = fine refl
 
--- a request whose script is accepted is done, if memory lasts and the sink takes everything
+-- a request with an accepted script is done if memory lasts and the sink accepts everything
 pub all_is_done : NoFaultOfAScript → OneScript → (form : FieldReading RequestForm) {before now : Option (List ℕ)}
     {start after : Faults}
     {outcome : PipeOutcome} → EndsAs (IsResponseTo form) before start now after outcome
@@ -301,7 +301,7 @@ no_error : (error : Option PipeError) → IsNone error → error ≡ None
 no_error None none = refl
 no_error (Some error) none = cc
 
--- of a run whose script is accepted exactly the frames are written
+-- a run with an accepted script writes exactly its frames
 pub headline_of : NoFaultOfAScript → OneScript → (c : Coming) {before now : Option (List ℕ)} {start after : Faults}
     {outcome : PipeOutcome} → EndsAs (IsResponseTo (form_at c)) before start now after outcome
     → (shelf : ShelfValue) (statements : List Statement) (questions : List QuestionValue)

@@ -1,11 +1,11 @@
--- Three lists side by side, the last one seen by a function.
+-- Three lists zipped, the last one mapped by a function.
 use Rattle.std.proofs.Common.{◌≡◌, ◌∙◌, ◌<◌, ℕ, List, length, get_or, map, arith, ap, sym}
 use Rattle.std.specs.List.{zip}
 use Rattle.std.proofs.lemmas.List.{length-map, get_or-map}
 use Rattle.std.proofs.lemmas.Slice.Zip.{length-zip, get_or-zip}
 
 module _ {A B C D : Type 0} (f : C → D) (xs : List A) (ys : List B) (zs : List C) where
-  -- they are as long as the first
+  -- the zipped list is as long as the first list
   pub length-zipped : length xs ≡ length ys → length zs ≡ length ys
       → length (zip (zip xs ys) (map f zs)) ≡ length xs
   length-zipped first last =
@@ -14,7 +14,7 @@ module _ {A B C D : Type 0} (f : C → D) (xs : List A) (ys : List B) (zs : List
       let mapped = length-map zs f in
       omega (arith, long, all, mapped, first, last)
 
-  -- the items at a place
+  -- the item at a place of the zipped list is made of the items at that place
   pub zipped : (i : ℕ) (x : A) (y : B) (z : C) → x ≡ get_or xs i x → y ≡ get_or ys i y → z ≡ get_or zs i z
       → i < length xs → i < length ys → i < length zs
       → ((x, y), f z) ≡ get_or (zip (zip xs ys) (map f zs)) i ((x, y), f z)
