@@ -1,3 +1,3 @@
--- What several proofs share.
+-- Lemmas that several proofs share.
 pub mod WordLemmas
 pub mod WorkLemmas

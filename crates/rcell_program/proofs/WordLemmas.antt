@@ -1,4 +1,4 @@
--- Words of a command line, words of grids, and calls that gave no value.
+-- Words of a command line, words of grids, and calls that returned no value.
 use Rattle.std.proofs.Common.{Result, Ok, Err, MatchResult, if◌then◌else◌, Bor, Bool, List, ℕ, ◌≡◌, ◌||◌, ◌+◌, ◌<◌}
 use Rattle.std.proofs.Common.{◌∷◌, ◌++◌, [], ◌∙◌, ap, true, false, refl, not, nat_lt, length, drop, arith}
 use Rattle.std.proofs.Common.{get_or}
@@ -21,7 +21,7 @@ from_not : (b c : Bool) → not b ≡ c → b ≡ not c
 from_not true c is = ap not is
 from_not false c is = ap not is
 
--- fewer than two words, or the first begins with a hyphen
+-- fewer than two words, or a first word that begins with a hyphen, are a misuse
 pub too_few : (words : List Text) → is_command words ≡ false → is_misuse words ≡ true
 too_few [] bad = refl
 too_few (word ∷ []) bad = or_true (has_hyphen_word (word ∷ []))
@@ -29,7 +29,7 @@ too_few (first ∷ word ∷ words) bad =
     let flagged : begins_with_hyphen first ≡ true = from_not _ false bad in
     rw flagged refl
 
--- a later word begins with a hyphen
+-- a later word that begins with a hyphen is a misuse
 pub flagged : (first : Text) (rest : List Text) → has_hyphen_word rest ≡ true → is_misuse (first ∷ rest) ≡ true
 flagged first rest is =
     ap (λ some. (begins_with_hyphen first || some) || nat_lt (length (first ∷ rest)) 2) is
@@ -47,7 +47,7 @@ pub when_ok : {X : Type 0} (ok : Bool) {z : X} (x y : X) → true ≡ ok → z �
 when_ok true x y taken is = is
 when_ok false x y taken is = cc
 
--- what a failed call reports
+-- a result that reports an error comes from a call that failed
 pub made_reported : {T E F : Type 0} {Q : E → Type 0} {P : Type 0} (r : Result T E) (y : F)
     → MatchResult r (λ x. ◌≡◌ {A = Result T F} (Err y) (Ok x)) Q → ((e : E) → Q e → P) → P
 made_reported (Ok x) y is f = cc
@@ -67,7 +67,7 @@ pub first_bad_next : (place : ℕ) (words : List (Bor Text)) (i : ℕ) (word : B
 first_bad_next place words i word within good =
     ap (λ left. first_bad place (texts left)) (drop_more words i word within) ∙ rw good refl
 
--- the text of a word at a place
+-- the text of a word at a place is the text at that place
 pub word_at : (words : List (Bor Text)) (i : ℕ) (word : Bor Text) (none : Text) → word ≡ slice_index_or words i word →
     i < length words → word.now ≡ get_or (texts words) i none
 word_at words i word none is within = ap (λ (w : Bor Text). w.now) is ∙ text_at words i word none within

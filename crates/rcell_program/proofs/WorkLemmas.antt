@@ -1,4 +1,4 @@
--- How the work ends, by where it ends, and what it has done for files that are known.
+-- How the work of the program ends, and its outcome for files that are known.
 use Rattle.std.proofs.Common.{ℕ, zero, suc, Bool, true, false, List, [], ◌∷◌, Option, None, Some, IfSome, ◌≡◌, ◌≢◌}
 use Rattle.std.proofs.Common.{◌<◌, ◌||◌, ◌∙◌, if◌then◌else◌, ap, sym, refl, subst, drop, map, take, length, codes, unwrap_or, slice_get, arith}
 use Rattle.std.specs.List.{AllZip}
@@ -26,7 +26,7 @@ use Rattle.rcell_program.specs.declared.refusal.Refusal.TheVariants.{Usage, Grid
 use Rattle.rcell_program.proofs.WordLemmas.{or_true}
 use Rattle.rcell_script.specs.declared.statement.Statement.{Statement}
 
--- the words after the program's own name, none if they are not known
+-- the words after the program's own name, or no words if they are not known
 abbrev pub given_of : Option (List Text) → List Text
 given_of None = []
 given_of (Some all) = drop 1 all
@@ -35,7 +35,7 @@ pub given_known : (all : Option (List Text)) → IfSome all (λ words. given_of 
 given_known None = tt
 given_known (Some all) = refl
 
--- the errors of words alone
+-- the errors that depend only on words
 abbrev OfWords : Refusal → Type 0
 OfWords Usage = Unit {0}
 OfWords (GridWord place) = Unit {0}
@@ -52,7 +52,7 @@ of_form false (Some place) refusal is = let same : GridWord place ≡ refusal = 
 of_words : (words : List Text) (refusal : Refusal) → refusal_of words ≡ Some refusal → OfWords refusal
 of_words words refusal is = of_form (is_misuse words) (first_bad 2 (drop 1 words)) refusal is
 
--- words that were not given
+-- the words could not be read
 pub reason_unknown : (files : Text → Option Coming) (all : Option (List Text)) (refusal : Refusal) → (refusal ≢ Memory
     → (refusal ≡ Usage) × (all ≡ None)) → IsReason files (given_of all) refusal
 reason_unknown files all Usage reported = let p = reported (λ same. cc) in ap (λ known. refusal_of (given_of known)) p.1
@@ -73,7 +73,7 @@ place_unknown names all ScriptFile reported = refl
 place_unknown names all (GridFile grid) reported = let p = reported (λ same. cc) in let bad : GridFile grid ≡ Usage =
     p.0 in cc
 
--- words that ask for no run
+-- the words do not ask for a run
 pub reason_words : (files : Text → Option Coming) (words : List Text) (refusal : Refusal) → (refusal ≢ Memory →
     refusal_of words ≡ Some refusal) → IsReason files words refusal
 reason_words files words Usage reported = reported (λ same. cc)
@@ -100,7 +100,7 @@ names_grid (script ∷ []) good none =
     cc
 names_grid (script ∷ grid ∷ grids) good none = cc
 
--- files that were not opened
+-- a file could not be opened
 pub reason_files : (files : Text → Option Coming) (words : List Text) (script : Text) (names paths : List Text)
     (refusal : Refusal) → IsRequest words script names paths
     → refusal_of words ≡ None → IsOfOpening files script paths refusal → IsReason files words refusal
@@ -112,7 +112,7 @@ reason_files files words script names paths ScriptFile asked good is = ap files 
 reason_files files words script names paths (GridFile grid) asked good is = subst (λ all. (grid < length all) × (files
     (grid_path_at all grid) ≡ None)) asked.of_paths is
 
--- what the sources of the grids give, if the files are known
+-- the sources of the grids give the content of the known files
 pub reports : {F : Type 0} (files : Text → Option Coming) (coming : F → Option Coming) (words : List Text) (grids :
     List (Text × F)) (named : List Named)
     → map (λ grid. grid.0) grids ≡ map grid_name words → AllZip (λ path grid. GivesFile files coming path grid.1) (map
@@ -132,7 +132,7 @@ reports files coming (word ∷ words) (grid ∷ grids) (n ∷ named) names gives
           others gives.1 are.1,
     )
 
--- a file that is known is not missing
+-- a known file is not missing
 not_missing : (files : Text → Option Coming) (words : List Text) (named : List Named) (grid : ℕ)
     → AllZip (λ word n. (grid_name word ≡ n.0) × (files (grid_path word) ≡ Some n.1)) words named
     → grid < length (map grid_path words) → files (grid_path_at (map grid_path words) grid) ≡ None → ⊥
@@ -143,7 +143,7 @@ not_missing files (word ∷ words) (n ∷ named) zero are within missing = let b
 not_missing files (word ∷ words) (n ∷ named) (suc grid) are within missing = not_missing files words named grid are.1
     (omega arith) missing
 
--- the status that is returned is the status of the run
+-- the status returned is the status of the run
 status_same : (names : List Text) (fault : Option RunFault) (outcome : Outcome) → outcome.fault ≡ fault →
     outcome.status ≡ status_after outcome.fault → status_of (run_place names outcome) ≡ outcome.status
 status_same names None outcome is status = ap status_of (ap (option_map _) is) ∙ sym (status ∙ ap status_after is)
@@ -200,7 +200,7 @@ done_by files opened errors failed taken faults old new out now given (Ran outco
 module _ {P W : Type 0} {words : P → Option (List (List ℕ))} {files : P → List ℕ → Option Coming} {opened : P → Option
     (List (List ℕ))} {errors : P → Option (List ErrorLine)} {failed : P → Bool} {taken : W → Option (List ℕ)} {faults
     : W → Faults} where
-  -- no run was started, since the words could not be read or ask for none
+  -- no run was started because the words could not be read or do not ask for a run
   pub rejected : {old new : P} {out : W} (given : List Text) (refusal : Refusal) (status : ℕ) → IfSome (words old) (λ
       all. given ≡ drop 1 all) → IsReason (files old) given refusal
       → ◌≡◌ {A = Option PlaceValue} (Some (refusal_place [] refusal)) (Some (refusal_place (grid_names given) refusal))
@@ -219,7 +219,7 @@ module _ {P W : Type 0} {words : P → Option (List (List ℕ))} {files : P → 
     told = told_at place (told_after (opened_none {files = files} old) reported);
   }
 
-  -- no run was started, since a file could not be opened
+  -- no run was started because a file could not be opened
   pub unopened : {old mid new : P} {out : W} (given : List Text) (script : Text) (names paths shown : List Text)
       (refusal : Refusal) (status : ℕ) → IfSome (words old) (λ all. given ≡ drop 1 all)
       → IsRequest given script names paths → refusal_of given ≡ None → IsOfOpening (files old) script paths refusal →
@@ -243,7 +243,7 @@ module _ {P W : Type 0} {words : P → Option (List (List ℕ))} {files : P → 
             reported);
       }
 
-  -- what is done for words and files that are known
+  -- the outcome for words and files that are known
   pub headline_of : {old new : P} {out now : W} {status : ℕ} → IsWork words files opened errors failed old new taken
       faults out now status
       → (all : List Text) (named : List Named) (text : Coming) (shelf : ShelfValue) (statements : List Statement)

@@ -14,19 +14,19 @@ none_in n is = le-ltb 0 n (omega (arith, eqb-true n 0 is))
 some_in : (n : ℕ) → (n == 0) ≡ false → nat_lt 0 n ≡ true
 some_in n is = lt-ltb 0 n (omega (arith, eqb-false n 0 is))
 
--- without an equals sign
+-- a word without an equals sign is not a grid
 no_equals : (word : List ℕ) → position_or_len (λ byte. byte == 61) word ≡ length word → is_grid_argument word ≡ false
 no_equals word none =
     let empty : after_first (λ byte. byte == 61) word ≡ [] = drop_all (position_or_len (λ byte. byte == 61) word + 1) word (omega arith) in
     ap (λ after. is_name (before_first (λ byte. byte == 61) word) && nat_lt 0 (length after)) empty ∙ and-false (is_name (before_first (λ byte. byte == 61) word))
 
--- with nothing after it
+-- a word with nothing after the equals sign is not a grid
 no_path : (word path : List ℕ) → path ≡ after_first (λ byte. byte == 61) word → (length path == 0) ≡ true → is_grid_argument word ≡ false
 no_path word path after empty =
     ap (λ some. is_name (before_first (λ byte. byte == 61) word) && some) (ap (λ p. nat_lt 0 (length p)) (sym after) ∙ none_in (length path) empty)
     ∙ and-false (is_name (before_first (λ byte. byte == 61) word))
 
--- with no name before it
+-- a word without a name before the equals sign is not a grid
 no_name : (word name : List ℕ) → name ≡ before_first (λ byte. byte == 61) word → is_name name ≡ false → is_grid_argument word ≡ false
 no_name word name before bad = ap (λ is. is && nat_lt 0 (length (after_first (λ byte. byte == 61) word))) (ap is_name (sym before) ∙ bad)
 

@@ -13,7 +13,7 @@ use Rattle.rcell_program.specs.declared.refusal.Refusal.{Refusal}
 use Rattle.rcell_program.specs.declared.refusal.Refusal.TheVariants.{Usage, GridWord, Memory, ScriptFile, GridFile}
 use Rattle.rcell_program.proofs.opening.open_files.Goals as goal
 
--- of files that stay what they were
+-- the possible errors of opening files are the same when the files are unchanged
 of_same : (files other : Text → Option Coming) (script : Text) (paths : List Text) (refusal : Refusal) → other ≡ files
     → IsOfOpening other script paths refusal → IsOfOpening files script paths refusal
 of_same files other script paths refusal same is = subst (λ known. IsOfOpening known script paths refusal) same is

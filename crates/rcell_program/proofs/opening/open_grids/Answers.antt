@@ -22,7 +22,7 @@ one_more : (paths : List Text) (i : ℕ) (path : Text) → i < length paths → 
     path ∷ [] ≡ take (i + 1) paths
 one_more paths i path within is = ap (λ next. take i paths ++ next ∷ []) is ∙ sym (take_more paths i path within)
 
--- out of memory and the error of one of these grids are errors of an opening
+-- out of memory and the errors of these grids are errors of opening files
 of_grid : (files : Text → Option Coming) (script : Text) (paths : List Text) (grid : ℕ) (path : Text) (refusal :
     Refusal) → grid < length paths → path ≡ get_or paths grid path
     → (refusal ≢ Memory → (refusal ≡ GridFile grid) × (files path ≡ None)) → IsOfOpening files script paths refusal
