@@ -40,7 +40,7 @@ use Rattle.rcell_script_commands.proofs.SpellingLemmas.{head-says, says-head}
 abbrev Ruled : Type 0
 Ruled = Result (LineKind × List RuleValue) ScriptKind
 
--- what a line says among rules
+-- the meaning of a line among rules
 abbrev SaysRule : List RuleValue → List ℕ → LineKind → List RuleValue → Type 0
 SaysRule rules l line_kind.End more = IsEnd l
 SaysRule rules l line_kind.Skipped more = IsSkipped l × (more ≡ rules)
@@ -69,7 +69,7 @@ as_rule-ok : (x : Result (LineKind × List RuleValue) RuleFault) (y : LineKind �
 as_rule-ok (Ok x) y e = let same : x ≡ y = cc in ap Ok same
 as_rule-ok (Err fault) y e = cc
 
--- a line that is read among rules
+-- a line that is read among rules means what it is read as
 rule-sound : (rules : List RuleValue) (l : List ℕ) (kind : LineKind) (more : List RuleValue) → rule_line rules l ≡ Ok (kind, more) → (length l ≤ 65535) × SaysRule rules l kind more
 rule-sound rules l kind more e = by (nat_lt 65535 (length l)) refl e
   where
@@ -116,12 +116,12 @@ record Inside (known : List (List ℕ)) (block : OpenReclass) (lines : List Scri
   statements_are : statements ≡ record { line = block.line; command = Reclass block.place block.target (block.rules ++ rules) } ∷ more
   group : Group (known ++ block.target ∷ []) others more
 
--- lines outside the rules of r.reclass, or among them
+-- the lines that remain, either outside the rules of an r.reclass or among them
 abbrev IsRest : Option OpenReclass → List (List ℕ) → List ScriptLine → List Statement → Type 0
 IsRest None known lines statements = Group known lines statements
 IsRest (Some block) known lines statements = Inside known block lines statements
 
--- what lines come to
+-- the statements that the remaining lines add
 record Rest (pending : Option OpenReclass) (line : ℕ) (known : List (List ℕ)) (before : List Statement) (ls : List (List ℕ)) (statements : List Statement) : Type 0 where
   short : All (λ l. length l ≤ 65535) ls
   more : List Statement
@@ -268,7 +268,7 @@ rest-of line known before (Some block) (l ∷ ls) statements (Ok more, e, rest) 
 
 -- ---- groups, as they are read
 
--- lines that begin at any number are read as statements
+-- lines, numbered from any number, are read as statements
 abbrev Reads : List (List ℕ) → List Statement → List ScriptLine → List Statement → Type 0
 Reads known before lines statements =
     (line : ℕ) (ls : List (List ℕ)) → lines ≡ numbered_lines line ls → All (λ l. length l ≤ 65535) ls → IsScriptReading line (progress known before None) ls (Ok statements)
@@ -279,7 +279,7 @@ short-head l ls all = all 0 l (omega arith)
 short-tail : (l : List ℕ) (ls : List (List ℕ)) → All (λ l. length l ≤ 65535) (l ∷ ls) → All (λ l. length l ≤ 65535) ls
 short-tail l ls all = λ i d within. all (suc i) d (omega (arith, within))
 
--- the rules of an r.reclass, and what comes after its end
+-- the rules of an r.reclass and the lines after its end are read as statements
 inside-read : {inner : List ScriptLine} {rules : List RuleValue} → AreRules inner rules → (known : List (List ℕ)) (before : List Statement) (block : OpenReclass) (last : ScriptLine) (others : List ScriptLine) (statements : List Statement)
     → IsEnd last.bytes
     → Reads (known ++ block.target ∷ []) (before ++ record { line = block.line; command = Reclass block.place block.target (block.rules ++ rules) } ∷ []) others statements

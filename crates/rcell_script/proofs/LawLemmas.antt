@@ -1,4 +1,4 @@
--- A text that is a script has no other reading.
+-- A text that is a script has only one reading.
 use Rattle.std.proofs.Common.{◌≡◌, ℕ, ◌+◌, List, [], ◌∷◌, Option, Some, None, Result, Ok, Err, MatchResult, ap, sym, ◌∙◌, subst}
 use Rattle.std.specs.Prelude.{nat_lt, length, Bool, true, false}
 use Rattle.cell_core_values.specs.Words.{words_of}
@@ -25,7 +25,7 @@ one_head_of : OneAssignment → (long : Bool) (known : List (List ℕ)) (l : Lis
 one_head_of one true known l head other h o = sym o ∙ h
 one_head_of one false known l head other h o = one_short one (is_mapcalc (words_of l)) known l head other h o
 
--- a good line has no other reading
+-- a line without an error has only one reading
 one_head : OneAssignment → (known : List (List ℕ)) (l : List ℕ) (head : Head) (other : Result Head ScriptKind) → IsHead known l (Ok head) → IsHead known l other → other ≡ Ok head
 one_head one known l head other h o = one_head_of one (nat_lt 65535 (length l)) known l head other h o
 

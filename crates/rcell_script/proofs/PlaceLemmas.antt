@@ -1,4 +1,4 @@
--- The names before a place.
+-- The names before a place in a list.
 use Rattle.std.proofs.Common.{◌≡◌, ℕ, zero, suc, ◌+◌, Bool, true, false, cond, List, [], ◌∷◌, ◌++◌, take, slice_get, Some, None, refl, ap, ◌∙◌, arith}
 use Rattle.std.specs.List.{position_from}
 use Rattle.std.proofs.lemmas.List.{take_more}
@@ -18,6 +18,6 @@ position_from-before {K} t i (x ∷ xs) (suc p) e = by (t x) (λ f. position_fro
 pub place_of-before : (name : List ℕ) (known : List (List ℕ)) (p : ℕ) → place_of name known ≡ Some p → place_of name (take p known) ≡ None
 place_of-before name known p e = let q : p ≡ 0 + p = omega arith in position_from-before _ 0 known p (e ∙ ap Some q)
 
--- one more of the elements
+-- taking one more element appends that element
 pub take-slice_get : {A : Type 0} (xs : List A) (i : ℕ) (x : A) → slice_get xs i ≡ Some x → take (i + 1) xs ≡ take i xs ++ x ∷ []
 take-slice_get xs i x e = take_more xs i x (slice_get_within xs i x e) ∙ ap (λ y. take i xs ++ y ∷ []) (get_or_from_slice_get xs i x x e)

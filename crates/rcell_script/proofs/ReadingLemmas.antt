@@ -15,29 +15,29 @@ use Rattle.rcell_script.proofs.GroupingLemmas.{read-grouped}
 abbrev pub texts : List (Bor (List ℕ)) → List (List ℕ)
 texts xs = map (λ w. w.now) xs
 
--- what the lines from place i on come to is what all lines come to
+-- the reading from line i on is the reading of all lines
 abbrev pub Stands : (Result (List Statement) ScriptFault → Type 0) → Progress → List (Bor (List ℕ)) → ℕ → Type 0
 Stands all read lines i = (r : Result (List Statement) ScriptFault) → IsScriptReading (i + 1) read (texts (drop i lines)) r → all r
 
--- the line at place i and those after it
+-- the lines from place i on are the line there and those after it
 cut : (lines : List (Bor (List ℕ))) (i : ℕ) (d : Bor (List ℕ)) → i < length lines → texts (drop i lines) ≡ (get_or lines i d).now ∷ texts (drop (i + 1) lines)
 cut lines i d h =
     let whole : drop i lines ≡ get_or lines i d ∷ drop (i + 1) lines = rw add-one (drop-cons lines i d h) in
     ap texts whole
 
--- a line that is read
+-- a line is read
 pub Stands-more : (all : Result (List Statement) ScriptFault → Type 0) (read more : Progress) (lines : List (Bor (List ℕ))) (i : ℕ) (d : Bor (List ℕ)) → i < length lines
     → Stands all read lines i → IsNext (i + 1) read (get_or lines i d).now (Ok more) → Stands all more lines (i + 1)
 Stands-more all read more lines i d h stands next r rest =
     stands r (subst (λ ls. IsScriptReading (i + 1) read ls r) (sym (cut lines i d h)) (Ok more, next, rest))
 
--- a line has an error
+-- a line has an error, which is the error of the text
 pub Stands-fault : (all : Result (List Statement) ScriptFault → Type 0) (read : Progress) (lines : List (Bor (List ℕ))) (i : ℕ) (d : Bor (List ℕ)) (fault : ScriptFault) → i < length lines
     → Stands all read lines i → IsNext (i + 1) read (get_or lines i d).now (Err fault) → all (Err fault)
 Stands-fault all read lines i d fault h stands next =
     stands (Err fault) (subst (λ ls. IsScriptReading (i + 1) read ls (Err fault)) (sym (cut lines i d h)) (Err fault, next, refl))
 
--- all lines are left
+-- at the start, all lines are left
 pub Stands-start : (known : List (List ℕ)) (text : List ℕ) (lines : List (Bor (List ℕ))) → texts lines ≡ script_lines text → Stands (IsScriptReading 1 (start known) (script_lines text)) (start known) lines 0
 Stands-start known text lines e r given = subst (λ ls. IsScriptReading 1 (start known) ls r) e given
 
@@ -50,7 +50,7 @@ fault_of_line known text read lines i d fault h stands next = Stands-fault (IsSc
 none_left : (lines : List (Bor (List ℕ))) (i : ℕ) → length lines ≤ i → texts (drop i lines) ≡ []
 none_left lines i h = ap texts (drop_all i lines h)
 
--- no line is left
+-- at the end, no lines are left
 at_end-all : (all : Result (List Statement) ScriptFault → Type 0) (read : Progress) (lines : List (Bor (List ℕ))) (i : ℕ) → length lines ≤ i → Stands all read lines i → all (at_end read)
 at_end-all all read lines i h stands = stands (at_end read) (subst (λ ls. IsScriptReading (i + 1) read ls (at_end read)) (sym (none_left lines i h)) refl)
 

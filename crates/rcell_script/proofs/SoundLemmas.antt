@@ -1,4 +1,4 @@
--- What is kept by each line that is read.
+-- Properties that each line read preserves.
 use Rattle.std.proofs.Common.{◌≡◌, ℕ, zero, suc, ◌<◌, IfOk, List, [], ◌∷◌, ◌++◌, All, Some, None, Result, Ok, Err, refl, ap, sym, ◌∙◌, subst, arith}
 use Rattle.std.proofs.lemmas.List.Elements.{All-append}
 use Rattle.cell_cats.specs.Rule.{RuleValue}
@@ -20,12 +20,12 @@ use Rattle.rcell_script_commands.specs.declared.command.Command.TheVariants.{Rec
 use Rattle.rcell_script.specs.declared.statement.Statement.{Statement}
 use Rattle.rcell_script.specs.parts.Sound.{FitsBlock, known_after_all, IsSound}
 
--- the names after one more statement
+-- one more statement makes its name known
 known_after_all-more : (known : List (List ℕ)) (xs : List Statement) (s : Statement) → known_after_all known (xs ++ s ∷ []) ≡ known_after (known_after_all known xs) s.command
 known_after_all-more known [] s = refl
 known_after_all-more known (x ∷ xs) s = known_after_all-more (known_after known x.command) xs s
 
--- one more statement that fits
+-- one more statement fits after statements that fit
 Fits-more : (known : List (List ℕ)) (xs : List Statement) (s : Statement) → Fits known xs → FitsCommand (known_after_all known xs) s.command → Fits known (xs ++ s ∷ [])
 Fits-more known [] s fits command = (command, record {})
 Fits-more known (x ∷ xs) s fits command = (fits.0, Fits-more (known_after known x.command) xs s fits.1 command)
@@ -44,15 +44,15 @@ IsSound-statement first read line command h fits sound =
       numbered = All-append (λ (s : Statement). 0 < s.line) read.statements (s ∷ []) sound.numbered (numbered-one s h);
     }
 
--- nothing was read
+-- the start is sound
 pub IsSound-start : (known : List (List ℕ)) → IsSound known (start known)
 IsSound-start known = record { known = refl; fits = record {}; pending = record {}; numbered = λ i d h. absurd (omega arith) }
 
--- without the rules that are being read
+-- a sound reading stays sound when the open rules are dropped
 pub IsSound-closed : (first : List (List ℕ)) (read : Progress) → IsSound first read → IsSound first (record read { pending = None })
 IsSound-closed first read sound = record { known = sound.known; fits = sound.fits; pending = record {}; numbered = sound.numbered }
 
--- after a line outside the rules of r.reclass
+-- a sound reading stays sound after a line outside the rules of an r.reclass
 pub IsSound-head : (first : List (List ℕ)) (read more : Progress) (line : ℕ) (head : Head) → 0 < line → FitsHead read.known head → after_head line read (Ok head) ≡ Ok more → IsSound first read → IsSound first more
 IsSound-head first read more line Skipped h fits e sound = let same : read ≡ more = cc in subst (IsSound first) same sound
 IsSound-head first read more line (Whole command) h fits e sound =
@@ -63,7 +63,7 @@ IsSound-head first read more line (Opened place target) h fits e sound =
     let same : (record read { pending = Some block }) ≡ more = cc in
     subst (IsSound first) same (record { known = sound.known; fits = sound.fits; pending = (fits.1, (fits.0, h)); numbered = sound.numbered })
 
--- after a line among rules
+-- a sound reading stays sound after a line among rules
 pub IsSound-rule : (first : List (List ℕ)) (read more : Progress) (line : ℕ) (block : OpenReclass) (x : Result (LineKind × List RuleValue) ScriptKind) → FitsBlock read.known (Some block) → after_rule line read block x ≡ Ok more → IsSound first read → IsSound first more
 IsSound-rule first read more line block (Err kind) fits e sound = cc
 IsSound-rule first read more line block (Ok (line_kind.End, rules)) fits e sound =
@@ -76,7 +76,7 @@ IsSound-rule first read more line block (Ok (line_kind.Rule, rules)) fits e soun
     let same : (record read { pending = Some (record block { rules = rules }) }) ≡ more = cc in
     subst (IsSound first) same (record { known = sound.known; fits = sound.fits; pending = fits; numbered = sound.numbered })
 
--- a line among rules keeps what was kept
+-- a line among rules changes only the open rules
 pub IsSound-rules : (read : Progress) (line : ℕ) (block : OpenReclass) (x : Result (LineKind × List RuleValue) ScriptKind) (r : Result Progress ScriptFault) → read.pending ≡ Some block
     → ReadsLine (λ next. after_rule line (record read { pending = None }) block x ≡ next) r → IfOk r (λ more. (first : List (List ℕ)) → IsSound first read → IsSound first more)
 IsSound-rules read line block x (Err fault) pending e = record {}

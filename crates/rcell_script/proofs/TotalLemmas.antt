@@ -1,4 +1,4 @@
--- Each text is read to its end or to its first error, if each line has a reading.
+-- Each text is read to its end or to its first error, given that each line has a reading.
 use Rattle.std.proofs.Common.{ℕ, ◌+◌, List, [], ◌∷◌, Option, Some, None, Result, Ok, Err, refl}
 use Rattle.rcell_script_commands.specs.Commands.{IsHead}
 use Rattle.rcell_script_commands.specs.declared.script_fault.ScriptFault.{ScriptFault}
@@ -10,7 +10,7 @@ use Rattle.rcell_script.specs.declared.line_reading.OpenReclass.{OpenReclass}
 use Rattle.rcell_script.specs.declared.line_reading.Progress.{Progress}
 use Rattle.rcell_script.specs.declared.statement.Statement.{Statement}
 
--- each line outside the rules of r.reclass is something, over known maps
+-- each line outside the rules of an r.reclass has a reading, over any known maps
 abbrev pub EachLineIsHead : Type 0
 EachLineIsHead = (known : List (List ℕ)) (line : List ℕ) → (head : Result Head ScriptKind) × IsHead known line head
 
@@ -20,7 +20,7 @@ next_to heads None line read l =
     (after_head line read h.0, (h.0, h.1, refl))
 next_to heads (Some block) line read l = (after_rule line (record read { pending = None }) block (rule_line block.rules l), refl)
 
--- after a line come the others, whatever they come to
+-- if the later lines have a reading, so do a line and the later lines
 then_rest : (ls : List (List ℕ)) (l : List ℕ) (line : ℕ) (read : Progress) → ((more : Progress) → (r : Result (List Statement) ScriptFault) × IsScriptReading (line + 1) more ls r)
     → (next : Result Progress ScriptFault) → IsNext line read l next → (r : Result (List Statement) ScriptFault) × IsScriptReading line read (l ∷ ls) r
 then_rest ls l line read rest (Ok more) is =
