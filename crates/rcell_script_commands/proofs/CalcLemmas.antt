@@ -1,4 +1,4 @@
--- An assignment of a text has no other reading.
+-- The assignment of a text has only one reading.
 use Rattle.std.proofs.Common.{◌≡◌, ℕ, List, Result, Ok, Err, MatchResult, inl, inr, ap, sym, ◌∙◌}
 use Rattle.std.specs.Prelude.{IsOkAnd}
 use Rattle.cell_calc_language.specs.Assignment.{IsAssignment}
@@ -12,7 +12,7 @@ use Rattle.rcell_script_commands.specs.RMapcalc.{assignment_text}
 use Rattle.rcell_script_commands.specs.declared.script_fault.ScriptKind.{ScriptKind}
 use Rattle.rcell_script_commands.specs.declared.heads.Head.{Head}
 
--- a list of tokens stands for no second assignment
+-- a list of tokens stands for at most one assignment
 abbrev pub OneAssignment : Type 0
 OneAssignment = (ts : List Placed) (a b : Assignment) → IsAssignment ts a → IsAssignment ts b → a ≡ b
 
@@ -24,7 +24,7 @@ not_both : (t : Result (List Placed) CalcFault) (end : ℕ) (a : Assignment) (fa
 not_both (Ok ts) end a fault h (first, none) = none a h
 not_both (Err first) end a fault h o = h
 
--- an r.mapcalc that is read has no other reading
+-- an r.mapcalc without an error has only one reading
 pub one_mapcalc : OneAssignment → (known : List (List ℕ)) (line : List ℕ) (head : Head) (other : Result Head ScriptKind) → IsMapcalc known line (Ok head) → IsMapcalc known line other → other ≡ Ok head
 one_mapcalc one known line head other (inr (fault, is, memory, e)) o = cc
 one_mapcalc one known line head other (inl (a, is, e)) (inl (b, is', e')) =

@@ -1,4 +1,4 @@
--- What the line of an r.mapcalc comes to.
+-- The reading of the line of an r.mapcalc.
 use Rattle.std.proofs.Common.{◌≡◌, ◌≢◌, ℕ, ◌+◌, ◌≤◌, List, length, Option, Some, None, Result, Err, inl, inr, refl, ap, sym, subst, arith}
 use Rattle.std.specs.Option.{unwrap_or}
 use Rattle.cell_core_values.specs.Name.{place_of}
@@ -20,15 +20,15 @@ use Rattle.rcell_script_commands.specs.declared.script_fault.ScriptKind.{ScriptK
 use Rattle.rcell_script_commands.specs.declared.script_fault.ScriptKind.TheVariants.{Calc}
 use Rattle.rcell_script_commands.specs.declared.heads.Head.{Head}
 
--- the text is an assignment
+-- the text is an assignment, which gives the reading of the line
 pub assigned : (known : List (List ℕ)) (line text : List ℕ) (a : Assignment) (head : Result Head ScriptKind) → text ≡ assignment_text line → IsAssignmentText text a → mapcalc_of known a ≡ head → IsMapcalc known line head
 assigned known line text a head e is of = inl (a, subst (λ t. IsAssignmentText t a) e is, of)
 
--- the text is none
+-- the text has an error, which is the error of the line
 pub unassigned : (known : List (List ℕ)) (line text : List ℕ) (fault : CalcFault) → text ≡ assignment_text line → IsTextFault text fault → fault.kind ≢ calc.Memory → IsMapcalc known line (Err (Calc fault))
 unassigned known line text fault e is memory = inr (fault, subst (λ t. IsTextFault t fault) e is, memory, refl)
 
--- the error of a first unknown map
+-- the error of the first unknown map is the error of the line
 pub unbound : (known : List (List ℕ)) (a : Assignment) (fault : CalcFault) → IsBindingFault known a.expr fault → fault.kind ≢ calc.Memory → mapcalc_of known a ≡ Err (Calc fault)
 unbound known a fault (inl memory) other = absurd (other (ap (λ (f : CalcFault). f.kind) memory))
 unbound known a fault (inr (kind, unknown)) other = rw unknown (ap (λ k. Err (Calc (record { kind = k; column = fault.column }))) (sym kind))
@@ -42,7 +42,7 @@ placed-within names name c None p e = cc
 placed-within names name c (Some i) p e = omega (arith, place_of-within name names i p)
 
 mutual
-  -- no place is past the names
+  -- each place is within the list of names
   pub top-placed : (names : List (List ℕ)) (e : Term) → first_unknown names e ≡ None → top_of (with_places names e) ≤ length names
   top-placed names (Number n) h = omega arith
   top-placed names (Map m down right) h = placed-within names m.name m.column (place_of m.name names) refl h

@@ -20,7 +20,7 @@ pub names_from-fails : (xs : List (Bor (List ℕ))) (i : ℕ) (d : Bor (List ℕ
     → option_name (get_or xs i d).now ≡ Err fault → names_from (texts xs) ≡ Err fault
 names_from-fails xs i d fault h bad = search (rules, get_or, list_all-no)
 
--- what is read as a name is the name
+-- a text read as a name is that name
 pub option_name-is : (text name : List ℕ) → option_name text ≡ Ok name → (name ≡ text) × (is_name name ≡ true)
 option_name-is text name e = search rules
 

@@ -1,4 +1,4 @@
--- A text that a script gives for null is one for grid texts.
+-- A null text that a script accepts is a null text of grids.
 use Rattle.std.proofs.Common.{◌≡◌, ℕ, Bool, true, false, List, [], ◌∷◌, arith, refl, rules}
 use Rattle.std.specs.Prelude.{◌&&◌}
 use Rattle.std.specs.List.{list_all}
@@ -8,7 +8,7 @@ use Rattle.cell_ascii_meaning.specs.Header.{is_colon, has_colon}
 use Rattle.cell_ascii_meaning.specs.Writing.{IsNullText}
 use Rattle.rcell_script_commands.specs.NullText.{is_null_byte, is_null_text}
 
--- a character of a null text ends no word
+-- a character of a null text does not end a word
 is_word-null : (b : ℕ) → is_null_byte b ≡ true → is_word_byte b ≡ true
 is_word-null b e = grind (arith, nat_tests)
 
@@ -31,6 +31,6 @@ no_colons-null (b ∷ bs) e =
     let both = and_true (is_null_byte b) (list_all is_null_byte bs) e in
     rw (no_colon-null b both.0, no_colons-null bs both.1) refl
 
--- it has 1 to 64 characters, none of them a blank or a colon
+-- a null text has 1 to 64 characters, none of them a blank or a colon
 pub IsNullText-given : (bs : List ℕ) → is_null_text bs ≡ true → IsNullText bs
 IsNullText-given bs e = search (rules, and_true, nat_tests, words-null, no_colons-null)

@@ -1,4 +1,4 @@
--- The options that words spell together are those that are read of them one after another.
+-- The options that words spell together are the options read from the words one after another.
 use Rattle.std.proofs.lemmas.Grind.{common_steps}
 use Rattle.std.proofs.Common.{◌≡◌, ℕ, Bool, true, false, cond, List, [], ◌∷◌, map, length, All, Option, Some, None, Result, Ok, Err, refl, ap, sym, ◌∙◌, subst, rules, arith}
 use Rattle.std.specs.Prelude.{◌==◌, ◌&&◌, not, bytes_eq}
@@ -22,27 +22,27 @@ use Rattle.rcell_script_commands.proofs.OptionLemmas.{tag, value_for, setting_in
 
 -- ---- the keys of a command, by their texts
 
--- the text that asks for a key among these
+-- the text of a key in this list
 abbrev pub text_of : OptionKey → List (List ℕ × OptionKey) → Option (List ℕ)
 text_of key [] = None
 text_of key (k ∷ ks) = cond (tag key == tag k.1) (Some k.0) (text_of key ks)
 
--- none of these is the key of this number
+-- no key in this list has this number
 abbrev no_tag : ℕ → List (List ℕ × OptionKey) → Bool
 no_tag n [] = true
 no_tag n (k ∷ ks) = not (n == tag k.1) && no_tag n ks
 
--- none of these has this text
+-- no key in this list has this text
 abbrev no_text : List ℕ → List (List ℕ × OptionKey) → Bool
 no_text t [] = true
 no_text t (k ∷ ks) = not (bytes_eq t k.0) && no_text t ks
 
--- a text with a first letter that is not a dash
+-- a text whose first character is not a dash
 abbrev is_plain : List ℕ → Bool
 is_plain [] = false
 is_plain (b ∷ bs) = not (b == 45)
 
--- texts without a dash, and no key or text twice
+-- the texts do not begin with a dash, and no key or text occurs twice
 abbrev are_apart : List (List ℕ × OptionKey) → Bool
 are_apart [] = true
 are_apart (k ∷ ks) = is_plain k.0 && (no_tag (tag k.1) ks && (no_text k.0 ks && are_apart ks))
@@ -85,7 +85,7 @@ no_text-none (k ∷ ks) key t v h = by (λ rest. no_text-none ks key t v rest) (
     by others true false s e h = rw (s, e) refl
     by others false false s e h = rw s (others h)
 
--- the value for a key is the value that the pair gives to the key's text
+-- the value of a key is the value that the pair gives to the key's text
 pair-value : (ks : List (List ℕ × OptionKey)) (key : OptionKey) (t v : List ℕ) → are_apart ks ≡ true
     → value_for key (pair_setting ks t v) ≡ pair_value (text_of key ks) t v
 pair-value [] key t v h = refl
@@ -119,7 +119,7 @@ option_texts form = map (λ k. k.0) (option_keys form)
 abbrev setting_of : Form → Option (List ℕ × List ℕ) → Option (OptionKey × List ℕ)
 setting_of form pair = option_and_then (λ pair. option_map (λ key. (key, pair.1)) (option_key_of form pair.0)) pair
 
--- the value that a word gives to the key of a text, if there is one
+-- the value that a word gives to a key's text, if the key has a text
 abbrev slot_value : Option (List ℕ) → List ℕ → Option (List ℕ)
 slot_value None word = None
 slot_value (Some text) word = value_in text word
@@ -127,11 +127,11 @@ slot_value (Some text) word = value_in text word
 abbrev first_value : List ℕ → Option (List ℕ × List ℕ) → Option (List ℕ)
 first_value text pair = option_and_then (λ pair. cond (bytes_eq pair.0 text) (Some pair.1) None) pair
 
--- a word with a dash gives no value to a key without one
+-- a word that begins with a dash gives no value to a key
 dash-none : (text bs : List ℕ) → is_plain text ≡ true → value_in text (45 ∷ bs) ≡ None
 dash-none text bs plain = search rules
 
--- the text of a key has no dash
+-- the text of a key does not begin with a dash
 text-plain : (ks : List (List ℕ × OptionKey)) (key : OptionKey) (text : List ℕ) → are_apart ks ≡ true
     → text_of key ks ≡ Some text → is_plain text ≡ true
 text-plain [] key text h e = cc
@@ -148,7 +148,7 @@ text-plain (k ∷ ks) key text h e = by (λ apart f. text-plain ks key text apar
     by others true s f = let is : k.0 ≡ text = cc in ap is_plain (sym is) ∙ plain.0
     by others false s f = others rest f
 
--- what a word gives to a key
+-- the value that a word gives to a key is the value that it gives to the key's text
 word-value : (form : Form) (key : OptionKey) (o : Option (List ℕ)) → text_of key (option_keys form) ≡ o
     → (word : List ℕ)
     → value_for key (setting_in form word) ≡ slot_value o word
@@ -187,7 +187,7 @@ filter_map-none : (xs : List (List ℕ)) → filter_map nothing xs ≡ []
 filter_map-none [] = refl
 filter_map-none (x ∷ xs) = filter_map-none xs
 
--- the values that words give to the key of a text, if there is one
+-- the values that words give to a key's text, if the key has a text
 abbrev pub slot_values : Option (List ℕ) → List (List ℕ) → List (List ℕ)
 slot_values None words = []
 slot_values (Some text) words = values_of text words
@@ -249,14 +249,14 @@ spelled-names value names (same, good, few) = rw (same, le-ltb 16 (length names)
 separator-spelled : (value : List ℕ) (b : ℕ) → separated value ≡ Ok b → separator_in value ≡ Some b
 separator-spelled value b e = search rules
 
--- what is read for a key, as what its values spell
+-- the value read for a key is the value that its words spell
 to-slots : {X : Type 0} (form : Form) (key : OptionKey) (words : List (List ℕ)) (read : List ℕ → Result X OptionFault)
     (Spells : List ℕ → X → Type 0) → ((value : List ℕ) (x : X) → read value ≡ Ok x → Spells value x) → (new : Option X)
     → Extends read (key_values form key words) None new
     → IsOptional Spells (slots_of form key words) new
 to-slots form key words read Spells spells new e = search (rules, slots, to-optional)
 
--- what its values spell, as what is read for a key
+-- the value that the words of a key spell is the value read for it
 from-slots : {X : Type 0} (form : Form) (key : OptionKey) (words : List (List ℕ)) (read : List ℕ → Result X OptionFault)
     (Spells : List ℕ → X → Type 0) → ((value : List ℕ) (x : X) → Spells value x → read value ≡ Ok x) → (new : Option X)
     → IsOptional Spells (slots_of form key words) new
@@ -281,7 +281,7 @@ pub record AreOptions (form : Form) (words : List (List ℕ)) (given : Given) : 
   pub table_null_text : IsOptional (SpellsText is_table_null_text) (slots_of form TableNullText words) given.table_null_text
   pub after : IsOptional (λ value text. value ≡ text) (slots_of form After words) given.after
 
--- the options that words give, read one after another, are those that they spell together
+-- the options read from the words one after another are those that the words spell together
 pub options-sound : (form : Form) (words : List (List ℕ)) (given : Given) → options_of form words ≡ Ok given
     → AreOptions form words given
 options-sound form words given e =

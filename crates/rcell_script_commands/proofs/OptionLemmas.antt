@@ -1,4 +1,4 @@
--- The words after a command, one after another and all together.
+-- The options of the words after a command, read one after another and all together.
 use Rattle.std.proofs.Common.{◌≡◌, ℕ, suc, Bool, true, false, cond, List, [], ◌∷◌, ◌++◌, All, Option, Some, None, Result, Ok, Err, inl, inr, refl, ap, sym, ◌∙◌, subst, arith, rules}
 use Rattle.std.specs.Prelude.{◌⊎◌, ◌==◌, ◌||◌, is_some}
 use Rattle.std.specs.List.{flat_map, cons_option, filter_map}
@@ -20,7 +20,7 @@ use Rattle.rcell_script_commands.specs.declared.options.OptionKey.TheVariants.{I
 
 -- ---- words, by the keys of a command
 
--- the number of a key
+-- the number that stands for a key
 abbrev pub tag : OptionKey → ℕ
 tag Input = 0
 tag Inputs = 1
@@ -30,12 +30,12 @@ tag NullText = 4
 tag TableNullText = 5
 tag After = 6
 
--- the value of a setting, if it is one of this key
+-- the value of a setting, if the setting has this key
 abbrev pub value_for : OptionKey → Option (OptionKey × List ℕ) → Option (List ℕ)
 value_for key None = None
 value_for key (Some setting) = cond (tag key == tag setting.0) (Some setting.1) None
 
--- a key of the command and the value after its equals sign, in a word that begins with no dash
+-- the key of the command and the value after the equals sign, in a word that does not begin with a dash
 abbrev pub setting_in : Form → List ℕ → Option (OptionKey × List ℕ)
 setting_in form [] = None
 setting_in form (b ∷ bs) = cond (b == 45) None (option_and_then (λ pair. option_map (λ key. (key, pair.1)) (option_key_of form pair.0)) (pair_of (b ∷ bs)))
@@ -44,7 +44,7 @@ setting_in form (b ∷ bs) = cond (b == 45) None (option_and_then (λ pair. opti
 abbrev pub key_values : Form → OptionKey → List (List ℕ) → List (List ℕ)
 key_values form key words = filter_map (λ word. value_for key (setting_in form word)) words
 
--- a word is flags of the command, or a key of it with a value
+-- a word is flags of the command, or a key of the command with a value
 abbrev pub IsWord : Form → List ℕ → Type 0
 IsWord form word = (are_flags (flags_of form) (letters_in word) ≡ true) ⊎ (is_some (setting_in form word) ≡ true)
 
@@ -57,7 +57,7 @@ of_flags-same : (labels labels' counts counts' cells cells' no_null no_null' no_
     (record { labels = labels'; counts = counts'; cells = cells'; no_null = no_null'; no_all_null = no_all_null'; corners = corners' })
 of_flags-same labels labels' counts counts' cells cells' no_null no_null' no_all_null no_all_null' corners corners' a b c d e f = rw (a, b, c, d, e, f) refl
 
--- no letters
+-- no letters change no flags
 with_letters-none : (flags : Flags) → with_letters flags [] ≡ flags
 with_letters-none flags =
     of_flags-same _ _ _ _ _ _ _ _ _ _ _ _ (or-false flags.labels) (or-false flags.counts) (or-false flags.cells) (or-false flags.no_null) (or-false flags.no_all_null) (or-false flags.corners)
@@ -66,7 +66,7 @@ one_flag : (given : Bool) (a b : List ℕ) (flag : ℕ)
     → (given || is_one_of (a ++ b) flag) ≡ ((given || is_one_of a flag) || is_one_of b flag)
 one_flag given a b flag = ap (λ t. given || t) (list_any-append (λ letter. letter == flag) a b) ∙ sym (or_assoc given (is_one_of a flag) (is_one_of b flag))
 
--- letters, and others after them
+-- letters followed by further letters set the flags of both
 with_letters-append : (flags : Flags) (a b : List ℕ)
     → with_letters flags (a ++ b) ≡ with_letters (with_letters flags a) b
 with_letters-append flags a b =
@@ -83,7 +83,7 @@ kept value = Ok value
 
 -- ---- one key
 
--- after the values for a key, at most one, and none if the key was given before
+-- a key's value after some further values: at most one value, and none if the key already had one
 abbrev pub Extends : {X : Type 0} → (List ℕ → Result X OptionFault) → List (List ℕ) → Option X → Option X → Type 0
 Extends read [] old new = old ≡ new
 Extends read (value ∷ []) None None = ⊥
@@ -91,7 +91,7 @@ Extends read (value ∷ []) None (Some x) = read value ≡ Ok x
 Extends read (value ∷ []) (Some x) new = ⊥
 Extends read (value ∷ other ∷ values) old new = ⊥
 
--- after a word that may give a value
+-- a key's value after a word that may give one
 abbrev Steps : {X : Type 0} → (List ℕ → Result X OptionFault) → Option (List ℕ) → Option X → Option X → Type 0
 Steps read None old mid = old ≡ mid
 Steps read (Some value) None None = ⊥
@@ -108,7 +108,7 @@ joined read (Some value) (other ∷ []) None (Some x) new s e = absurd e
 joined read (Some value) (other ∷ more ∷ values) None (Some x) new s e = absurd e
 joined read (Some value) values (Some x) mid new s e = absurd s
 
--- a value for a key that is read, and those after it
+-- a value read for a key, with the values after it
 record First {X : Type 0} (read : List ℕ → Result X OptionFault) (value : List ℕ) (values : List (List ℕ)) (old new : Option X) : Type 0 where
   given : X
   none : old ≡ None
@@ -121,7 +121,7 @@ first read value [] None (Some x) e = record { given = x; none = refl; is = e; r
 first read value [] (Some x) new e = absurd e
 first read value (other ∷ values) old new e = absurd e
 
--- a value that is taken adds what it adds to the options that it makes
+-- a value that is accepted is added to the options
 taken : {X : Type 0} (read : List ℕ → Result X OptionFault) (value : List ℕ) (old : Option X) (with : X → Given) (mid : Given) (P : Given → Type 0)
     → given_once old (read value >>= (λ x. Ok (with x))) ≡ Ok mid → ((x : X) → Steps read (Some value) old (Some x) → P (with x)) → P mid
 taken read value (Some x) with mid P e adds = cc
@@ -141,7 +141,7 @@ take-value read value old with x none is = rw (none, is) refl
 abbrev setting_of : Form → Option (List ℕ × List ℕ) → Option (OptionKey × List ℕ)
 setting_of form pair = option_and_then (λ p. option_map (λ key. (key, p.1)) (option_key_of form p.0)) pair
 
--- what a word of these letters and this setting adds
+-- the options that a word adds by its letters and its setting
 record Adds (letters : List ℕ) (setting : Option (OptionKey × List ℕ)) (old mid : Given) : Type 0 where
   flags : with_letters old.flags letters ≡ mid.flags
   input : Steps option_name (value_for Input setting) old.input mid.input
@@ -169,7 +169,7 @@ value-sound given mid TableNullText value e =
 value-sound given mid After value e =
     taken kept value given.after (λ x. record given { after = Some x }) mid (Adds [] (Some (After, value)) given) e (λ x is. search (rules, with_letters-none))
 
--- a word that is read
+-- a word that is read, with the options before and after it
 abbrev IsRead : Form → List ℕ → Given → Given → Type 0
 IsRead form word given mid = IsWord form word × Adds (letters_in word) (setting_in form word) given mid
 
@@ -183,7 +183,7 @@ word-pair form given mid (Some p) e = by (option_key_of form p.0) refl e
     by None k f = cc
     by (Some key) k f = ((key, p.1), ap (option_map (λ key. (key, p.1))) k, value-sound given mid key p.1 f)
 
--- a word whose first byte is a dash or none
+-- a word that is read, given whether its first byte is a dash
 abbrev IsReadBy : Form → List ℕ → Given → Given → Bool → Option (OptionKey × List ℕ) → Type 0
 IsReadBy form bs given mid dash setting = ((are_flags (flags_of form) (cond dash bs []) ≡ true) ⊎ (is_some (cond dash None setting) ≡ true)) × Adds (cond dash bs []) (cond dash None setting) given mid
 
@@ -203,7 +203,7 @@ word-sound form given mid (b ∷ bs) e = by (b == 45) refl e
 
 -- ---- all words
 
--- what letters and values for keys make of options
+-- the options after some letters and some values of keys
 pub record Whole (letters : List ℕ) (values : OptionKey → List (List ℕ)) (old new : Given) : Type 0 where
   pub flags : with_letters old.flags letters ≡ new.flags
   pub input : Extends option_name (values Input) old.input new.input
@@ -214,7 +214,7 @@ pub record Whole (letters : List ℕ) (values : OptionKey → List (List ℕ)) (
   pub table_null_text : Extends table_null_text_of (values TableNullText) old.table_null_text new.table_null_text
   pub after : Extends kept (values After) old.after new.after
 
--- what words make of options
+-- the options after some words
 abbrev pub More : Form → List (List ℕ) → Given → Given → Type 0
 More form words old new = Whole (flat_map letters_in words) (λ key. key_values form key words) old new
 
@@ -248,7 +248,7 @@ words-sound form (word ∷ words) old new e = by (λ mid f. words-sound form wor
         let rest = others mid f in
         (All-cons (IsWord form) word words is.0 rest.0, one-more form word words old mid new is.1 rest.1)
 
--- a value for a key, and what the words after it make
+-- a value for a key, followed by the options of the words after it
 given-first : {X : Type 0} (read : List ℕ → Result X OptionFault) (value : List ℕ) (values : List (List ℕ)) (old new : Option X) (with : X → Given) (P : Given → Type 0)
     → Extends read (value ∷ values) old new → ((x : X) → Extends read values (Some x) new → P (with x))
     → (mid : Given) × (given_once old (read value >>= (λ x. Ok (with x))) ≡ Ok mid) × P mid
@@ -314,7 +314,7 @@ word-complete form letters values old new (b ∷ bs) is whole = by (b == 45) ref
     by false d (inl good) whole = cc
     by false d (inr some) whole = search (rules, pair-complete)
 
--- options of equal parts
+-- options, made of their parts
 abbrev of_fields : Flags → Option (List ℕ) → Option (List (List ℕ)) → Option (List ℕ) → Option ℕ → Option (List ℕ) → Option (List ℕ) → Option (List ℕ) → Given
 of_fields flags input inputs output separator null_text table_null_text after = record { flags = flags; input = input; inputs = inputs; output = output; separator = separator; null_text = null_text; table_null_text = table_null_text; after = after }
 
@@ -334,7 +334,7 @@ words-complete form (word ∷ words) old new each more =
     let rest = words-complete form words m.0 new (λ i d within. each (suc i) d (omega (arith, within))) m.2 in
     ap (λ r. r >>= (λ mid. with_words form mid words)) m.1 ∙ rest
 
--- words that are read without an error, and their options
+-- words that are read without an error give their options
 pub words-read : (form : Form) (words : List (List ℕ)) (given : Given) → options_of form words ≡ Ok given
     → All (IsWord form) words × More form words no_options given
 words-read form words given e = words-sound form words no_options given e

@@ -1,4 +1,4 @@
--- A line that says nothing, by its words and by its bytes.
+-- A line without content, in terms of its words and in terms of its bytes.
 use Rattle.std.proofs.Common.{◌≡◌, ℕ, Bool, true, false, List, [], ◌∷◌, refl, sym, ◌∙◌}
 use Rattle.std.specs.List.{filter, slice_split, onto_first}
 use Rattle.cell_cats.specs.RuleLine.{is_skipped}
@@ -18,7 +18,7 @@ first_word b (part ∷ parts) = refl
 first_kept : (b : ℕ) (bs : List ℕ) → is_blank b ≡ false → is_skipped (before_blanks (b ∷ bs)) ≡ is_comment (b ∷ [])
 first_kept b bs e = rw e refl
 
--- the first word begins with the first byte that is not a blank
+-- a line has no content exactly if its text without leading blanks is empty or a comment
 pub say_nothing-trimmed : (line : List ℕ) → say_nothing (words_of line) ≡ is_skipped (trimmed_text line)
 say_nothing-trimmed [] = refl
 say_nothing-trimmed (b ∷ bs) = by (is_blank b) refl (say_nothing-trimmed bs)

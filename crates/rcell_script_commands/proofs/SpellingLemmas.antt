@@ -1,4 +1,4 @@
--- What a line that is read without an error is, and what it spells.
+-- The reading of a line without an error, and what the line spells.
 use Rattle.std.proofs.Common.{◌≡◌, ℕ, ◌≤◌, Bool, true, false, cond, List, [], ◌∷◌, length, Option, Some, None, Result, Ok, Err, inl, inr, codes, refl, ap, sym, ◌∙◌, subst, rules}
 use Rattle.std.specs.Prelude.{◌⊎◌, ◌&&◌, ◌||◌, is_some, bytes_eq, unwrap_or}
 use Rattle.std.specs.Cmp.Lexicographic.{bytes_decides}
@@ -37,7 +37,7 @@ use Rattle.cell_stats_combinations.specs.declared.skip.Skip.{Skip}
 use Rattle.rcell_script_commands.proofs.OptionLaw.{AreOptions, options-sound, options-complete}
 use Rattle.rcell_script_commands.proofs.SkippedLemmas.{say_nothing, say_nothing-trimmed}
 
--- one of two, by a test
+-- a choice of two values equals one of them, depending on the test
 either : {A : Type 0} (b : Bool) (x y z : A) → cond b x y ≡ z → ((b ≡ true) × (x ≡ z)) ⊎ ((b ≡ false) × (y ≡ z))
 either true x y z e = inl (refl, e)
 either false x y z e = inr (refl, e)
@@ -51,7 +51,7 @@ named name text e = (bytes_decides name text).0 e
 abbrev flags_in : List (List ℕ) → Flags
 flags_in words = with_letters no_flags (flat_map letters_in words)
 
--- the maps of r.reclass and r.clump
+-- the source map and the target name of r.reclass and r.clump
 record Maker (known : List (List ℕ)) (given : Given) (place : ℕ) (target : List ℕ) : Type 0 where
   input : List ℕ
   input_is : given.input ≡ Some input
@@ -67,7 +67,7 @@ from_to-complete : (known : List (List ℕ)) (given : Given) (place : ℕ) (targ
     → Maker known given place target → from_to known given ≡ Ok (place, target)
 from_to-complete known given place target maps = rw (maps.input_is, maps.output_is, maps.read, maps.made) refl
 
--- what comes next of something that is good
+-- a step that follows a result without an error
 record Went {A B E : Type 0} (next : A → Result B E) (first : Result A E) (last : B) : Type 0 where
   value : A
   is : first ≡ Ok value
@@ -78,7 +78,7 @@ went : {A B E : Type 0} (next : A → Result B E) (first : Result A E) (last : B
 went next (Ok value) last e = record { value = value; is = refl; goes = e }
 went next (Err kind) last e = cc
 
--- what is good in a script
+-- a result without an error in a script is a result without an error
 in_script-ok : {A : Type 0} (r : Result A OptionFault) (x : A) → in_script r ≡ Ok x → r ≡ Ok x
 in_script-ok (Ok y) x e = let same : y ≡ x = cc in ap Ok same
 in_script-ok (Err fault) x e = cc
@@ -90,7 +90,7 @@ reclass-sound : (known : List (List ℕ)) (line : List ℕ) (words : List (List 
     → reclass_of known words ≡ Ok maps → SpellsReclass known line maps.0 maps.1
 reclass-sound known line words maps is e = search (rules, went, options-sound, from_to-sound, named, codes)
 
--- what r.reclass and r.clump give
+-- the options that r.reclass and r.clump accept
 abbrev maker_given : List (List ℕ) → List ℕ → List ℕ → Given
 maker_given words input target =
     record { flags = flags_in words; input = Some input; inputs = None; output = Some target; separator = None; null_text = None; table_null_text = None; after = None }
@@ -153,7 +153,7 @@ after-sound width values None None none e = none
 after-sound width values None (Some combination) none e = let f : None ≡ Some combination = cc in cc
 after-sound width values (Some text) after (value, is, same) e = search (rules, combinations-are-read)
 
--- no combination of no text
+-- without a text there is no combination
 after-none : (width : ℕ) (text : Option (List ℕ)) (after : Option Combination) → is_some text ≡ false
     → after_of width text ≡ Ok after → after ≡ None
 after-none width None None e f = refl
@@ -172,7 +172,7 @@ after-complete : (width : ℕ) (values : List (List ℕ)) (after : Option Combin
 after-complete width values None none = record { text = None; is = none; read = refl; none = λ e. refl }
 after-complete width values (Some combination) (value, is, spells) = record { text = Some value; is = (value, is, refl); read = rw ((combinations-are-read width value combination).1 spells) refl; none = λ e. cc }
 
--- flags that go together
+-- with the flag for cells, neither counts nor a combination is given
 torn-no : (cells counts some : Bool) → (cells && (counts || some)) ≡ false → cells ≡ true
     → (counts ≡ false) × (some ≡ false)
 torn-no true false false e c = (refl, refl)
@@ -185,7 +185,7 @@ no-torn : (cells counts some : Bool) → (cells ≡ true → (counts ≡ false) 
 no-torn false counts some h = refl
 no-torn true counts some h = let b = h refl in rw (b.0, b.1) refl
 
--- the inputs whose places are these
+-- the inputs at these places
 record Placed (known : List (List ℕ)) (given : Given) (places : List ℕ) : Type 0 where
   inputs : List (List ℕ)
   inputs_are : given.inputs ≡ Some inputs
@@ -272,7 +272,7 @@ stats-complete known line places options s =
 
 -- ---- r.out.ascii
 
--- the input whose place is this
+-- the input at this place
 record Found (known : List (List ℕ)) (given : Given) (place : ℕ) : Type 0 where
   input : List ℕ
   input_is : given.input ≡ Some input
@@ -313,7 +313,7 @@ out_ascii-complete known line place null_text s =
 
 -- ---- lines
 
--- what a line says by what it is
+-- the meaning of a line, by its kind
 abbrev pub Says : List (List ℕ) → List ℕ → Head → Type 0
 Says known line Skipped = IsSkipped line
 Says known line (Whole command) = SpellsCommand known line command
@@ -371,7 +371,7 @@ mapcalc-sound known line head [] is m h = cc
 mapcalc-sound known line head (w ∷ ws) is m (inr (fault, reported, other, e)) = cc
 mapcalc-sound known line head (w ∷ ws) is m (inl (a, assigned, e)) = search rules
 
--- a line that is read without an error says what was read
+-- a line that is read without an error means what was read
 pub head-says : (known : List (List ℕ)) (line : List ℕ) (head : Head) → IsHead known line (Ok head)
     → (length line ≤ 65535) × Says known line head
 head-says known line head h = search (rules, mapcalc-sound, words-sound, ltb-false)
@@ -391,7 +391,7 @@ nothing-head : (known : List (List ℕ)) (ws : List (List ℕ)) → say_nothing 
 nothing-head known [] e = refl
 nothing-head known (w ∷ ws) e = rw e refl
 
--- a line is read as what it says
+-- a line is read as what it means
 pub says-head : (known : List (List ℕ)) (line : List ℕ) (head : Head) → length line ≤ 65535 → Says known line head
     → IsHead known line (Ok head)
 says-head known line Skipped s says =

@@ -14,7 +14,7 @@ use Rattle.rcell_script_commands.specs.declared.script_fault.ScriptKind.TheVaria
 use Rattle.rcell_script_commands.proofs.FaultLemmas.{reported}
 use Rattle.rcell_script_commands.proofs.r_stats.stats_of.Goals as goal
 
--- maps that a table reads, and that are not named well
+-- an error in the names of a table's maps is the error of r.stats
 places_reported : (known words : List (List ℕ)) (given : Given) (fault : OptionFault) (kind : ScriptKind)
     → options_of form.Stats words ≡ Ok given → kind ≡ kind_of fault → kind ≢ script.Memory
     → (fault ≢ option.Memory → input_places known given ≡ Err fault) → stats_of known words ≡ Err kind
@@ -22,7 +22,7 @@ places_reported known words given fault kind options same other fails =
     rw options (ap (λ r. r >>= (λ places. after_of (length places) given.after >>= (λ after. Ok (Stats places (printed_with given after)))))
     (reported (input_places known given) fault kind same other fails))
 
--- a combination that is none
+-- an error in the combination of `after` is the error of r.stats
 after_reported : (known words : List (List ℕ)) (given : Given) (places : List ℕ) (width : ℕ) (after : Option (List ℕ))
     (kind : ScriptKind) → options_of form.Stats words ≡ Ok given → input_places known given ≡ Ok places
     → width ≡ length places → after ≡ given.after → after_of width after ≡ Err kind → stats_of known words ≡ Err kind
