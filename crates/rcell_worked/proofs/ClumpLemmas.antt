@@ -38,7 +38,7 @@ corner_paths =
     ∷ ((at 3 0 ∷ []) ∷ (at 1 1 ∷ at 1 2 ∷ at 2 3 ∷ at 3 2 ∷ at 3 1 ∷ [])
     ∷ (at 1 1 ∷ at 1 2 ∷ at 2 3 ∷ at 3 2 ∷ []) ∷ (at 1 1 ∷ at 1 2 ∷ at 2 3 ∷ at 3 3 ∷ []) ∷ []) ∷ []
 
--- the checker computes all tests of a numbering
+-- a map of four rows with four cells each has its rows and columns
 filled : (labels : Labels) (a b c d : List CellValue)
     → length a ≡ 4 → length b ≡ 4 → length c ≡ 4 → length d ≡ 4
     → IsFilled (square labels (a ∷ b ∷ c ∷ d ∷ [])).region (a ∷ b ∷ c ∷ d ∷ [])

@@ -57,7 +57,7 @@ earlier_decided p q =
     Decides-or (ltb p.row q.row) (eqb p.row q.row && ltb p.col q.col) (Decides-ltb p.row q.row)
     (Decides-and (eqb p.row q.row) (ltb p.col q.col) (Decides-eqb p.row q.row) (Decides-ltb p.col q.col))
 
--- a test of each number below n
+-- a test holds for each number below n
 abbrev pub all_below : (ℕ → Bool) → ℕ → Bool
 all_below f zero = true
 all_below f (suc n) = f n && all_below f n
@@ -66,7 +66,7 @@ below_at : (f : ℕ → Bool) (n : ℕ) → all_below f n ≡ true → (k : ℕ)
 below_at f n all =
     (Decides-below_and f (λ k. f k ≡ true) (all_below f) (λ k. (λ e. e, λ e. e)) refl (λ _. refl) n).0 all
 
--- a test of each cell that is not null
+-- a test holds for a cell unless the cell is null
 abbrev unless_null : Grid → (Position → Bool) → Position → Bool
 unless_null m f p = not (is_some (cell_at_position m p)) || f p
 
@@ -88,7 +88,7 @@ cell_tested m f filled all p v is =
 
 -- ---- a numbering
 
--- the number in a cell of numbers
+-- the number in a cell; 0 if there is none
 abbrev pub number_in : CellValue → ℕ
 number_in None = 0
 number_in (Some (pos n)) = n
@@ -274,7 +274,7 @@ module _ (j : Joining) (m numbers : Grid) (firsts : List Position) (path : Posit
       (λ apart. ⊎_elim (λ before. absurd (first.none_before (first_of p) before (first_joined p v.0 v.1)))
       (λ after. absurd ((numbered p v.0 v.1).later after)) apart) (cases_before (first_of p) p)
 
-  -- the first cell of each number is a first cell
+  -- the listed first cell of each number is a first cell
   next_is : (k : ℕ) → k < length firsts → IsFirst j m (first_at k)
   next_is k lt =
       let next = next_first k lt in

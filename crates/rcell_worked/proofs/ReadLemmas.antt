@@ -1,4 +1,4 @@
--- A script that is read line by line.
+-- Reading a script line by line.
 use Rattle.std.proofs.Common.{◌≡◌, ℕ, List, Ok, sym, subst}
 use Rattle.rcell_script.specs.Lines.{script_lines}
 use Rattle.rcell_script.specs.ReadScripts.{IsReadAs}
@@ -12,7 +12,7 @@ read_as : (known : List (List ℕ)) (text : List ℕ) (statements : List Stateme
 unfolding IsReadAs
 read_as known text statements read = read
 
--- a text of these lines, which are read as the statements, is a script of them
+-- a text whose lines are read as the statements is a script of these statements
 pub script_of : ReadingDenotes → (known : List (List ℕ)) (text : List ℕ) (lines : List (List ℕ))
     (statements : List Statement)
     → script_lines text ≡ lines → IsScriptReading 1 (start known) lines (Ok statements) → IsScript known text statements

@@ -1,4 +1,4 @@
--- What a request is read as determines its response.
+-- The meaning of a request determines its response.
 use Rattle.std.proofs.Common.{◌≡◌, ℕ, List, Ok, Err, Some, None, Option, refl, sym, subst, codes}
 use Rattle.std.specs.Prelude.{Result}
 use Rattle.rcell_pipe_request.specs.RequestFields.{FieldReading}
@@ -23,7 +23,7 @@ module _ (r : SentRequest) (back : IsReadBack (codes "RCELLQ1\n") (request_bytes
   read_is : run_request_of (source_of (request_bytes r)) ≡ Ok (meant r)
   read_is = rw (back.rest) refl
 
-  -- the response is the response to the maps, the script and the questions that are meant
+  -- the response to the maps, the script and the questions that the request means
   abbrev IsMeant : List ℕ → Option PipeError → Type 0
   IsMeant response error = IsResponse Frames (Ok (meant r)) response error
 

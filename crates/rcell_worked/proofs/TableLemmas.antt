@@ -35,7 +35,7 @@ pub counts_are : (cells : List Combination) → counts_of cells ≡ counted cell
 unfolding counts_of
 counts_are cells = entries_of (map (λ k. (k, count_of k cells)) cells)
 
--- r.stats writes these pairs
+-- r.stats prints these pairs
 pub prints : (shelf : ShelfValue) (places : List ℕ) (options : StatsOptions) (text rest : List ℕ)
     → options.cells ≡ false
     → text ≡ table_text (format_of options) shelf.maps places

@@ -21,7 +21,7 @@ use Rattle.bstr.specs.Text.{line_len, lines_from}
 use Rattle.rcell_worked.proofs.ReadLemmas.{script_of}
 use Rattle.rcell_worked.proofs.law.grids.Goals as goal
 
--- the map that the expression makes
+-- the region of the map that the expression makes, and that map
 abbrev region : RegionValue
 region = record { north = pos 100000000; south = pos 0; east = pos 150000000; west = pos 0; rows = 1; cols = 3 }
 

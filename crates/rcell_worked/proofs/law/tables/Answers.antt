@@ -22,7 +22,7 @@ abbrev groups : List RuleValue
 groups = record { listed = Some ((pos 1, pos 1) ∷ (pos 3, pos 3) ∷ []); output = To (class 7); label = codes "wood" }
     ∷ record { listed = None; output = To (class 8); label = [] } ∷ []
 
--- the labels of the new classes
+-- the labels of the new categories
 seven : finmap.get (labels_of groups) (pos 7) ≡ Some (codes "wood")
 seven = finmap.get-from_entries int_cmp_total ((pos 7, codes "wood") ∷ []) (pos 7)
 
