@@ -1,4 +1,4 @@
--- Words that come again and again.
+-- Cells whose bytes repeat.
 use Rattle.std.proofs.Common.{◌≡◌, ℕ, zero, suc, ◌+◌, ◌*◌, ◌≤◌, List, [], ◌∷◌, ◌++◌, length, take, drop, replicate, Ok, ap, sym, subst, ◌∙◌, arith, append_assoc, length-append, length-drop, length-take, mul-le-mul}
 use Rattle.std.proofs.lemmas.List.{drop-take, take-take, drop-drop, take-append-drop, drop-append-le, replicate_more, take_at, drop_at, length-replicate}
 use Rattle.cell_core_devices.specs.Device.{Coming}
@@ -9,14 +9,14 @@ use Rattle.cell_ascii_meaning.specs.CellTexts.{cell_from, at_of}
 use Rattle.cell_ascii.specs.BufferedCells.{HoldsCell, HoldsCells, HoldsFront, ComesAgain}
 use Rattle.cell_ascii.proofs.BufferedRowLemmas.{HoldsCells-more}
 
--- lists with the same first items have the same part of these
+-- lists whose first `all` items agree have equal parts within those items
 alike_part : (all i m : ℕ) (xs ys : List ℕ) → take all xs ≡ take all ys → i + m ≤ all → take m (drop i xs) ≡ take m (drop i ys)
 alike_part all i m xs ys e within =
     sym (drop-take i m xs)
     ∙ ap (drop i) (sym (take-take (i + m) all xs within) ∙ ap (take (i + m)) e ∙ take-take (i + m) all ys within)
     ∙ drop-take i m ys
 
--- bytes that are alike to those n before them are the first n again and again
+-- if bytes equal the bytes n places later, the first n bytes repeat
 pub comes_again : (bs : List ℕ) (n all times : ℕ) → take all (drop n bs) ≡ take all bs → times * n + 1 ≤ all → ComesAgain bs n times
 comes_again bs n all times e enough zero few = let none : 0 * n ≡ 0 = omega arith in ap (λ (k : ℕ). take (n + 1) (drop k bs)) none
 comes_again bs n all times e enough (suc i) few =
@@ -32,7 +32,7 @@ comes_again bs n all times e enough (suc i) few =
 pub fewer_again : (bs : List ℕ) (n times fewer : ℕ) → fewer ≤ times → ComesAgain bs n times → ComesAgain bs n fewer
 fewer_again bs n times fewer le again i few = again i (omega arith)
 
--- some bytes before others
+-- the two parts of a list, put before the coming bytes, are the full list before them
 joined : (m : ℕ) (bs : List ℕ) (c : Coming) → before_coming (take m bs) (before_coming (drop m bs) c) ≡ before_coming bs c
 joined m bs c = ap (λ (l : List ℕ). record { bytes = l; fails = c.fails }) (sym (append_assoc (take m bs) (drop m bs) c.bytes) ∙ ap (λ (l : List ℕ). l ++ c.bytes) (take-append-drop m bs))
 
@@ -42,7 +42,7 @@ joined-rest n m bs c within =
     (sym (append_assoc (drop n (take m bs)) (drop m bs) c.bytes)
     ∙ ap (λ (l : List ℕ). l ++ c.bytes) (sym (drop-append-le n (take m bs) (drop m bs) within) ∙ ap (drop n) (take-append-drop m bs)))
 
--- a cell is held if the first bytes hold it
+-- a list holds a cell if its first bytes hold the cell
 pub front_holds : (h : HeaderValue) (bs : List ℕ) (v : CellValue) (n : ℕ) → n ≤ length bs → HoldsFront h bs v n → HoldsCell h bs v n
 front_holds h bs v n within front = λ line run room c.
     let m = n + 1 in
@@ -51,7 +51,7 @@ front_holds h bs v n within front = λ line run room c.
     ∙ front line run room (before_coming (drop m bs) c)
     ∙ ap (λ (d : Coming). Ok (v, at_of line 0 d)) (joined-rest n m bs c inside)
 
--- and so it is where it comes again
+-- a cell is held at each place where its bytes repeat
 pub again_holds : (h : HeaderValue) (bs : List ℕ) (v : CellValue) (n times : ℕ) → n + times * n ≤ length bs → HoldsFront h bs v n → ComesAgain bs n times
     → (i : ℕ) → i ≤ times → HoldsCell h (drop (i * n) bs) v n
 again_holds h bs v n times within front again i few =
@@ -60,7 +60,7 @@ again_holds h bs v n times within front again i few =
     front_holds h (drop (i * n) bs) v n inside (subst (λ (l : List ℕ). HoldsCell h l v n) (sym (again i few)) front)
 
 module _ (h : HeaderValue) (bs : List ℕ) where
-  -- the same cell, repeated times more times
+  -- held cells may be followed by a cell and `times` repeats of the cell
   many_times : (cells : List CellValue) (count m : ℕ) (v : CellValue) (n times : ℕ) → HoldsCells h bs cells count m
       → ((i : ℕ) → i ≤ times → HoldsCell h (drop (i * n) (drop m bs)) v n)
       → HoldsCells h bs (cells ++ replicate (1 + times) v) (count + (1 + times)) (m + (n + times * n))
@@ -88,7 +88,7 @@ module _ (h : HeaderValue) (bs : List ℕ) where
       → HoldsCells h bs (cells ++ replicate (1 + times) v) (count + (1 + times)) (m + (n + times * n))
   HoldsCells-again cells count m v n times within buffered front again = many_times cells count m v n times buffered (again_holds h (drop m bs) v n times within front again)
 
--- a row whose cells from a place on were written over
+-- a row in which k cells from index i on are overwritten with v
 module _ (i k : ℕ) (row old : List CellValue) (v : CellValue) (within : i + k ≤ length row) where
   abbrev written : List CellValue
   written = take i row ++ replicate k v ++ drop (i + k) row

@@ -13,7 +13,7 @@ use Rattle.cell_ascii.specs.TableWords.{blanks, feeds, cleared_front, kept_bytes
 use lib.Count.{count_trailing_zeros}
 use lib.Lanes.{mask_l, number_l, digits_l}
 
--- how many of the first lanes are false
+-- the number of leading false lanes
 abbrev pub unset : List Bool → ℕ
 unset ms = prefix_len (λ m. not m) ms
 
@@ -22,7 +22,7 @@ some_set [] some = absurd (omega arith)
 some_set (true ∷ ms) some = omega arith
 some_set (false ∷ ms) some = let rest : 0 < mask_l ms = omega arith in omega (arith, some_set ms rest)
 
--- the lowest bit that is set, taken away
+-- and-ing a mask with the mask minus 1 clears its lowest set bit
 without_lowest : (ms : List Bool) → 0 < mask_l ms → bit_and (mask_l ms) (mask_l ms - 1) ≡ mask_l (cleared_front (unset ms + 1) ms)
 without_lowest [] some = absurd (omega arith)
 without_lowest (true ∷ ms) some =
@@ -61,7 +61,7 @@ record NextBlank (xs : List ℕ) (at k : ℕ) : Type 0 where
   pub word : list_all is_word_byte (take (k - at) (drop at xs)) ≡ true
   pub blank : is_space (get_or xs k 0) ≡ true
 
--- the next blank, from a place on
+-- the first set lane from index `at` on is the next blank
 next_blank : (xs : List ℕ) (at : ℕ) → unset (cleared_front at (map is_space xs)) < length xs → NextBlank xs at (unset (cleared_front at (map is_space xs)))
 next_blank [] zero l = absurd (omega arith)
 next_blank [] (suc at) l = absurd (omega arith)
@@ -108,14 +108,14 @@ module _ (bs : List ℕ) (buffered : 64 ≤ length bs) (at : ℕ) where
   inside : 0 < ends → unset (cleared_front at (blanks bs)) < 64
   inside some = omega (arith, some_set (cleared_front at (blanks bs)) some, size)
 
-  -- the lowest bit is the next blank, from the place on
+  -- the lowest set bit is the next blank from the place on
   blank_ahead : 0 < ends → (count_trailing_zeros 64 ends < 64) × NextBlank (take 64 bs) at (count_trailing_zeros 64 ends)
   blank_ahead some =
       let k = unset (cleared_front at (blanks bs)) in
       let within : k < length (take 64 bs) = omega (arith, inside some, wide) in
       rw (lowest some) (inside some, next_blank (take 64 bs) at within)
 
-  -- and the other bits are the blanks after it
+  -- the other set bits are the blanks after the next blank
   next_ends : 0 < ends → bit_and ends (ends - 1) ≡ mask_l (cleared_front (count_trailing_zeros 64 ends + 1) (blanks bs))
   next_ends some =
       let k = unset (cleared_front at (blanks bs)) in
@@ -125,7 +125,7 @@ module _ (bs : List ℕ) (buffered : 64 ≤ length bs) (at : ℕ) where
       ∙ ap mask_l (cleared-cleared (k + 1) at (blanks bs) le)
       ∙ ap (λ (n : ℕ). mask_l (cleared_front (n + 1) (blanks bs))) (sym (lowest some))
 
--- the next byte that ends a word, from a place on, by the bits of those from there on
+-- the lowest set bit of `ends` is the first byte from `at` on that ends a word
 pub record NextEnd (bs : List ℕ) (at ends : ℕ) : Type 0 where
   pub behind : at ≤ count_trailing_zeros 64 ends
   pub few : count_trailing_zeros 64 ends < 64
@@ -152,13 +152,13 @@ next_end bs at e buffered some is =
       next = next_ends bs buffered at set;
     })
 
--- the number of line feeds before a place
+-- the line feeds among the first n bytes are the set bits below n
 pub feeds_before : (n : ℕ) (bs : List ℕ) → n ≤ 64 → count_ones (mask_l (feeds bs) % 2 ^ n) ≡ newlines (take n bs)
 feeds_before n bs few =
     ap count_ones (mask-take n (feeds bs) ∙ ap mask_l (take-map is_line_feed n (take 64 bs) ∙ ap (map is_line_feed) (take-take n 64 bs few)))
     ∙ ones-mask_l is_line_feed (take n bs)
 
--- a number kept at the upper end
+-- a number shifted to the upper end keeps its first `size` bytes
 pub kept : (bytes : List ℕ) (size : ℕ) → 0 < size → size ≤ 8 → 8 ≤ length bytes → ((k : ℕ) → get_or bytes k 0 < 256)
     → kept_bytes (number_l 256 (take 8 bytes) % 18446744073709551616 * 2 ^ (64 - 8 * size) % 18446744073709551616) size ≡ take size bytes
 kept bytes size some few buffered below =

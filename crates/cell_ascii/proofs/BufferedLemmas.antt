@@ -1,4 +1,4 @@
--- Cells whose bytes are held.
+-- Cells whose bytes are in the buffer.
 use Rattle.std.proofs.Common.{◌≡◌, ℕ, pos, suc, ◌+◌, ◌-◌, ◌*◌, ◌^◌, ◌<◌, ◌≤◌, List, [], ◌∷◌, ◌++◌, Some, Bool, true, false, drop, take, zero, length, length-take, drop-cons, add-one, refl, ap, sym, ◌∙◌, arith, append-nil, append_assoc, length-append, Ok, not}
 use Rattle.std.specs.Prelude.{◌==◌, ◌&&◌, neg_ℤ, slice_index_or}
 use Rattle.std.specs.List.{list_all}
@@ -26,7 +26,7 @@ no_space b e = by (is_space b) e
     by true e = cc
     by false e = refl
 
--- a word that ends, whatever part of it was read before
+-- a buffered word is read up to the blank that ends it, after any part read before
 pub word_ahead : (line : ℕ) (front word : List ℕ) (e : ℕ) (bs : List ℕ) (f : Bool) → list_all is_word_byte word ≡ true → length front + length word ≤ 64 → is_space e ≡ true
     → word_from line front (record { bytes = word ++ e ∷ bs; fails = f }) ≡ Ok (front ++ word, record { bytes = e ∷ bs; fails = f })
 word_ahead line front [] e bs f w short space =
@@ -40,7 +40,7 @@ word_ahead line front (b ∷ word) e bs f w short space =
     ∙ word_ahead line (front ++ b ∷ []) word e bs f parts.1 longer space
     ∙ ap (λ (x : List ℕ). Ok (x, record { bytes = e ∷ bs; fails = f })) (append_assoc front (b ∷ []) word)
 
--- a word after a space
+-- a word after a space is read as the next cell
 reads_word : (h : HeaderValue) (a : ℕ) (word : List ℕ) (e : ℕ) (bs : List ℕ) (f : Bool) (v : CellValue)
     → list_all is_word_byte (a ∷ word) ≡ true → length word < 64 → is_space e ≡ true → cell_of_word h (a ∷ word) ≡ Ok v
     → (line run : ℕ) → run < 1048576
@@ -77,11 +77,11 @@ digits_number b bs e =
     let parts = both (is_digit b) (list_all is_digit bs) e in
     rw (no_minus b parts.0, no_plus b parts.0, e) refl
 
--- a list, cut at a place
+-- a list is the items before a place, the item there and the items after it
 cut_at : (xs : List ℕ) (i : ℕ) → i < length xs → xs ≡ take i xs ++ slice_index_or xs i 0 ∷ drop (i + 1) xs
 cut_at xs i l = let e : drop i xs ≡ slice_index_or xs i 0 ∷ drop (i + 1) xs = rw add-one (drop-cons xs i 0 l) in sym (take-append-drop i xs) ∙ ap (λ (ys : List ℕ). take i xs ++ ys) e
 
--- a word after a space, up to a place
+-- a word after a space is held as a cell, up to the end of a list
 holds_whole : (bs rest : List ℕ) (n : ℕ) → bs ≡ 32 ∷ rest → 0 < n → n ≤ 64 → n < length rest → list_all is_word_byte (take n rest) ≡ true → is_space (slice_index_or rest n 0) ≡ true
     → (h : HeaderValue) (v : CellValue) → cell_of_word h (buffered_word bs (n + 1)) ≡ Ok v → HoldsCell h bs v (n + 1)
 holds_whole bs [] n e some most l word space = absurd (omega arith)
@@ -98,7 +98,7 @@ holds_whole bs (a ∷ rest) (suc n) e some most l word space = λ h v cell line 
     let same : cell_of_word h (a ∷ take n rest) ≡ Ok v = rw (e, minus) at cell in
     rw (e, count, whole, left) (reads_word h a (take n rest) byte more c.fails v word short space same line run room)
 
--- the same, whatever comes after the byte that ends it
+-- a word after a space is held as a cell, whatever bytes follow the blank that ends it
 pub holds_word : (bs rest : List ℕ) (n : ℕ) → bs ≡ 32 ∷ rest → 0 < n → n ≤ 64 → n < length rest → list_all is_word_byte (take n rest) ≡ true → is_space (slice_index_or rest n 0) ≡ true → HoldsWord bs (n + 1)
 holds_word bs rest n e some most l word space = λ h v cell.
     let front = take (n + 1) rest in
@@ -114,11 +114,11 @@ holds_word bs rest n e some most l word space = λ h v cell.
     let same : buffered_word (take (n + 1 + 1) bs) (n + 1) ≡ buffered_word bs (n + 1) = ap after cut ∙ ap (λ (k : ℕ). take k front) minus ∙ same_word ∙ sym (ap (λ (k : ℕ). take k rest) minus) ∙ sym (ap after e) in
     holds_whole (take (n + 1 + 1) bs) front n cut some most within (ap (list_all is_word_byte) same_word ∙ word) (ap is_space same_byte ∙ space) h v (ap (cell_of_word h) same ∙ cell)
 
--- digits after a space
+-- digits after a space are a word
 pub holds_positive : (bs rest : List ℕ) (value n : ℕ) → bs ≡ 32 ∷ rest → IsNumeral rest value n → HoldsWord bs (n + 1)
 holds_positive bs rest value n e is = holds_word bs rest n e is.some (omega (arith, is.few)) is.within (digits_word (take n rest) is.digits) is.ends
 
--- digits after a space and a minus
+-- a minus and digits after a space are a word
 pub holds_negative : (bs rest : List ℕ) (value n : ℕ) → bs ≡ 32 ∷ 45 ∷ rest → IsNumeral rest value n → HoldsWord bs (n + 2)
 holds_negative bs rest value n e is =
     let next : n + 1 ≡ suc n = omega arith in
@@ -133,7 +133,7 @@ some_digits rest value zero is = absurd (let some = is.some in omega arith)
 some_digits [] value (suc n) is = absurd (let within = is.within in omega arith)
 some_digits (b ∷ rest) value (suc n) is = rw (is.digits, ← is.sum) refl
 
--- the number of digits
+-- digits after a space denote the value of the digits
 pub positive : (bs rest : List ℕ) (value n : ℕ) → bs ≡ 32 ∷ rest → IsNumeral rest value n → whole_number (buffered_word bs (n + 1)) ≡ Some (pos value)
 positive bs rest value zero e is = absurd (let some = is.some in omega arith)
 positive bs [] value (suc n) e is = absurd (let within = is.within in omega arith)
@@ -141,7 +141,7 @@ positive bs (b ∷ rest) value (suc n) e is =
     let count : suc n + 1 - 1 ≡ suc n = omega arith in
     rw (e, count) (digits_number b (take n rest) is.digits ∙ ap (λ (m : ℕ). Some (pos m)) (sym is.sum))
 
--- and the number of digits after a minus
+-- digits after a space and a minus denote the negated value of the digits
 pub negative : (bs rest : List ℕ) (value n : ℕ) → bs ≡ 32 ∷ 45 ∷ rest → IsNumeral rest value n → whole_number (buffered_word bs (n + 2)) ≡ Some (neg_ℤ (pos value))
 negative bs rest value n e is =
     let count : n + 2 - 1 ≡ suc n = omega arith in
@@ -156,35 +156,35 @@ all_two a b e f = rw (e, f) refl
 all_three : (a b c : ℕ) → is_digit a ≡ true → is_digit b ≡ true → is_digit c ≡ true → list_all is_digit (a ∷ b ∷ c ∷ []) ≡ true
 all_three a b c e f g = rw (e, f, g) refl
 
--- one digit
+-- one digit and a space are a numeral
 pub short_one : (a b : ℕ) (bs : List ℕ) → is_digit a ≡ true → is_space b ≡ true → IsNumeral (a ∷ b ∷ bs) (a - 48) 1
 short_one a b bs da eb =
     record { some = omega arith; few = omega arith; within = omega arith; digits = all_one a da; sum = omega arith; ends = eb }
 
--- two digits
+-- two digits and a space are a numeral
 pub short_two : (a b c : ℕ) (bs : List ℕ) → is_digit a ≡ true → is_digit b ≡ true → is_space c ≡ true
     → IsNumeral (a ∷ b ∷ c ∷ bs) ((a - 48) * 10 + (b - 48)) 2
 short_two a b c bs da db ec =
     record { some = omega arith; few = omega arith; within = omega arith; digits = all_two a b da db; sum = omega arith; ends = ec }
 
--- three digits
+-- three digits and a space are a numeral
 pub short_three : (a b c d : ℕ) (bs : List ℕ) → is_digit a ≡ true → is_digit b ≡ true → is_digit c ≡ true → is_space d ≡ true
     → IsNumeral (a ∷ b ∷ c ∷ d ∷ bs) (((a - 48) * 10 + (b - 48)) * 10 + (c - 48)) 3
 short_three a b c d bs da db dc ed =
     record { some = omega arith; few = omega arith; within = omega arith; digits = all_three a b c da db dc; sum = omega arith; ends = ed }
 
--- at most eight digits
+-- at most eight digits have a value below 100,000,000
 pub few_below : (bs : List ℕ) → list_all is_digit bs ≡ true → length bs ≤ 8 → value_of_digits bs < 100000000
 few_below bs e l = let more : 10 ^ length bs ≤ 10 ^ 8 = pow-le-pow_right (omega arith) l in omega (arith, value_below bs e, more)
 
--- the value of a numeral
+-- the value of a numeral is below 2^63
 pub numeral_below : (bs : List ℕ) (value n : ℕ) → IsNumeral bs value n → value < 2 ^ 63
 numeral_below bs value n is =
     let most : length (take n bs) ≤ 9 = omega (arith, length-take n bs, is.few) in
     let more : 10 ^ length (take n bs) ≤ 10 ^ 9 = pow-le-pow_right (omega arith) most in
     omega (arith, value_below (take n bs) is.digits, is.sum, more)
 
--- the first byte, and the others
+-- a list is its first byte and the other bytes
 pub first_rest : (bs : List ℕ) (b : ℕ) → 1 ≤ length bs → slice_index_or bs 0 0 ≡ b → bs ≡ b ∷ take (length bs - 1) (drop 1 bs)
 first_rest [] b l s = absurd (omega arith)
 first_rest (x ∷ xs) b l s =
@@ -194,7 +194,7 @@ first_rest (x ∷ xs) b l s =
 pub digit_last : (b : ℕ) → is_digit b ≡ true → b ≤ 57
 digit_last b e = grind (arith, nat_tests)
 
--- a space and four bytes, and the others
+-- bytes that begin with a space are the space, four more bytes and the rest
 pub front_space : (bs : List ℕ) → 6 ≤ length bs → slice_index_or bs 0 0 ≡ 32
     → bs ≡ 32 ∷ slice_index_or bs 1 0 ∷ slice_index_or bs 2 0 ∷ slice_index_or bs 3 0 ∷ slice_index_or bs 4 0 ∷ drop 5 bs
 front_space [] l e = absurd (omega arith)
@@ -204,7 +204,7 @@ front_space (x ∷ a ∷ b ∷ []) l e = absurd (omega arith)
 front_space (x ∷ a ∷ b ∷ c ∷ []) l e = absurd (omega arith)
 front_space (x ∷ a ∷ b ∷ c ∷ d ∷ bs) l e = ap (λ (y : ℕ). y ∷ a ∷ b ∷ c ∷ d ∷ bs) e
 
--- a space, a minus and four bytes, and the others
+-- bytes that begin with a space and a minus are the two, four more bytes and the rest
 pub front_minus : (bs : List ℕ) → 6 ≤ length bs → slice_index_or bs 0 0 ≡ 32 → slice_index_or bs 1 0 ≡ 45
     → bs ≡ 32 ∷ 45 ∷ slice_index_or bs 2 0 ∷ slice_index_or bs 3 0 ∷ slice_index_or bs 4 0 ∷ slice_index_or bs 5 0 ∷ drop 6 bs
 front_minus [] l e m = absurd (omega arith)

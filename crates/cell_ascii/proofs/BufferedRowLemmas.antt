@@ -1,4 +1,4 @@
--- Cells that are held one after another.
+-- Cells that are buffered one after another.
 use Rattle.std.proofs.Common.{◌≡◌, ℕ, zero, suc, ◌+◌, ◌-◌, ◌<◌, ◌≤◌, List, [], ◌∷◌, ◌++◌, length, take, drop, Ok, refl, ap, sym, ◌∙◌, arith, append-nil, length-append, length-drop, length-take, take_all}
 use Rattle.std.proofs.Math.Seq.{take-append-add, drop-append-add}
 use Rattle.std.proofs.lemmas.List.{drop_all, drop-append-le, drop-drop, take-append-drop, take-append-le, take_at}
@@ -17,7 +17,7 @@ run-none : (run count : ℕ) → run_after run (count + 1) ≡ 0
 run-none run count = let e : count + 1 ≡ suc count = omega arith in ap (run_after run) e
 
 module _ (h : HeaderValue) (bs : List ℕ) where
-  -- one more
+  -- held cells may be followed by one more cell
   pub HoldsCells-more : (cells : List CellValue) (count n : ℕ) (v : CellValue) (m : ℕ) → HoldsCells h bs cells count n → HoldsCell h (drop n bs) v m
       → HoldsCells h bs (cells ++ v ∷ []) (count + 1) (n + m)
   HoldsCells-more cells count n v m buffered next = λ line run below c.
@@ -27,11 +27,11 @@ module _ (h : HeaderValue) (bs : List ℕ) where
       ∙ ap (λ (k : ℕ). Ok (cells ++ v ∷ [], at_of line k (before_coming (drop m (drop n bs)) c))) (sym (run-none run count))
       ∙ ap (λ (rest : List ℕ). Ok (cells ++ v ∷ [], at_of line (run_after run (count + 1)) (before_coming rest c))) (drop-drop m n bs)
 
--- a row whose last cells were lent
+-- a row whose cells from index i on are lent and returned as `part`
 abbrev pub filled : ℕ → List CellValue → List CellValue → List CellValue
 filled i row part = take i row ++ (part ++ drop (length row - i) (drop i row))
 
--- more of its cells were read, and the others are as they were
+-- k more cells of the lent part are read, and the others are unchanged
 module _ (i k : ℕ) (row part old : List CellValue) (within : i ≤ length row) (size : length part ≡ length row - i) (few : k ≤ length row - i) where
   abbrev after : List CellValue
   after = drop (length row - i) (drop i row)
@@ -45,7 +45,7 @@ module _ (i k : ℕ) (row part old : List CellValue) (within : i ≤ length row)
       ∙ take-append-add (take i row) (part ++ after) k
       ∙ ap (λ (l : List CellValue). take i row ++ l) (take-append-le k part after (omega (arith, size)))
 
-  -- and those before it
+  -- the cells before the lent part are unchanged
   pub part-none : take i (filled i row part) ≡ take i row
   part-none = ap (λ (n : ℕ). take n (take i row ++ (part ++ after))) (sym length-front) ∙ take_at (take i row) (part ++ after) (length (take i row)) refl
 
@@ -68,7 +68,7 @@ module _ (i k : ℕ) (row part old : List CellValue) (within : i ≤ length row)
       ∙ ap (λ (l : List CellValue). length (take i row ++ l)) (append-nil part)
       ∙ omega (arith, length-append (take i row) part, length-front, size)
 
--- if the start of a row was lent, the cells after those that were read stay
+-- if the start of a row is lent, the cells after those that were read are unchanged
 pub lent_rest : (k end : ℕ) (part row : List CellValue) → k ≤ length (take end row) → length part ≡ length (take end row) → drop k part ≡ drop k (take end row)
     → drop k (part ++ drop end row) ≡ drop k row
 lent_rest k end part row few size rest =

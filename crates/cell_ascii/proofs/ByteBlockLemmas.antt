@@ -1,4 +1,4 @@
--- The cells of the short words of a block.
+-- The cells of a block of short words.
 use Rattle.std.proofs.Common.{◌≡◌, ℕ, zero, suc, ◌+◌, ◌-◌, ◌*◌, ◌^◌, ◌<◌, ◌≤◌, w64, eqb, leb, cond, Bool, true, false, not, pos, List, [], ◌∷◌, ◌++◌, Some, None, Ok, map, length, take, drop, get_or, refl, sym, ap, ap₂, ◌∙◌, arith, subst, length-take, length-drop}
 use Rattle.std.specs.Prelude.{◌&&◌, bytes_eq}
 use Rattle.std.specs.List.{list_all}
@@ -35,13 +35,13 @@ apart : (b : Bool) → b ≡ true → b ≡ false → ⊥
 apart true e f = cc
 apart false e f = cc
 
--- no word of digits is a null text with another byte
+-- a word of digits differs from a null text that contains another byte
 not_null : (null word : List ℕ) → list_all is_digit null ≡ false → list_all is_digit word ≡ true
     → bytes_eq word null ≡ false
 not_null null word other digits =
     bytes_eq-differ word null (λ same. apart (list_all is_digit null) (ap (list_all is_digit) (sym same) ∙ digits) other)
 
--- a number
+-- a word of digits below 100,000,000 is the cell of its value
 pub digits_word : (h : HeaderValue) → HasPlainNumbers h → (b : ℕ) (word : List ℕ) (v : ℕ)
     → list_all is_digit (b ∷ word) ≡ true → v ≡ value_of_digits (b ∷ word) → v < 100000000 → cell_of_word h (b ∷ word) ≡ Ok (Some (pos v))
 digits_word h plain b word v digits is small =
@@ -51,7 +51,7 @@ digits_word h plain b word v digits is small =
     let one : v * 1 ≡ v = omega arith in
     rw (other, plain.multiplier, number, in_range v small, one, in_range v small) refl
 
--- a number that a byte stands for
+-- a word of digits with a value below 255 is the cell that the value stands for as a byte
 pub number_word : (h : HeaderValue) → HasPlainNumbers h → (b : ℕ) (word : List ℕ) (v : ℕ)
     → list_all is_digit (b ∷ word) ≡ true → v ≡ value_of_digits (b ∷ word) → v < 255
     → cell_of_word h (b ∷ word) ≡ Ok (byte_cell v)
@@ -68,7 +68,7 @@ digit_no_star b e = grind (arith, nat_tests)
 
 -- ---- what is known of the bytes of a block
 
--- words are stars and numbers of at most three digits, and a blank comes first
+-- the words of a block are stars and numbers of at most three digits, and the block begins with a blank
 pub record IsShortBlock (bs : List ℕ) : Type 0 where
   pub first : is_space (get_or bs 0 0) ≡ true
   pub known : (i : ℕ) → i < 64 → is_space (get_or bs i 0) ≡ false → is_digit (get_or bs i 0) ≡ false → is_null_star (get_or bs i 0) ≡ true
@@ -76,19 +76,19 @@ pub record IsShortBlock (bs : List ℕ) : Type 0 where
   pub behind : (i : ℕ) → i + 1 < 64 → is_null_star (get_or bs i 0) ≡ true → is_space (get_or bs (i + 1) 0) ≡ true
   pub few : (i : ℕ) → i + 3 < 64 → is_space (get_or bs i 0) ≡ false → is_space (get_or bs (i + 1) 0) ≡ false → is_space (get_or bs (i + 2) 0) ≡ false → is_space (get_or bs (i + 3) 0) ≡ true
 
--- the bytes of cells at the last bytes of words
+-- the byte of each cell is at the last byte of the cell's word
 pub record AreCellBytes (bs vs : List ℕ) : Type 0 where
   pub stars : (p : ℕ) → p < 64 → is_null_star (get_or bs p 0) ≡ true → get_or vs p 0 ≡ 255
   pub numbers : (at n : ℕ) → n < 3 → at + 1 + n < 64 → is_digit (get_or bs at 0) ≡ false → list_all is_digit (take (n + 1) (drop (at + 1) bs)) ≡ true
       → (get_or vs (at + 1 + n) 0 ≡ value_of_digits (take (n + 1) (drop (at + 1) bs))) × (get_or vs (at + 1 + n) 0 < 255)
 
--- from each to all
+-- if each of the first n bytes satisfies a test, so do all of them as a list
 pub all_from : (f : ℕ → Bool) (n : ℕ) (xs : List ℕ) → n ≤ length xs → ((i : ℕ) → i < n → f (get_or xs i 0) ≡ true) → list_all f (take n xs) ≡ true
 all_from f zero xs le each = refl
 all_from f (suc n) [] le each = absurd (omega arith)
 all_from f (suc n) (x ∷ xs) le each = rw (each 0 (omega arith)) (all_from f n xs (omega arith) (λ i lt. each (suc i) (omega arith)))
 
--- and back
+-- if a list of n bytes satisfies a test, so does each of its bytes
 pub one_from : (f : ℕ → Bool) (n : ℕ) (xs : List ℕ) → n ≤ length xs → list_all f (take n xs) ≡ true → (i : ℕ) → i < n → f (get_or xs i 0) ≡ true
 one_from f zero xs le all i lt = absurd (omega arith)
 one_from f (suc n) [] le all i lt = absurd (omega arith)
@@ -112,7 +112,7 @@ module _ (bs : List ℕ) (long : 64 ≤ length bs) where
   long_ends : length ends ≡ 64
   long_ends = length-ends (blanks bs) ∙ sixty_four_ends
 
-  -- one lane more
+  -- the first k + 1 lanes are the first k lanes and lane k
   more_end : (k : ℕ) → k < 64 → take (k + 1) ends ≡ take k ends ++ get_or ends k false ∷ []
   more_end k lt = take_more ends k false (omega (arith, long_ends))
 
@@ -197,14 +197,14 @@ module _ (h : HeaderValue) (plain : HasPlainNumbers h) (bs : List ℕ)
   kept-unset (true ∷ ms) (x ∷ xs) = ap (λ (l : List ℕ). x ∷ l) (kept-unset ms xs)
   kept-unset (false ∷ ms) (x ∷ xs) = kept-unset ms xs
 
-  -- no word ends there
+  -- a byte that ends no word adds no cell
   cells_stay : (k last : ℕ) → k < 64 → get_or es k false ≡ false → Cells k last → Cells (k + 1) last
   cells_stay k last lt off so_far =
       let more = more_ends k lt ∙ ap (λ m. take k es ++ m ∷ []) off in
       let count : trues (take k es ++ false ∷ []) ≡ trues (take k es) = omega (arith, trues-snoc (take k es) false) in
       rw (more, count, kept-unset (take k es) vs) so_far
 
-  -- the state after some bytes: the last word that ended, the last blank, and what comes between and after them
+  -- the state after k bytes: the last word that ended, the last blank, and the bytes between and after them
   pub record State (k : ℕ) : Type 0 where
     pub last : ℕ
     pub blank : ℕ
@@ -239,7 +239,7 @@ module _ (h : HeaderValue) (plain : HasPlainNumbers h) (bs : List ℕ)
       all_from is_word_byte n (drop (s.blank + 1) bs) (omega (arith, length-drop (s.blank + 1) bs, s.inside))
       (λ i less. ap is_word_byte (get_or-drop (s.blank + 1) bs i 0) ∙ byte_word (byte (s.blank + 1 + i)) (s.word (s.blank + 1 + i) (omega arith) (omega arith)))
 
-  -- a pending word has at most three bytes
+  -- an unfinished word has at most three bytes
   few_bytes : (k : ℕ) → k < 64 → (s : State k) → k ≤ s.blank + 3
   few_bytes k lt s = by (leb k (s.blank + 3)) refl
     where
@@ -252,7 +252,7 @@ module _ (h : HeaderValue) (plain : HasPlainNumbers h) (bs : List ℕ)
           absurd (apart (is_space (byte (i + 3)))
           (block.few i (omega arith) (s.word i (omega arith) (omega arith)) (s.word (i + 1) (omega arith) (omega arith)) (s.word (i + 2) (omega arith) (omega arith))) last)
 
-  -- a byte of a word with a neighbour is a digit
+  -- a byte of a word of at least two bytes is a digit
   digit_beside : (k : ℕ) → k < 64 → (s : State k) → s.blank + 1 < k → (i : ℕ) → s.blank < i → i ≤ k → is_digit (byte i) ≡ true
   digit_beside k lt s more i above le = by (is_digit (byte i)) refl
     where
@@ -272,7 +272,7 @@ module _ (h : HeaderValue) (plain : HasPlainNumbers h) (bs : List ℕ)
               let here : is_null_star (byte (i - 1 + 1)) ≡ true = ap (λ j. is_null_star (byte j)) same ∙ star in
               apart (is_space (byte (i - 1))) (block.before (i - 1) (omega arith) here) (s.word (i - 1) (omega arith) (omega arith))
 
-  -- the cell of a word that ends
+  -- a word that ends denotes the cell of its byte
   cell_ends : (k : ℕ) → k < 64 → (s : State k) → s.blank < k → cell_of_word h (take (k + 1 - (s.blank + 1)) (drop (s.blank + 1) bs)) ≡ Ok (byte_cell (get_or vs k 0))
   cell_ends k lt s some =
       let n = k - (s.blank + 1) in
@@ -411,7 +411,7 @@ module _ (h : HeaderValue) (plain : HasPlainNumbers h) (bs : List ℕ)
           let so_far = cells_stay 63 (top (take 63 es)) here last_off (low_holds 63 here) in
           subst Holds all (subst (Cells (63 + 1)) (top_stays 63 (top (take 63 es)) here last_off refl) so_far)
 
-  -- what was put to a row
+  -- the bytes put into a row are the cells of the words that end among the first q bytes
   pub put_holds : (q : ℕ) → q ≤ 64 → (ends count : ℕ) (row : List ℕ) → ends ≡ mask_l (take q es)
       → ((ms : List Bool) → length ms ≡ 64 → ends ≡ mask_l ms → (count ≡ count_ones ends) × (take count row ≡ kept ms vs))
       → HoldsLines h bs (cells_of_bytes (take count row)) count (64 - count_leading_zeros 64 ends) (newlines (take (64 - count_leading_zeros 64 ends) bs))
@@ -438,7 +438,7 @@ module _ (bs : List ℕ) (long : 64 ≤ length bs) where
   bit_of f i lt =
       bit_mask_l (map f (take 64 bs)) i ∙ ap bit (get_or-map f (take 64 bs) i 0 false (omega (arith, wide)) ∙ ap f (get_or-take 64 bs i 0 lt))
 
-  -- if a byte is a star, stars are null
+  -- if a byte is a star, the null text is a star
   pub star_of : (null : List ℕ) (stars : ℕ) → stars ≡ mask_l (map is_null_star (take 64 bs)) → (nulls : Bool)
       → (nulls ≡ true → null ≡ usual_null) → (nulls ≡ false → stars ≡ 0)
       → (p : ℕ) → p < 64 → is_null_star (get_or bs p 0) ≡ true → null ≡ usual_null
@@ -479,7 +479,7 @@ module _ (bs : List ℕ) (long : 64 ≤ length bs) where
         (word_at (i + 1) (omega arith) ∙ ap (λ x. 1 - bit x) b) (word_at (i + 2) (omega arith) ∙ ap (λ x. 1 - bit x) d));
   }
 
-  -- the bytes of cells, from the values of words and 255 for stars
+  -- the lanes are the bytes of cells: 255 for stars, and otherwise the values of the words
   pub cell_bytes_are : (values lanes : List ℕ) → AreWordValues (take 64 bs) values
       → ((p : ℕ) → p < 64 → get_or lanes p 0 ≡ cond (is_null_star (get_or (take 64 bs) p 0)) 255 (get_or values p 0)) → AreCellBytes bs (take 64 lanes)
   cell_bytes_are values lanes is each = record {

@@ -12,7 +12,7 @@ use Rattle.cell_ascii_lanes.proofs.ByteBitLemmas.{trues}
 use lib.Bits.{bit_and}
 use lib.Lanes.{mask_l}
 
--- the last bytes of words: no blank, and a blank after them
+-- true at the last byte of each word: a byte that is not a blank and is followed by a blank
 abbrev pub ends_of : List Bool → List Bool
 ends_of [] = []
 ends_of (s ∷ []) = false ∷ []
@@ -61,7 +61,7 @@ ends_mask ss size =
     bit_at_and words (m / 2) i ∙ ap₂ min left right ∙ both_bits (get_or ss i false) (get_or ss (i + 1) false)
     ∙ ap bit (sym (ends_at ss i inside)) ∙ sym (bit_mask_l (ends_of ss) i))
 
--- ---- the first of them
+-- ---- the first end of a word
 
 abbrev pub front : ℕ → List Bool → List Bool
 front q [] = []
@@ -94,7 +94,7 @@ front-kept (suc q) (m ∷ ms) [] = refl
 front-kept (suc q) (true ∷ ms) (v ∷ vs) = ap (λ (l : List ℕ). v ∷ l) (front-kept q ms vs)
 front-kept (suc q) (false ∷ ms) (v ∷ vs) = front-kept q ms vs
 
--- ---- the place after the last that is set
+-- ---- the place after the last end of a word
 
 abbrev raised : Bool → ℕ → ℕ
 raised m zero = bit m

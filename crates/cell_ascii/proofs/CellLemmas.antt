@@ -1,4 +1,4 @@
--- The next cell, and n of them, one after another.
+-- The next cell, and n cells one after another.
 use Rattle.std.proofs.Common.{◌≡◌, ℕ, [], ◌++◌, append_assoc, append-nil, ◌+◌, ◌-◌, ◌≤◌, arith, List, length, Option, Some, None, Result, Ok, Err, Bool, true, false, ℤ, ◌*ℤ◌, if◌then◌else◌, bytes_eq, refl, ap, sym, ◌∙◌}
 use Rattle.std.specs.Option.{option_map}
 use Rattle.std.specs.Result.{IfErr}
@@ -17,7 +17,7 @@ use Rattle.cell_ascii_meaning.specs.declared.grid_fault.GridKind.TheVariants.{Ce
 use Rattle.cell_ascii_reading.proofs.MapLemmas.{then_map, map_same}
 use Rattle.cell_ascii.proofs.ManyLemmas.{many_add, glue, and_then}
 
--- where a cell leaves a reader
+-- the place of a reader after a cell
 abbrev pub place_after : HeaderValue → ℕ → Ahead → ReaderPlace
 place_after h line ahead = record { header = h; pending = None; line = line; run = 0; ahead = ahead }
 
@@ -25,7 +25,7 @@ judged : (h : HeaderValue) (line : ℕ) (ahead : Ahead) (c : Coming) (r : Result
 judged h line ahead c (Ok v) = refl
 judged h line ahead c (Err kind) = refl
 
--- the word that waits is the next cell
+-- a pending word is read as the next cell
 pub cell_pending : (h : HeaderValue) (word : List ℕ) (line run : ℕ) (ahead : Ahead) (a : Option Coming)
     → option_map (λ c. cell_from h (record { pending = Some word; line = line; run = run; coming = c })) a
     ≡ option_map (reading_seen (at_line line (cell_of_word h word)) (place_after h line ahead)) a
@@ -55,7 +55,7 @@ module _ (h : HeaderValue) (line run : ℕ) (a b : Option Coming) (r : Result (U
       map_same (λ c. after_start h (grid_start line run c)) (λ c. after_token h (token_read (grid_start line run c))) a (λ c. start_token h (grid_start line run c))
       ∙ then_map (after_token h) (λ c. token_read (grid_start line run c)) (token_seen r l word) a b read
 
--- the next word is the next cell
+-- the next word of the text is read as the next cell
 pub cell_read : (h : HeaderValue) (line run : ℕ) (a b : Option Coming) (l : ℕ) (word : List ℕ) (ahead : Ahead)
     → option_map (λ c. token_read (grid_start line run c)) a ≡ option_map (token_seen (Ok tt) l word) b
     → option_map (λ c. cell_from h (at_of line run c)) a ≡ option_map (reading_seen (at_line l (cell_of_word h word)) (place_after h l ahead)) b
@@ -77,7 +77,7 @@ number_faults line m (Some n) = by (is_in_range n) (is_in_range (n *ℤ m))
     by true false = tt
     by false high = tt
 
--- what is wrong with a word is an error of the text
+-- an invalid word is an error of the text
 pub cell_faults : (h : HeaderValue) (word : List ℕ) (line : ℕ) → IfErr (at_line line (cell_of_word h word)) (λ f. IsOfText f.kind)
 cell_faults h word line = by (bytes_eq word h.null_text)
   where
@@ -85,12 +85,12 @@ cell_faults h word line = by (bytes_eq word h.null_text)
     by true = tt
     by false = number_faults line h.multiplier (whole_number word)
 
--- a reading after the items that were read so far
+-- a reading whose items follow those read before
 abbrev pub with_front : {X : Type 0} → List X → Reading (List X) → Reading (List X)
 with_front front (Ok x) = Ok (front ++ x.0, x.1)
 with_front front (Err f) = Err f
 
--- nothing was read so far
+-- before any item is read, the remaining items are all items
 pub none_read : {X : Type 0} (one : At → Reading X) (n : ℕ) (here : Coming → At) (a : Option Coming) (front : List X) → front ≡ []
     → option_map (λ c. many one n (here c)) a ≡ option_map (λ c. with_front front (many one (n - length front) (here c))) a
 none_read {X} one n here a front none =
@@ -102,7 +102,7 @@ none_read {X} one n here a front none =
     same (Ok x) = refl
     same (Err f) = refl
 
--- all was read
+-- after all items are read, none remain
 pub all_read : {X : Type 0} (one : At → Reading X) (n i : ℕ) (here : Coming → At) (a : Option Coming) (front : List X) → i ≡ n
     → option_map (λ c. with_front front (many one (n - i) (here c))) a ≡ option_map (λ c. Ok (front, here c)) a
 all_read {X} one n i here a front all =
@@ -110,7 +110,7 @@ all_read {X} one n i here a front all =
     ap (λ (m : ℕ). option_map (λ c. with_front front (many one m (here c))) a) none
     ∙ ap (λ (l : List X). option_map (λ c. Ok (l, here c)) a) (append-nil front)
 
--- some more of many
+-- the remaining items after some more were read
 abbrev with_next : {X : Type 0} → (At → Reading X) → ℕ → List X → Reading (List X) → Reading (List X)
 with_next one n front (Ok x) = with_front (front ++ x.0) (many one n x.1)
 with_next one n front (Err f) = Err f
@@ -134,11 +134,11 @@ module _ {X : Type 0} (one : At → Reading X) (F : Coming → Reading (List X))
   next : option_map F a ≡ option_map (λ c. with_next one (n - (i + k)) front (many one k (here c))) b
   next = so_far ∙ ap (λ (m : ℕ). option_map (λ c. with_front front (many one m (here c))) b) (less_some n i k in_range) ∙ (λ j. option_map (λ c. many_more one k (n - (i + k)) front (here c) j) b)
 
-  -- some more were read
+  -- reading k more items adds them to the items read before
   pub more_read : (xs : List X) (there : Coming → At) → option_map (λ c. many one k (here c)) b ≡ option_map (λ c. Ok (xs, there c)) d
       → option_map F a ≡ option_map (λ c. with_front (front ++ xs) (many one (n - (i + k)) (there c))) d
   more_read xs there e = next ∙ then_map (with_next one (n - (i + k)) front) (λ c. many one k (here c)) (λ c. Ok (xs, there c)) b d e
 
-  -- an error comes among the next
+  -- an error among the next k items is the error of the reading
   pub more_fails : (f : GridFault) → option_map (λ c. many one k (here c)) b ≡ option_map (λ c. Err f) d → option_map F a ≡ option_map (λ c. Err f) d
   more_fails f e = next ∙ then_map (with_next one (n - (i + k)) front) (λ c. many one k (here c)) (λ c. Err f) b d e

@@ -1,4 +1,4 @@
--- The data, from its rows and its end, and the text, from its header and its data.
+-- The data is read from its rows and its end, and the text from its header and its data.
 use Rattle.std.proofs.Common.{◌≡◌, ℕ, ℤ, ◌+◌, ◌-◌, ◌*◌, ◌<◌, ◌≤◌, List, Option, Some, None, Result, Ok, Err, Bool, false, refl, ap, sym, subst, ◌∙◌}
 use Rattle.std.specs.Option.{option_map, IfSome}
 use Rattle.cell_core_devices.specs.Device.{Coming}
@@ -31,7 +31,7 @@ reported_map : {X : Type 0} (F : Coming → X) (v : X) (b : Option Coming) → I
 reported_map F v None e = refl
 reported_map F v (Some c) e = ap Some e
 
--- one of the next rows fails
+-- an error among the next rows is the error of the reading
 pub rows_fail : (h : HeaderValue) (F : Coming → Reading (List (List CellValue))) (a b : Option Coming) (front : List (List CellValue)) (n i k : ℕ) (here : Coming → At) (f : GridFault) → i + k ≤ n
     → option_map F a ≡ option_map (λ c. with_front front (many (many (cell_from h) h.region.cols) (n - i) (here c))) b
     → IfSome b (λ c. many (cell_from h) (k * h.region.cols) (here c) ≡ Err f) → IfSome a (λ c. F c ≡ Err f)
@@ -42,11 +42,11 @@ rows_fail h F a b front n i k here f within so_far fails =
     (more_fails (many (cell_from h) h.region.cols) F a b b front n i k here within so_far f (reported_map (λ c. rows (here c)) (Err f) b cut)) (λ c. refl)
 
 module _ (h : HeaderValue) (here : Coming → At) where
-  -- a row fails
+  -- an error of the rows is the error of the data
   pub data_fails : (a : Option Coming) (f : GridFault) → IfSome a (λ c. rows_from h (here c) ≡ Err f) → IfSome a (λ c. data_from h (here c) ≡ Err f)
   data_fails a f e = implied (λ c. rows_from h (here c) ≡ Err f) (λ c. data_from h (here c) ≡ Err f) a (λ c o. ap then_end o) e
 
-  -- all rows were read, and the end gives its result
+  -- after all rows, the result of the end is the result of the data
   pub data_ends : (there : Coming → At) (a b : Option Coming) (all : List (List CellValue)) (end : Result (Unit {0}) GridFault) (v : Result (List (List CellValue)) GridFault)
       → 0 < h.region.cols → 0 < h.region.rows → IfSome a (λ c. IsPlaceOf (here c)) → option_map (λ c. rows_from h (here c)) a ≡ option_map (λ d. Ok (all, there d)) b
       → IfSome b (λ d. fault_of_reading end ≡ end_fault (there d)) → (end >>= (λ _. Ok all)) ≡ v → IfSome a (λ c. data_from h (here c) ≡ v)
@@ -57,7 +57,7 @@ module _ (h : HeaderValue) (here : Coming → At) where
       let kept = rows_kept h h.region.cols wide h.region.rows (here c) (all, there d) placed rows in
       ap then_end rows ∙ ap (λ (r : Result (Unit {0}) GridFault). r >>= (λ _. Ok all)) (end_is (there d) end kept.0 (kept.1 high) reported) ∙ is
 
--- the text of a header and a data that are known
+-- a text whose header and data are known has the result of the data
 text_step : (p : ReaderValue) (v : Result (List (List CellValue)) GridFault) (w : Result Grid GridFault) (x y : Coming)
     → (v >>= (λ rows. Ok (record { region = p.header.region; rows = rows; labels = no_labels }))) ≡ w
     → header_of_text x ≡ Ok (opened_in p y) → data_from p.header (reader_place p y) ≡ v → grid_of x ≡ w
@@ -92,11 +92,11 @@ module _ (p s : ReaderValue) (a : Option Coming) (opened : option_map header_of_
       data_ends p.header (reader_place p) (reader_place s) p.coming s.coming m.rows end v is.wide is.high
       (opened_places p a p.coming opened) is.rows reported same
 
-  -- the map whose rows they are
+  -- a text with these rows and no further word is the map of the rows
   pub whole_read : IfSome s.coming (λ d. fault_of_reading {X = Unit {0}} (Ok tt) ≡ end_fault (reader_place s d)) → IfSome a (λ c. grid_of c ≡ Ok m)
   whole_read reported = text_map p a p.coming opened m (is.region, is.labels) (ends (Ok tt) (Ok m.rows) reported refl)
 
-  -- an error after the rows
+  -- an error after the rows is the error of the text
   pub end_fails : (f : GridFault) → IfSome s.coming (λ d. fault_of_reading {X = Unit {0}} (Err f) ≡ end_fault (reader_place s d)) → IfSome a (λ c. grid_of c ≡ Err f)
   end_fails f reported = text_fails p a p.coming opened f (ends (Err f) (Err f) reported refl)
 
@@ -110,19 +110,19 @@ header_faults (Some x) f h = rw h refl
 pub opening_fails : (a : Option Coming) (f : GridFault) → IfSome a (λ c. opening_fault c ≡ Some f) → IfSome a (λ c. grid_of c ≡ Err f)
 opening_fails a f reported = header_faults a f (implied (λ c. opening_fault c ≡ Some f) (λ c. header_of_text c ≡ Err f) a (λ c. (opening_agrees c f).1) reported)
 
--- the keys give no header
+-- if the keys give no header, their error is the error of the header
 pub open_fails : (keys : KeyValues) (word : List ℕ) (line : ℕ) (waiting : Bool) (a b : Option Coming) (f : GridFault)
     → option_map (header_from 10 no_keys 1 0) a ≡ option_map (header_seen (Ok waiting) keys word line) b
     → Err f ≡ at_line line (header_of keys) → IfSome a (λ c. header_of_text c ≡ Err f)
 open_fails keys word line waiting a b f e bad =
     known (header_from 10 no_keys 1 0) (header_seen (Ok waiting) keys word line) a b (Err f) e (λ c. rw (← bad) refl)
 
--- if each of the six keys was given, the header is judged by their region
+-- if all six keys are given, the header depends on whether they form a region
 all_given : (k : KeyValues) (north south east west : ℤ) (rows cols : ℕ) → k.north ≡ Some north → k.south ≡ Some south → k.east ≡ Some east → k.west ≡ Some west → k.rows ≡ Some rows → k.cols ≡ Some cols
     → header_of_keys k (region_fault (record { north = north; south = south; east = east; west = west; rows = rows; cols = cols })) ≡ header_of k
 all_given k north south east west rows cols n s e w r c = rw (n, s, e, w, r, c) refl
 
--- what holds of the errors of all keys together
+-- a property of a missing key and of each region error holds of each error of the keys
 module _ (P : GridKind → Type 0) (missing : P MissingKey) (region : (f : RegionFault) → P (Region f))
     (k : KeyValues) where
   judged_has : (r : Result RegionValue RegionFault) (kind : GridKind) → header_of_keys k r ≡ Err kind → P kind
@@ -150,7 +150,7 @@ module _ (P : GridKind → Type 0) (missing : P MissingKey) (region : (f : Regio
       by (Ok h) is o = cc
       by (Err kind) is o = let p : kind ≡ f.kind = cc in subst P p (keys_have k.north k.south k.east k.west k.rows k.cols kind refl refl refl refl refl refl is)
 
--- if the keys give no header, that is an error of the text, and not of its source
+-- if the keys give no header, the error is an error of the text, not of its source
 pub header_kind : (k : KeyValues) (line : ℕ) (f : GridFault) → Err f ≡ at_line line (header_of k) → IsOfText f.kind
 header_kind = header_has IsOfText tt (λ f. tt)
 

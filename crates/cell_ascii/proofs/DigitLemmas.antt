@@ -1,4 +1,4 @@
--- Words of digits, read by multiplications.
+-- Words of digits, converted to numbers with three multiplications.
 use Rattle.std.proofs.Common.{◌≡◌, ℕ, zero, suc, ◌+◌, ◌-◌, ◌*◌, ◌/◌, ◌%◌, ◌^◌, ◌<◌, ◌≤◌, leb, eqb, arith}
 use Rattle.std.proofs.Common.{Bool, true, false, not, cond, refl, ap, ap₂, ◌∙◌, Some, w8}
 use Rattle.std.proofs.Common.{List, [], ◌∷◌, ◌++◌, map, length, take, get_or, replicate, length-take}
@@ -22,14 +22,14 @@ use native.Mathlib.Nat.{mod-eq_of_lt}
 
 -- ---- the three multiplications
 
--- eight bytes as a number
+-- the number of eight bytes, the lowest first
 abbrev word_of : ℕ → ℕ → ℕ → ℕ → ℕ → ℕ → ℕ → ℕ → ℕ
 word_of a b c d f g i j = a + 2 ^ 8 * b + 2 ^ 16 * c + 2 ^ 24 * d + 2 ^ 32 * f + 2 ^ 40 * g + 2 ^ 48 * i + 2 ^ 56 * j
 
 abbrev low_bytes : ℕ → ℕ
 low_bytes x = bit_and x 0x0000_00ff_0000_00ff
 
--- the mask keeps bytes 0 and 4
+-- the mask keeps bytes 0 and 4 of a number
 masked : (x : ℕ) → low_bytes x ≡ x / 2 ^ 32 % 256 * 2 ^ 32 + x % 2 ^ 32 % 256
 masked x =
     let e : x ≡ x / 2 ^ 32 * 2 ^ 32 + x % 2 ^ 32 = omega arith in
@@ -65,7 +65,7 @@ last p q r s P Q R S =
     let low : p * 100 + q < 2 ^ 32 = omega arith in
     ap (λ x. x / 2 ^ 32) (mod-eq_of_lt small ∙ parts) ∙ digits_div _ low
 
--- p, q, r and s are the four pairs of digits, and x, y, z and w the bytes between them
+-- p, q, r and s are the four pairs of digits, and x, y, z and w are the bytes between them
 combined : (p q r s x y z w pairs : ℕ) → p < 100 → q < 100 → r < 100 → s < 100 → x < 100 → y < 100 → z < 100 → w < 100
     → pairs ≡ word_of p x q y r z s w → of_pairs pairs ≡ p * 1000000 + q * 10000 + r * 100 + s
 combined p q r s x y z w pairs P Q R S X Y Z W e =
@@ -79,7 +79,7 @@ combined p q r s x y z w pairs P Q R S X Y Z W e =
     let d : pairs / 65536 % 2 ^ 32 % 256 ≡ q = rw (down, digits_mod _ part) (digits_mod _ (below q Q)) in
     rw (masked pairs, masked (pairs / 65536), a, b, c, d, first p r P R, second q s Q S) (last p q r s P Q R S)
 
--- of eight digits, each the byte of its value
+-- the three multiplications give the value of eight bytes that are the values of digits
 eight_is : (a b c d f g i j word : ℕ) → a < 10 → b < 10 → c < 10 → d < 10 → f < 10 → g < 10 → i < 10 → j < 10
     → word ≡ word_of a b c d f g i j
     → worth word ≡ a * 10000000 + b * 1000000 + c * 100000 + d * 10000 + f * 1000 + g * 100 + i * 10 + j
@@ -130,7 +130,7 @@ bytes_masked a b c d f g i j A B C D F G I J =
     and_block 8 n1 0x0f_0f0f_0f0f_0f0f a 15 A (omega arith) in
     ap nibbles all ∙ h0 ∙ omega (arith, h1, h2, h3, h4, h5, h6)
 
--- a byte that counts: a digit, or a leading 0
+-- a byte that is read as its distance from 48: a digit, or a leading 0
 record Counts (x : ℕ) : Type 0 where
   byte : x < 256
   low : nibble x ≡ x - 48
@@ -174,7 +174,7 @@ eight_value (a ∷ b ∷ c ∷ d ∷ f ∷ g ∷ i ∷ j ∷ []) e (A, (B, (C, (
     eight_is (a - 48) (b - 48) (c - 48) (d - 48) (f - 48) (g - 48) (i - 48) (j - 48) _
     A.few B.few C.few D.few F.few G.few I.few J.few is ∙ omega arith
 
--- the three multiplications give the value of digits, moved to the upper end of eight bytes
+-- the three multiplications give the value of digits that were moved to the upper end of eight bytes
 pub front_value : (size : ℕ) (bs : List ℕ) → size ≤ 8 → size ≤ length bs → list_all is_digit (take size bs) ≡ true
     → worth (nibbles (number_l 256 (replicate (8 - size) 0 ++ take size bs))) ≡ value_of_digits (take size bs)
 front_value size bs few within digits =
@@ -183,7 +183,7 @@ front_value size bs few within digits =
     let long : length all ≡ 8 = omega (arith, length-zeros (8 - size) word, length-take size bs) in
     eight_value all long (zeros_count (8 - size) word (digits_count word digits)) ∙ zeros_value (8 - size) word
 
--- the first size of eight bytes, moved to the upper end
+-- the first `size` of eight bytes, moved to the upper end of a number
 abbrev moved : ℕ → List ℕ → ℕ
 moved size bs = number_l 256 (take 8 bs) % 18446744073709551616 * 2 ^ (64 - 8 * size) % 18446744073709551616
 
@@ -233,11 +233,11 @@ digit_here x byte e =
     let most : x ≤ 57 = omega arith in
     grind (arith, nat_tests)
 
--- how many of the first bytes come before the first other one
+-- the number of bytes before the first byte that is not a digit, at most m
 abbrev digits_within : ℕ → List ℕ → ℕ
 digits_within m xs = prefix_len (λ x. not (is_other x)) (take m xs)
 
--- they are digits
+-- bytes before the first byte that is not a digit are digits
 digits_front : (n m : ℕ) (xs : List ℕ) → ((k : ℕ) → get_or xs k 0 < 256) → n ≤ digits_within m xs
     → list_all is_digit (take n xs) ≡ true
 digits_front zero m xs byte few = refl
@@ -269,7 +269,7 @@ at_least : (b : Bool) (n z : ℕ) → n ≤ 8 → n ≤ z → n ≤ cond b 8 z
 at_least true n z few more = few
 at_least false n z few more = more
 
--- as many as the lowest bits that are not set
+-- the bytes below the lowest set bit are digits
 pub digits_ahead : (bs : List ℕ) → 8 ≤ length bs → ((k : ℕ) → get_or bs k 0 < 256) → (n : ℕ) → n ≤ 8
     → n ≤ count_trailing_zeros 64 (others bs) → list_all is_digit (take n bs) ≡ true
 digits_ahead bs buffered byte n few more =

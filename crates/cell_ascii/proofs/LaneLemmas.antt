@@ -1,4 +1,4 @@
--- How many bytes are equal at the start of two loads.
+-- The number of equal bytes at the start of two loads.
 use Rattle.std.proofs.Common.{◌≡◌, ℕ, ◌+◌, ◌%◌, ◌^◌, ◌<◌, ◌≤◌, suc, eqb, cond, Bool, true, false, not, List, [], ◌∷◌, ◌++◌, map, length, take, drop, w8, refl, sym, ap, ap₂, ◌∙◌, arith, length-take}
 use Rattle.std.proofs.lemmas.Bool.{eqb-true}
 use Rattle.std.proofs.lemmas.Simd.{mask_l-mod, leading_from_mask_l, trailing_mask_l, tops_compared, length-zip2}
@@ -16,7 +16,7 @@ itself : (ms : List Bool) → map (λ m. m) ms ≡ ms
 itself [] = refl
 itself (m ∷ ms) = ap (λ (l : List Bool). m ∷ l) (itself ms)
 
--- they are alike up to the first lane that differs
+-- two lists agree before the first lane that differs
 alike_front : (xs ys : List ℕ) → length xs ≡ length ys → take (prefix_len (λ m. not m) (zip2 apart xs ys)) xs ≡ take (prefix_len (λ m. not m) (zip2 apart xs ys)) ys
 alike_front [] [] e = refl
 alike_front [] (y ∷ ys) e = absurd (omega arith)
@@ -64,6 +64,6 @@ module _ (a b : List ℕ) (left : 16 ≤ length a) (right : 16 ≤ length b) whe
       let set : 0 < mask_l (map (λ m. m) lanes) = omega (arith, mask-is, some) in
       front (count_trailing_zeros 64 mask) (ap (count_trailing_zeros 64) mask-is ∙ trailing_mask_l (λ (m : Bool). m) 64 lanes few set)
 
--- equal first items, and some more of them
+-- lists that agree on their first n items and on the next m agree on the first n + m
 pub alike_longer : (n m : ℕ) (xs ys : List ℕ) → take n xs ≡ take n ys → take m (drop n xs) ≡ take m (drop n ys) → take (n + m) xs ≡ take (n + m) ys
 alike_longer n m xs ys e f = take-add n m xs ∙ ap₂ (λ (p : List ℕ) (q : List ℕ). p ++ q) e f ∙ sym (take-add n m ys)

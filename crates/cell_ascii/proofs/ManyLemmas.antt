@@ -11,7 +11,7 @@ use Rattle.cell_ascii_meaning.specs.declared.grid_fault.GridFault.{GridFault}
 use Rattle.cell_ascii_reading.proofs.MapLemmas.{then_map, map_same}
 
 module _ {X : Type 0} (one : At → Reading X) where
-  -- one more after some
+  -- one more item after the items read before
   abbrev pub snoc : List X → X × At → Reading (List X)
   snoc xs x = Ok (xs ++ x.0 ∷ [], x.1)
 
@@ -55,7 +55,7 @@ module _ {X : Type 0} (one : At → Reading X) where
       let o : suc k + m ≡ suc (k + m) = omega arith in
       ap (λ (j : ℕ). many one j at) o ∙ many_snoc (k + m) at ∙ ap (λ (r : Reading (List X)). r >>= with_last) (still_fails k m at f e)
 
-  -- an error after some is the error of all
+  -- an error after some items is the error of the reading of all
   pub many_cut : (i n : ℕ) (at mid : At) (xs : List X) (f : GridFault) → i < n → many one i at ≡ Ok (xs, mid) → one mid ≡ Err f → many one n at ≡ Err f
   many_cut i n at mid xs f lower e o =
       let parts : n ≡ n - (i + 1) + (i + 1) = omega arith in
@@ -63,7 +63,7 @@ module _ {X : Type 0} (one : At → Reading X) where
       ∙ still_fails (n - (i + 1)) (i + 1) at f
       (many_more i at ∙ ap (λ (r : Reading (List X)). r >>= with_last) e ∙ ap (λ (r : Reading X). r >>= snoc xs) o)
 
-  -- one more was read
+  -- reading one more item adds the item to those read before
   pub row_more : (here mid there : Coming → At) (a b d : Option Coming) (i : ℕ) (front : List X) (x : X)
       → option_map (λ c. many one i (here c)) a ≡ option_map (λ c. Ok (front, mid c)) b → option_map (λ c. one (mid c)) b ≡ option_map (λ c. Ok (x, there c)) d
       → option_map (λ c. many one (i + 1) (here c)) a ≡ option_map (λ c. Ok (front ++ x ∷ [], there c)) d
@@ -72,7 +72,7 @@ module _ {X : Type 0} (one : At → Reading X) where
       ∙ then_map (λ (r : Reading (List X)). r >>= with_last) (λ c. many one i (here c)) (λ c. Ok (front, mid c)) a b so_far
       ∙ then_map (λ (r : Reading X). r >>= snoc front) (λ c. one (mid c)) (λ c. Ok (x, there c)) b d e
 
-  -- some, with those before them
+  -- items after those read before
   abbrev pub glue : List X → List X × At → Reading (List X)
   glue xs y = Ok (xs ++ y.0, y.1)
 
@@ -103,7 +103,7 @@ module _ {X : Type 0} (one : At → Reading X) where
       by on (Ok x) = ap (λ (r : Reading (List X)). r >>= (cons x.0)) (on x) ∙ next x.0 (many one k x.1)
       by on (Err f) = refl
 
-  -- some more were read
+  -- reading k more items adds them to those read before
   pub row_some : (here mid there : Coming → At) (a b d : Option Coming) (i k : ℕ) (front next : List X)
       → option_map (λ c. many one i (here c)) a ≡ option_map (λ c. Ok (front, mid c)) b → option_map (λ c. many one k (mid c)) b ≡ option_map (λ c. Ok (next, there c)) d
       → option_map (λ c. many one (i + k) (here c)) a ≡ option_map (λ c. Ok (front ++ next, there c)) d
@@ -112,7 +112,7 @@ module _ {X : Type 0} (one : At → Reading X) where
       ∙ then_map (λ (r : Reading (List X)). r >>= and_then k) (λ c. many one i (here c)) (λ c. Ok (front, mid c)) a b so_far
       ∙ then_map (λ (r : Reading (List X)). r >>= glue front) (λ c. many one k (mid c)) (λ c. Ok (next, there c)) b d e
 
-  -- the list has the length that was asked for
+  -- the list has the requested length
   many_length : (n : ℕ) (at : At) (y : List X × At) → many one n at ≡ Ok y → length y.0 ≡ n
   many_length zero at y e = let p : ◌≡◌ {A = List X × At} ([], at) y = cc in ap (λ (w : List X × At). length w.0)
       (sym p)
@@ -131,7 +131,7 @@ module _ {X : Type 0} (one : At → Reading X) where
       by on (Ok x) e = last x.0 (many one n x.1) (on x) e
       by on (Err f) e = cc
 
-  -- rows of them are as many, cut into rows
+  -- the items of rows, cut into rows
   abbrev cut : ℕ → ℕ → List X × At → Reading (List (List X))
   cut cols rows y = Ok (rows_of cols rows y.0, y.1)
 
@@ -164,7 +164,7 @@ module _ {X : Type 0} (one : At → Reading X) where
           (on x refl) (many one (rows * cols) x.1)
       by rest (Err f) on = refl
 
-  -- rows were read
+  -- cells that were read one after another are read as rows
   pub rows_read : (here there : Coming → At) (a b : Option Coming) (cols rows : ℕ) (xs : List X)
       → option_map (λ c. many one (rows * cols) (here c)) a ≡ option_map (λ c. Ok (xs, there c)) b
       → option_map (λ c. many (many one cols) rows (here c)) a ≡ option_map (λ c. Ok (rows_of cols rows xs, there c)) b

@@ -1,4 +1,4 @@
--- Words of digits of a block, each after one blank.
+-- Words of digits in a block, each after one blank.
 use Rattle.std.proofs.Common.{◌≡◌, ℕ, zero, suc, ◌+◌, ◌-◌, ◌<◌, ◌≤◌, leb, cond, not, Bool, true, false, pos, List}
 use Rattle.std.proofs.Common.{[], ◌∷◌, ◌++◌, Some, Ok, map, length, take, drop, get_or, refl, sym, ap, ap₂, ◌∙◌, arith}
 use Rattle.std.proofs.Common.{length-drop}
@@ -21,7 +21,7 @@ use lib.Bits.{bit_and}
 use lib.Count.{count_trailing_zeros}
 use lib.Lanes.{mask_l}
 
--- the cell of the first bytes, if they are digits
+-- the first n bytes denote the cell of their value if they are digits
 pub digits_cell : (h : HeaderValue) → HasPlainNumbers h → (n : ℕ) (bs : List ℕ) (v : ℕ) → 0 < n → n ≤ length bs
     → list_all is_digit (take n bs) ≡ true
     → v ≡ value_of_digits (take n bs) → v < 100000000 → cell_of_word h (take n bs) ≡ Ok (Some (pos v))
@@ -30,7 +30,7 @@ digits_cell h plain (suc n) [] v some within digits is small = absurd (omega ari
 digits_cell h plain (suc n) (b ∷ bs) v some within digits is small =
     digits_word h plain b (take n bs) v digits is small
 
--- all words of a block are of one to seven digits, each after one blank
+-- each word of a block has one to seven digits and follows one blank
 pub record IsNumberBlock (bs : List ℕ) : Type 0 where
   pub first : is_space (get_or bs 0 0) ≡ true
   pub known : (i : ℕ) → i < 64 → is_space (get_or bs i 0) ≡ false → is_digit (get_or bs i 0) ≡ true
@@ -76,7 +76,7 @@ word_no_space b e = by (is_space b) refl e
     by true o n = cc
     by false o n = o
 
--- the next word after a blank
+-- the next word begins one byte after the blank `last` and ends at the lowest set bit
 pub record NextNumber (bs : List ℕ) (last ends : ℕ) : Type 0 where
   pub end : NextEnd bs (last + 1) ends
   pub some : last + 1 < count_trailing_zeros 64 ends
@@ -138,7 +138,7 @@ next_number bs long block last ends blank set is = record { end = next; some = s
         (λ i lt. let n = next in ap is_digit (get_or-drop (last + 1) bs i 0)
         ∙ block.known (last + 1 + i) (omega (arith, n.few, lt)) (word i lt))
 
--- the bits of a block that begins with a blank, without that
+-- clearing the lowest set bit of a block that begins with a blank leaves the later blanks
 pub first_ends : (bs : List ℕ) → 64 ≤ length bs → is_space (get_or bs 0 0) ≡ true → (m : ℕ) → m ≡ mask_l (blanks bs)
     → (0 < m) × (bit_and m (m - 1) ≡ mask_l (cleared_front 1 (blanks bs)))
 first_ends bs long blank m is =
@@ -164,7 +164,7 @@ first_ends bs long blank m is =
             absurd (unlike (is_space (get_or bs 0 0)) blank (word_no_space (get_or bs 0 0)
             (one_from is_word_byte (suc k) bs within word 0 (omega arith))))
 
--- two words, one after the other
+-- the next two words, one after the other
 pub record TwoNumbers (bs : List ℕ) (last ends others : ℕ) : Type 0 where
   pub first : NextNumber bs last ends
   pub second : NextNumber bs (count_trailing_zeros 64 ends) others
@@ -181,7 +181,7 @@ two_numbers bs long block last ends others blank set is next more =
           more (next ∙ first.end.next);
     }
 
--- one more cell
+-- the next word of digits is one more cell
 pub number_more : (h : HeaderValue) → HasPlainNumbers h → (bs : List ℕ) → 64 ≤ length bs
     → (cells : List CellValue) (count last ends v : ℕ) → last < 64
     → is_space (get_or bs last 0) ≡ true → NextNumber bs last ends

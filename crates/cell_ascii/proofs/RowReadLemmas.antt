@@ -1,4 +1,4 @@
--- Rows that were read or cut off, as readings of the text.
+-- Rows that were read or cut off by an error, as readings of the text.
 use Rattle.std.proofs.Common.{◌≡◌, ℕ, zero, suc, ◌+◌, ◌*◌, ◌^◌, ◌<◌, ◌≤◌, List, [], ◌∷◌, ◌++◌, Option, Some, None, Result, Ok, Err, length, take, drop, refl, ap, sym, ◌∙◌, arith, subst, mul-le-mul}
 use Rattle.std.proofs.Math.Nat.{add-mul}
 use Rattle.std.specs.Option.{option_map, IfSome}
@@ -17,17 +17,17 @@ use Rattle.cell_ascii_law_faults.proofs.PlaceKeptLemmas.{cells_kept}
 use Rattle.cell_ascii_law_faults.proofs.GridFaultLemmas.{opening_keeps_places}
 use Rattle.cell_ascii.proofs.ManyLemmas.{many_cut, many_snoc, with_last, many_add, and_then, glue}
 
--- what a known source gives, gives more
+-- if P implies Q, and P holds of a known source, Q holds of the source
 pub implied : {A : Type 0} (P Q : A → Type 0) (a : Option A) → ((c : A) → P c → Q c) → IfSome a P → IfSome a Q
 implied P Q None go h = tt
 implied P Q (Some c) go h = go c h
 
--- what holds of it under a premise
+-- if a premise gives a property of a known source, the source has the property under that premise
 pub premised : {A Q : Type 0} (P : A → Type 0) (a : Option A) → (Q → IfSome a P) → IfSome a (λ c. Q → P c)
 premised P None reported = tt
 premised P (Some c) reported = reported
 
--- a row that was cut off there
+-- an error after i cells cuts a row off there
 pub row_cut : (h : HeaderValue) (here mid : Coming → At) (a b d : Option Coming) (i : ℕ) (f : GridFault) (old row : List CellValue) → i < length old → drop i row ≡ drop i old
     → option_map (λ c. many (cell_from h) i (here c)) a ≡ option_map (λ c. Ok (take i row, mid c)) b → option_map (λ c. cell_from h (mid c)) b ≡ option_map (λ c. Err f) d
     → IfSome a (λ c. IsCutRow h (here c) f old row)
@@ -39,7 +39,7 @@ row_cut h here mid (Some c) (Some m) (Some z) i f old row lower kept e o =
     let stop : cell_from h (mid m) ≡ Err f = cc in
     record { count = i; fewer = lower; rest = mid m; cells = cells; stop = stop; kept = kept }
 
--- an error after some cells of a row is its error
+-- an error after some cells of a row is the error of the row
 pub row_fails : (h : HeaderValue) (here mid : Coming → At) (a b d : Option Coming) (i n : ℕ) (f : GridFault) (front : List CellValue) → i < n
     → option_map (λ c. many (cell_from h) i (here c)) a ≡ option_map (λ c. Ok (front, mid c)) b → option_map (λ c. cell_from h (mid c)) b ≡ option_map (λ c. Err f) d
     → IfSome a (λ c. many (cell_from h) n (here c) ≡ Err f)
@@ -51,7 +51,7 @@ row_fails h here mid (Some c) (Some m) (Some z) i n f front lower e o =
     let stop : cell_from h (mid m) ≡ Err f = cc in
     many_cut (cell_from h) i n (here c) (mid m) front f lower cells stop
 
--- and an error of the others is too
+-- an error among the remaining cells of a row is the error of the row
 pub others_fail : (h : HeaderValue) (here mid : Coming → At) (a b : Option Coming) (i n : ℕ) (f : GridFault) (front : List CellValue)
     → option_map (λ c. many (cell_from h) i (here c)) a ≡ option_map (λ c. Ok (front, mid c)) b → IfSome b (λ c. many (cell_from h) n (mid c) ≡ Err f)
     → IfSome a (λ c. many (cell_from h) (i + n) (here c) ≡ Err f)
@@ -62,7 +62,7 @@ others_fail h here mid (Some c) (Some m) i n f front e stop =
     many_add (cell_from h) i n (here c) ∙ ap (λ (r : Reading (List CellValue)). r >>= and_then (cell_from h) n) cells
     ∙ ap (λ (r : Reading (List CellValue)). r >>= glue (cell_from h) front) stop
 
--- the error of the row
+-- the error that cuts off a row is the error of its reading
 pub cut_fails : (h : HeaderValue) (at : At) (f : GridFault) (old row : List CellValue) → IsCutRow h at f old row → many (cell_from h) (length old) at ≡ Err f
 cut_fails h at f old row cut = many_cut (cell_from h) cut.count (length old) at cut.rest (take cut.count row) f cut.fewer cut.cells cut.stop
 
@@ -78,7 +78,7 @@ module _ (h : HeaderValue) (here : Coming → At) (Q : Coming → Type 0) (a : O
       by (Some c) None placed e = cc
       by (Some c) (Some d) placed e = let o : many (cell_from h) n (here c) ≡ Ok (row, there d) = cc in sym (ap fault_in o) ∙ cells_reported h n (here c) placed.0
 
-  -- and one that was cut off reports its error
+  -- a row that was cut off reports its error
   pub cut_reported : (f : GridFault) (old row : List CellValue) → IfSome a (λ c. IsCutRow h (here c) f old row) → IfSome a (λ c. Some f ≡ cells_fault h (length old) (here c))
   cut_reported f old row cut = by a placed cut
     where
@@ -86,7 +86,7 @@ module _ (h : HeaderValue) (here : Coming → At) (Q : Coming → Type 0) (a : O
       by None placed cut = tt
       by (Some c) placed cut = sym (ap fault_in (cut_fails h (here c) f old row cut)) ∙ cells_reported h (length old) (here c) placed.0
 
-  -- after a row is a place where no token waits
+  -- after a row, the reader is at a place, and no token is pending after the last row
   pub row_placed : (n left : ℕ) (there : Coming → At) (b : Option Coming) (row : List CellValue) → 0 < n → option_map (λ c. many (cell_from h) n (here c)) a ≡ option_map (λ d. Ok (row, there d)) b
       → IfSome b (λ d. IsPlaceOf (there d) × (left ≡ 0 → (there d).pending ≡ None))
   row_placed n left there b row some e = by a b placed e
@@ -113,7 +113,7 @@ same_fault : {X : Type 0} (r : Result X GridFault) → fault_of_reading r ≡ fa
 same_fault (Ok x) = refl
 same_fault (Err f) = refl
 
--- the result of the end is what the end reports
+-- the result of the end is the result that the end reports
 pub end_answers : (here : Coming → At) (left : ℕ) (a b : Option Coming) (r : Result (Unit {0}) GridFault) → left ≡ 0
     → IfSome a (λ c. IsPlaceOf (here c) × (left ≡ 0 → (here c).pending ≡ None))
     → option_map (λ c. end_of (grid_start (here c).line (here c).run (here c).coming)) a ≡ option_map (always r) b → IfSome a (λ c. fault_of_reading r ≡ end_fault (here c))
@@ -123,7 +123,7 @@ end_answers here left (Some c) (Some d) r none placed e =
     let o : end_of (grid_start (here c).line (here c).run (here c).coming) ≡ r = cc in
     same_fault r ∙ sym (ap fault_in o) ∙ end_reported (here c) (placed.1 none) placed.0.low
 
--- and what the end reports is its result
+-- what the end reports is its result
 pub end_is : (at : At) (r : Result (Unit {0}) GridFault) → IsPlaceOf at → at.pending ≡ None → fault_of_reading r ≡ end_fault at → end_of (grid_start at.line at.run at.coming) ≡ r
 end_is at r is none reported = by (end_of (grid_start at.line at.run at.coming)) r (end_reported at none is.low ∙ sym reported ∙ same_fault r)
   where
@@ -134,7 +134,7 @@ end_is at r is none reported = by (end_of (grid_start at.line at.run at.coming))
     by (Err f) (Err g) e = cc
 
 module _ (h : HeaderValue) (cols : ℕ) (some : 0 < cols) where
-  -- after rows is a place, and no token waits after the last row
+  -- after rows, the reader is at a place, and no token is pending after the last row
   pub rows_kept : (n : ℕ) (at : At) (x : List (List CellValue) × At) → IsPlaceOf at → many (many (cell_from h) cols) n at ≡ Ok x → IsPlaceOf x.1 × (0 < n → x.1.pending ≡ None)
   rows_kept zero at x is e = (let p : at ≡ x.1 = cc in subst IsPlaceOf p is, λ none. absurd (omega arith))
   rows_kept (suc n) at x is e = by (many (many (cell_from h) cols) n at) (rows_kept n at) (sym (many_snoc (many (cell_from h) cols) n at) ∙ e)
@@ -151,11 +151,11 @@ module _ (h : HeaderValue) (cols : ℕ) (some : 0 < cols) where
       by (Err f) on e = cc
       by (Ok y) on e = last y (on y is refl).0 (many (cell_from h) cols y.1) refl e
 
--- the lines of a grid have numbers
+-- the line numbers of a grid fit within their limit
 pub lines_fit : (line rows cols : ℕ) → line < 2 ^ 62 → rows ≤ 65535 → cols ≤ 65535 → line + (rows * cols + 1) * 1048577 < 2 ^ 63
 lines_fit line rows cols low high wide = let most : rows * cols ≤ 65535 * 65535 = mul-le-mul high wide in omega arith
 
--- and so do the lines after some rows
+-- the line numbers of the remaining rows fit within their limit
 pub rows_fit : (line more rows left some cols size : ℕ) → left + some ≡ rows → size ≡ some * cols → more ≤ line + size * 1048577 → line + (rows * cols + 1) * 1048577 < 2 ^ 63 → more + (left * cols + 1) * 1048577 < 2 ^ 63
 rows_fit line more rows left some cols size all is low fits =
     let e : rows * cols ≡ left * cols + size = rw (← all, is) (add-mul left some cols) in omega arith

@@ -7,21 +7,21 @@ use Rattle.cell_core.specs.Grid.{CellValue}
 use Rattle.cell_core_values.specs.SmallCells.{byte_cell, cells_of_bytes}
 use Rattle.cell_ascii.specs.parts.FrontCells.{front_cells, rows_of}
 
--- there are exactly rows rows
+-- cutting cells into rows gives exactly `rows` rows
 pub rows_count : {X : Type 0} (cols rows : ℕ) (xs : List X) → length (rows_of cols rows xs) ≡ rows
 rows_count cols zero xs = refl
 rows_count cols (suc rows) xs = ap suc (rows_count cols rows (drop cols xs))
 
--- the next row is among the cells
+-- the cells of the next row lie within the cells of the rows
 pub row_within : (at left cols n : ℕ) → 0 < left → at + left * cols ≡ n → at + cols ≤ n
 row_within at left cols n some all = let one : 1 * cols ≤ left * cols = mul-le-mul_right cols some in omega arith
 
--- and the others after it
+-- the cells of the remaining rows lie within the cells of the rows
 pub rows_after : (at left next cols n : ℕ) → next + 1 ≡ left → at + left * cols ≡ n → at + cols + next * cols ≡ n
 rows_after at left next cols n one all = let e : left * cols ≡ next * cols + 1 * cols = rw (← one)
     (add-mul next 1 cols) in omega arith
 
--- a part of the first elements
+-- a part of the first n elements is the same part of all elements
 part_of : {X : Type 0} (xs : List X) (at cols n : ℕ) → at + cols ≤ n → take cols (drop at (take n xs)) ≡ take cols
     (drop at xs)
 part_of xs at cols n within =
@@ -29,7 +29,7 @@ part_of xs at cols n within =
     ap (λ (m : ℕ). take cols (drop at (take m xs))) e ∙ ap (take cols) (drop-take at (n - at) xs) ∙ take-take cols
     (n - at) (drop at xs) (omega arith)
 
--- the cells of a row among the cells of some rows, as bytes or as cells
+-- the cells of a row are a part of the cells of its rows, as bytes or as cells
 pub row_part : (is_bytes : Bool) (bytes : List ℕ) (cells : List CellValue) (at cols n : ℕ) → at + cols ≤ n
     → front_cells (cols, is_bytes) (drop at bytes) (take cols (drop at cells)) ≡ take cols
     (drop at (front_cells (n, is_bytes) bytes cells))
@@ -39,7 +39,7 @@ row_part true bytes cells at cols n within =
 row_part false bytes cells at cols n within = take-take cols cols (drop at cells) (omega arith) ∙ sym
     (part_of cells at cols n within)
 
--- one more of the rows is below the others
+-- taking the next row from the remaining rows leaves the list of all rows unchanged
 pub rows_below : {X : Type 0} (front : List (List X)) (all row : List X) (at cols left next : ℕ) → next + 1 ≡ left
     → row ≡ take cols (drop at all)
     → (front ++ row ∷ []) ++ rows_of cols next (drop (at + cols) all) ≡ front ++ rows_of cols left (drop at all)

@@ -1,4 +1,4 @@
--- A run of blanks as bits, and one added to the lowest of them.
+-- A run of blanks as bits, and the effect of adding 1 at its lowest bit.
 use Rattle.std.proofs.Common.{◌≡◌, ℕ, zero, suc, ◌+◌, ◌-◌, ◌*◌, ◌%◌, ◌^◌, ◌<◌, ◌≤◌, cond, Bool, true, false}
 use Rattle.std.proofs.Common.{List, [], ◌∷◌, map, length, take, drop, get_or, length-take, length-drop}
 use Rattle.std.proofs.Common.{refl, ap, ap₂, sym, ◌∙◌, arith}
@@ -19,17 +19,17 @@ use lib.Count.{count_trailing_zeros}
 use lib.Lanes.{mask_l}
 use mathlib.Core.Logic.{inl, inr}
 
--- how many of the first lanes are true
+-- the number of leading true lanes
 abbrev run : List Bool → ℕ
 run ms = prefix_len (λ m. m) ms
 
--- one more: it carries through the first lanes that are true
+-- the lanes plus one: the carry clears the leading true lanes and sets the next lane
 abbrev carried : List Bool → List Bool
 carried [] = true ∷ []
 carried (true ∷ ms) = false ∷ carried ms
 carried (false ∷ ms) = true ∷ ms
 
--- the same from a place on, with the lanes before it false
+-- the lanes plus one from a place on, with the lanes before the place false
 abbrev carried_at : ℕ → List Bool → List Bool
 carried_at zero ms = carried ms
 carried_at (suc n) [] = []
@@ -45,7 +45,7 @@ sum zero ms le = one-more ms
 sum (suc n) [] le = absurd (omega arith)
 sum (suc n) (m ∷ ms) le = omega (arith, sum n ms (omega arith), pow-suc 2 n)
 
--- as many lanes as before
+-- the lanes after the carry, cut to the old number of lanes
 abbrev front : ℕ → List Bool → List Bool
 front at ms = take (length ms) (carried_at at ms)
 
@@ -56,7 +56,7 @@ front-length zero (false ∷ ms) le = ap suc (ap length (take_all (length ms) ms
 front-length (suc n) [] le = absurd (omega arith)
 front-length (suc n) (m ∷ ms) le = ap suc (front-length n ms (omega arith))
 
--- its lowest bit is after the run
+-- the lowest set bit after the carry is the lane after the run
 front-lowest : (at : ℕ) (ms : List Bool) → at ≤ length ms → unset (front at ms) ≡ at + run (drop at ms)
 front-lowest zero [] le = refl
 front-lowest zero (true ∷ ms) le = omega (arith, front-lowest zero ms (omega arith))
@@ -74,7 +74,7 @@ next-bit a b c m n r low high =
     two true = omega arith
     two false = omega arith
 
--- the lanes after the run stay
+-- the lanes after the run are unchanged by the carry
 front-others : (at : ℕ) (ms : List Bool) → at ≤ length ms
     → bit_and (mask_l (cleared_front at ms)) (mask_l (front at ms)) ≡ mask_l (cleared_front (at + run (drop at ms)) ms)
 front-others zero [] le = and_self 0
@@ -99,7 +99,7 @@ front-others (suc n) (m ∷ ms) le =
     next-bit false false false (mask_l (cleared_front n ms)) (mask_l (front n ms)) (mask_l (cleared_front (n + k) ms)) refl rest
     ∙ ap (λ (j : ℕ). mask_l (cleared_front j (m ∷ ms))) (sym one)
 
--- the lowest lane that is true, or 64
+-- the lowest set bit of 64 lanes is the first true lane, or 64 if there is none
 lowest-of : (ms : List Bool) → length ms ≡ 64 → count_trailing_zeros 64 (mask_l ms) ≡ unset ms
 unfolding count_trailing_zeros
 lowest-of ms long =
@@ -123,7 +123,7 @@ all-blanks (x ∷ xs) = by (is_space x) refl (all-blanks xs)
         ap (λ (n : ℕ). list_all is_space (take n (x ∷ xs))) one ∙ rw (e, is) refl
     by false e is = refl
 
--- from a blank to the place after the last blank that follows it
+-- adding the bit of a blank gives the place after the last blank of its run
 pub behind-blanks : (bs : List ℕ) (ends at bit : ℕ) → at < 64 → bit ≡ 2 ^ at → IsAtBlank bs ends at
     → IsBehindBlanks bs at (count_trailing_zeros 64 ((ends + bit) % 2 ^ 64), bit_and ends ((ends + bit) % 2 ^ 64))
 behind-blanks bs ends at bit few power is =

@@ -1,4 +1,4 @@
--- Cells one after another, apart by blanks and line feeds.
+-- Cells one after another, separated by blanks and line feeds.
 use Rattle.std.proofs.Common.{◌≡◌, ℕ, zero, suc, ◌+◌, ◌-◌, ◌<◌, ◌≤◌, List, [], ◌∷◌, ◌++◌, length, take, drop, get_or, Bool, true, false, Option, Some, None, Ok, cond, refl, ap, ap₂, sym, ◌∙◌, arith, append_assoc, length-take, length-drop}
 use Rattle.std.specs.Prelude.{◌==◌, ◌||◌}
 use Rattle.std.specs.Option.{option_map}
@@ -23,7 +23,7 @@ use Rattle.cell_ascii.specs.parts.InLine.{AreCellsInLine}
 newlines-append : (xs ys : List ℕ) → newlines (xs ++ ys) ≡ newlines xs + newlines ys
 newlines-append xs ys = sum_by-append (λ (x : ℕ). cond (x == 10) 1 0) xs ys
 
--- blanks and line feeds are passed
+-- blanks and line feeds before a word are skipped
 gap_passed : (line run : ℕ) (gap rest : List ℕ) (f : Bool) → list_all is_space gap ≡ true → run + length gap ≤ 1048576
     → grid_start line run (record { bytes = gap ++ rest; fails = f }) ≡ grid_start (line + newlines gap) (run + length gap) (record { bytes = rest; fails = f })
 gap_passed line run [] rest f blank room =
@@ -41,7 +41,7 @@ gap_passed line run (b ∷ gap) rest f blank room =
     ∙ gap_passed (line + cond (b == 10) 1 0) (run + 1) gap rest f parts.1 more
     ∙ ap₂ (λ (l : ℕ) (r : ℕ). grid_start l r (record { bytes = rest; fails = f })) lines count
 
--- a word after them
+-- a word after blanks and line feeds is read as the next cell
 reads_next : (h : HeaderValue) (gap word : List ℕ) (e : ℕ) (bs : List ℕ) (f : Bool) (v : CellValue)
     → list_all is_space gap ≡ true → length gap ≤ 64 → 0 < length word → length word ≤ 64 → list_all is_word_byte word ≡ true → is_space e ≡ true → cell_of_word h word ≡ Ok v
     → (line : ℕ) → cell_from h (at_of line 0 (record { bytes = gap ++ (word ++ e ∷ bs); fails = f })) ≡ Ok (v, at_of (line + newlines gap) 0 (record { bytes = e ∷ bs; fails = f }))
@@ -56,7 +56,7 @@ reads_next h gap (a ∷ word) e bs f v blank few some short w space cell line =
     ∙ ap (cell_after_word h there) (word_ahead there [] (a ∷ word) e bs f w count space)
     ∙ ap (after_cell there (record { bytes = e ∷ bs; fails = f })) cell
 
--- the same in a list of bytes: a gap, a word and a byte that ends it
+-- in a list of bytes, a gap, a word and the blank that ends it are read as the next cell
 next_cell : (h : HeaderValue) (bs : List ℕ) (g n : ℕ) (v : CellValue)
     → list_all is_space (take g bs) ≡ true → g ≤ 64 → 0 < n → n ≤ 64 → g + n < length bs → list_all is_word_byte (take n (drop g bs)) ≡ true → is_space (get_or bs (g + n) 0) ≡ true
     → cell_of_word h (take n (drop g bs)) ≡ Ok v
@@ -83,7 +83,7 @@ module _ (h : HeaderValue) (bs : List ℕ) where
   pub HoldsLines-none : HoldsLines h bs [] 0 0 0
   HoldsLines-none = λ line c. let same : line ≡ line + 0 = omega arith in ap (λ (l : ℕ). Ok ([], at_of l 0 (before_coming bs c))) same
 
-  -- one more
+  -- cells on lines may be followed by one more cell
   lines-more : (cells : List CellValue) (count n lines : ℕ) (v : CellValue) (m k : ℕ) → HoldsLines h bs cells count n lines
       → ((line : ℕ) (c : Coming) → cell_from h (at_of line 0 (before_coming (drop n bs) c)) ≡ Ok (v, at_of (line + k) 0 (before_coming (drop m (drop n bs)) c)))
       → HoldsLines h bs (cells ++ v ∷ []) (count + 1) (n + m) (lines + k)
@@ -95,7 +95,7 @@ module _ (h : HeaderValue) (bs : List ℕ) where
       ∙ ap (λ (l : ℕ). Ok (cells ++ v ∷ [], at_of l 0 (before_coming (drop m (drop n bs)) c))) all
       ∙ ap (λ (rest : List ℕ). Ok (cells ++ v ∷ [], at_of (line + (lines + k)) 0 (before_coming rest c))) (drop-drop m n bs)
 
-  -- some more
+  -- cells on lines may be followed by more cells
   pub HoldsLines-append : (cells others : List CellValue) (count more n m lines k : ℕ) → HoldsLines h bs cells count n lines → HoldsLines h (drop n bs) others more m k
       → HoldsLines h bs (cells ++ others) (count + more) (n + m) (lines + k)
   HoldsLines-append cells others count more n m lines k buffered next = λ line c.
@@ -110,14 +110,14 @@ module _ (h : HeaderValue) (bs : List ℕ) where
   run-none zero = refl
   run-none (suc count) = refl
 
-  -- cells that are apart by single spaces
+  -- cells separated by single spaces are on one line
   pub on_one_line : (cells : List CellValue) (count n : ℕ) → HoldsCells h bs cells count n → HoldsLines h bs cells count n 0
   on_one_line cells count n buffered = λ line c.
       let low : 0 < 1048576 = omega arith in
       let same : line ≡ line + 0 = omega arith in
       buffered line 0 low c ∙ ap₂ (λ (l : ℕ) (r : ℕ). Ok (cells, at_of l r (before_coming (drop n bs) c))) same (run-none count)
 
--- a word has no line feed
+-- a word contains no line feed
 word_feeds : (word : List ℕ) → list_all is_word_byte word ≡ true → newlines word ≡ 0
 word_feeds [] w = refl
 word_feeds (b ∷ word) w =
@@ -137,7 +137,7 @@ list-all-append : (xs ys : List ℕ) → list_all is_space xs ≡ true → list_
 list-all-append [] ys e f = f
 list-all-append (x ∷ xs) ys e f = let parts = both (is_space x) (list_all is_space xs) e in rw (parts.0, list-all-append xs ys parts.1 f) refl
 
--- a gap, and the blanks after it
+-- a gap and the blanks after it are a gap
 pub gap-more : (bs : List ℕ) (last at behind : ℕ) → last ≤ at → at ≤ behind
     → list_all is_space (take (at - last) (drop last bs)) ≡ true → list_all is_space (take (behind - at) (drop at bs)) ≡ true
     → list_all is_space (take (behind - last) (drop last bs)) ≡ true
@@ -159,7 +159,7 @@ gap-one bs at within blank =
     let here : take 1 (drop at bs) ≡ get_or bs at 0 ∷ [] = ap (take 1) (drop_more bs at 0 within) in
     ap (λ (k : ℕ). list_all is_space (take k (drop at bs))) one ∙ ap (list_all is_space) here ∙ rw blank refl
 
--- one word more
+-- cells on lines may be followed by one more word
 pub word-more : (h : HeaderValue) (bs : List ℕ) (cells : List CellValue) (count last at end : ℕ) (v : CellValue)
     → last ≤ at → at < end → end < 64 → end < length bs → list_all is_space (take (at - last) (drop last bs)) ≡ true → list_all is_word_byte (take (end - at) (drop at bs)) ≡ true
     → is_space (get_or bs end 0) ≡ true → cell_of_word h (take (end - at) (drop at bs)) ≡ Ok v → HoldsLines h bs cells count last (newlines (take last bs))
@@ -185,13 +185,13 @@ word-more h bs cells count last at end v le lower few within gap word blank cell
     omega (arith, ap newlines parts, newlines-append (take last bs) (take g rest ++ take n (drop g rest)), newlines-append (take g rest) (take n (drop g rest)), word_feeds (take n (drop g rest)) w) in
     rw (sum, lines) at (lines-more h bs cells count last (newlines (take last bs)) v (g + n) (newlines (take g rest)) buffered next)
 
--- what the next cells say of all that is to come
+-- the reading of all the coming bytes begins with the buffered cells
 pub lines_buffered : (h : HeaderValue) (line lines : ℕ) (bs : List ℕ) (rest : Option Coming) (cells : List CellValue) (count n : ℕ) → HoldsLines h bs cells count n lines
     → option_map (λ c. many (cell_from h) count (at_of line 0 c)) (option_map (before_coming bs) rest) ≡ option_map (λ d. Ok (cells, at_of (line + lines) 0 d)) (option_map (before_coming (drop n bs)) rest)
 lines_buffered h line lines bs None cells count n buffered = refl
 lines_buffered h line lines bs (Some c) cells count n buffered = ap Some (buffered line c)
 
--- line feeds are bytes
+-- the number of line feeds among n bytes is at most n
 pub newlines-few : (bs : List ℕ) (n : ℕ) → newlines (take n bs) ≤ n
 newlines-few bs zero = omega arith
 newlines-few [] (suc n) = omega arith
@@ -201,7 +201,7 @@ newlines-few (b ∷ bs) (suc n) = omega (arith, at_most (b == 10), newlines-appe
     at_most true = omega arith
     at_most false = omega arith
 
--- cells that were read into the lent start of a row
+-- cells read into the lent start of a row are cells read into the row
 pub lent_cells : (h : HeaderValue) (bs : List ℕ) (end : ℕ) (part row : List CellValue) (read : ℕ × ℕ × ℕ)
     → length part ≡ length (take end row) → AreCellsRead h bs (take end row) part read
     → AreCellsRead h bs row (part ++ drop end row) read
@@ -214,7 +214,7 @@ lent_cells h bs end part row read size is = record {
   rest = lent_rest read.0 end part row is.count size is.rest;
 }
 
--- cells apart by single spaces take no line
+-- cells separated by single spaces are read without a line feed
 pub in_line_read : (h : HeaderValue) (bs : List ℕ) (old new : List CellValue) (read : ℕ × ℕ)
     → AreCellsInLine h bs old new read → AreCellsRead h bs old new (read.0, read.1, 0)
 in_line_read h bs old new read is = record {

@@ -1,4 +1,4 @@
--- Words that were read before, found by their bytes; and blanks as bits of a number.
+-- Words that were read before, looked up by their bytes, and blanks as bits of a number.
 use Rattle.std.specs.Prelude.{ℕ, zero, suc, ◌+◌, ◌-◌, ◌*◌, ◌/◌, ◌^◌, ◌≡◌, ◌<◌, ◌≤◌, Bool, false, List, [], ◌∷◌, map, length, take, drop, slice_set, Ok}
 use Rattle.std.specs.Simd.Lanes.{digits_l}
 use Rattle.cell_core_devices.specs.Device.{Coming}
@@ -23,11 +23,11 @@ pub record IsCellPut (h : HeaderValue) (word : List ℕ) (i : ℕ) (old new : Li
   pub is : cell_of_word h word ≡ Ok cell
   pub row : new ≡ slice_set old i cell
 
--- which of the first 64 bytes are blanks or line feeds
+-- flags that mark the blanks and line feeds among the first 64 bytes
 abbrev pub blanks : List ℕ → List Bool
 blanks bs = map is_space (take 64 bs)
 
--- which of the first 64 bytes are line feeds
+-- flags that mark the line feeds among the first 64 bytes
 abbrev pub feeds : List ℕ → List Bool
 feeds bs = map is_line_feed (take 64 bs)
 

@@ -29,8 +29,8 @@ fn has_other_star(stars: u64, is_star_null: bool) -> bool
 }
 
 // Reads at most `most` words that end among the first 64 buffered bytes into the start of `row`, one byte per cell.
-// Returns the number of cells and where the last word ends. Returns 0 if any word is neither a number below 255 of at
-// most three digits nor a null star.
+// Returns the number of cells and the index at which the last word ends. Returns 0 if any word is neither a number
+// below 255 of at most three digits nor a null star.
 #[inline(always)]
 fn block_bytes_in(
     buffered: &[u8],

@@ -302,7 +302,7 @@ fn byte_of(cell: Cell) -> Option<u8>
 }
 
 // Reads cells from the start of a row as bytes until a word is long or a cell has no byte. Returns the number of cells,
-// and whether they fill the row and stay bytes. If not, they are written to the start of `row`.
+// and whether the cells fill the row and are kept as bytes. If not, the cells are written to the start of `row`.
 fn read_front<R: Source>(
     cells: &mut CellReader<R>,
     bytes: &mut [u8],
@@ -444,7 +444,7 @@ impl<R: Source> GridReader<R> {
         ensures fault { IfErr result (λ f. f.kind ≢ GridKind.Memory
             → IfSome (R.coming source) (λ c. opening_fault c ≡ Some f)) }
         ensures kinds { IfErr result IsOfReading }
-        // The reader stops asking the source after its end or an `Err`, and reports an `Err` as `Read`. None has
+        // The reader stops asking the source after its end or an `Err`, and reports an `Err` as `Read`. Neither has
         // occurred so far.
         ensures heard { IfOk result (λ r. r.heard ≡ heard_first (R.asked source)) }
     {
@@ -646,7 +646,7 @@ fn push_rows(
     Ok(())
 }
 
-// Returns how many rows of a region are read per call.
+// Returns the number of rows of a region that are read per call.
 fn rows_at_once(region: Region) -> u32
     ensures some { 0 < result }
     ensures few { result ≤ 1024 }

@@ -25,7 +25,7 @@ fn cell_of(number: u64) -> Cell
 }
 
 // Reads an even number of words that end among the first 64 buffered bytes, if every word has one to seven digits and
-// follows a single blank. Returns the number of words and where the last one ends.
+// follows a single blank. Returns the number of words and the index at which the last one ends.
 #[inline(always)]
 pub(crate) fn block_numbers_in(buffered: &[u8], row: &mut [Cell]) -> (usize, usize)
     requires buffered { 80 ≤ length buffered.now }

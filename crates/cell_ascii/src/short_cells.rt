@@ -210,8 +210,8 @@ fn front_alike(a: &[u8], b: &[u8]) -> usize
     }
 }
 
-// Returns how many bytes from index `n` on equal the byte `n` places earlier. May ignore some of the last buffered
-// bytes.
+// Returns the number of bytes from index `n` on that equal the byte `n` places earlier. May ignore some of the last
+// buffered bytes.
 #[inline(always)]
 fn bytes_again(buffered: &[u8], n: usize) -> usize
     requires { n ≤ length buffered.now }
@@ -246,7 +246,7 @@ fn quotient(a: usize, n: usize) -> usize
     }
 }
 
-// Returns how often the first `n` bytes and the byte after them are repeated within the buffer.
+// Returns the number of times that the first `n` bytes and the byte after them are repeated within the buffer.
 #[inline(always)]
 fn times_again(buffered: &[u8], n: usize) -> usize
     requires some { 0 < n }

@@ -27,7 +27,7 @@ use std::simd::prelude::*;
 // Number of words that are kept, in 64 KiB per open reader.
 const ENTRIES: usize = 4096;
 
-// A word's index in the table is this many top bits of its 64-bit hash.
+// A word's index in the table consists of this many top bits of its 64-bit hash.
 const PLACE_BITS: u32 = 12;
 
 // Maximum length of a kept word.
@@ -141,7 +141,7 @@ fn digits_at(bytes: &[u8]) -> usize
 }
 
 // Returns the value of `size` digits. Three multiplications combine digits into pairs, pairs into groups of four, and
-// these into eight digits.
+// groups into eight digits.
 #[inline(always)]
 fn digits_value(bytes: &[u8], size: usize) -> u64
     requires some { 0 < size }

@@ -12,7 +12,7 @@ abbrev pub rows_of : {X : Type 0} → ℕ → ℕ → List X → List (List X)
 rows_of cols zero cells = []
 rows_of cols (suc rows) cells = take cols cells ∷ rows_of cols rows (drop cols cells)
 
--- cells at the start of a row, all of its cells if they are bytes; the line number stays within its limit
+-- the number of cells at the start of a row, all of them if they are bytes; the line number stays within its limit
 pub record IsFront (cols line next : ℕ) (front : ℕ × Bool) : Type 0 where
   pub count : front.0 ≤ cols
   pub all : front.1 ≡ true → front.0 ≡ cols

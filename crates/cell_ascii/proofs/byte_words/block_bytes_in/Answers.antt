@@ -19,7 +19,7 @@ digit_no_space b e = by (is_space b) refl
     by true o = let no = space_no_digit b o in cc
     by false o = o
 
--- the ends of words, from the bits of blanks
+-- the ends of words are computed from the bits of the blanks
 ends_are : (bs : List ℕ) → 64 ≤ length bs → (m ends q : ℕ) → m ≡ mask_l (blanks bs) → ends ≡ bit_and (18446744073709551615 - m) (m / 2) % 2 ^ q → ends ≡ mask_l (take q (ends_of (blanks bs)))
 ends_are bs long m ends q is cut =
     cut ∙ ap (λ n. bit_and (18446744073709551615 - n) (n / 2) % 2 ^ q) is

@@ -31,7 +31,7 @@ fewer_left all some = omega arith
 within : (n : ℕ) {some left rows : ℕ} → some ≤ left → n + left ≡ rows → n + some ≤ rows
 within n few count = omega arith
 
--- the cells of the next rows are in the buffer
+-- the first `some` of the buffered rows have `some * cols` cells
 width_of : (cells : List CellValue) (some band cols : ℕ) → some ≤ band → length cells ≡ band * cols → length
     (take (some * cols) cells) ≡ some * cols
 width_of cells some band cols few size = let most : some * cols ≤ band * cols = mul-le-mul_right cols few in omega

@@ -3,7 +3,7 @@ use Rattle.std.proofs.lemmas.List.{take_rest}
 use Rattle.cell_ascii.proofs.LaneLemmas.{alike_longer}
 use Rattle.cell_ascii.proofs.short_cells.bytes_again.Goals as goal
 
--- bytes that come again n places later, and some more of them
+-- if `count` bytes repeat n places later, and `more` bytes after them do, all of them repeat
 longer : (buffered : List ℕ) (n count more : ℕ)
     → take count (take (length buffered - n) (drop n buffered)) ≡ take count buffered
     → take more (take (length (take (length buffered - n) (drop n buffered)) - count) (drop count (take (length buffered - n) (drop n buffered)))) ≡ take more (take (length buffered - count) (drop count buffered))

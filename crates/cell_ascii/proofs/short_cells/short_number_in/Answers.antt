@@ -12,7 +12,7 @@ after_space buffered = slice_index_or buffered 1 0 ∷ slice_index_or buffered 2
 abbrev after_minus : List ℕ → List ℕ
 after_minus buffered = slice_index_or buffered 2 0 ∷ slice_index_or buffered 3 0 ∷ slice_index_or buffered 4 0 ∷ slice_index_or buffered 5 0 ∷ drop 6 buffered
 
--- the digits, and what comes before them, are held
+-- the digits and the bytes before them are buffered
 within-space : (buffered : List ℕ) (value n : ℕ) → 6 ≤ length buffered → IsNumeral (after_space buffered) value n → (0 < n + 1) × (n + 1 ≤ length buffered)
 within-space buffered value n some is = (omega arith, omega (arith, is.within, length-drop 5 buffered))
 
