@@ -1,4 +1,4 @@
--- Bits of words, digits and stars, and the lanes that bits name.
+-- The bits of words, digits and stars, and the lanes that the set bits select.
 use Rattle.std.proofs.Common.{◌≡◌, ℕ, zero, suc, ◌+◌, ◌-◌, ◌*◌, ◌/◌, ◌%◌, ◌^◌, ◌<◌, ◌≤◌, ltb, leb, eqb, cond, Bool, true, false, T, min, max, List, [], ◌∷◌, ◌++◌, map, length, take, drop, get_or, refl, sym, ap, ap₂, ◌∙◌, arith, w8, w64, length-take, length-drop}
 use Rattle.std.specs.Prelude.{◌&&◌, ◌==◌, if◌then◌else◌}
 use Rattle.std.specs.Int.{bit_at}
@@ -23,7 +23,7 @@ bit b = cond b 1 0
 pub turned : (a : Bool) (m : ℕ) → bit a + 2 * m ≡ m * 2 ^ 1 + bit a
 turned a m = omega arith
 
--- the lower bits of a mask
+-- the lowest k bits of a mask are the mask of the first k lanes
 pub mask-take : (k : ℕ) (ms : List Bool) → mask_l ms % 2 ^ k ≡ mask_l (take k ms)
 mask-take zero ms = omega arith
 mask-take (suc k) [] = mask_l-mod [] (suc k) (omega arith)
@@ -43,7 +43,7 @@ mask-take (suc k) (m ∷ ms) =
     by_half true = omega arith
     by_half false = omega arith
 
--- the bits below a place
+-- masking with 2^n - 1 leaves as many set bits as there are below bit n
 pub below : (bits n : ℕ) → n < 64 → count_ones (bit_and bits (1 * 2 ^ n % 18446744073709551616 - 1)) ≡ count_ones (bits % 2 ^ n)
 below bits n within = ap (λ (k : ℕ). count_ones (bit_and bits (k - 1))) (one_shl n 64 within) ∙ ap count_ones (and_mask bits n)
 
@@ -134,9 +134,9 @@ module _ (words digits stars : ℕ) (D : digits < 2 ^ 64) (S : stars < 2 ^ 64) w
             omega (arith, (none e (i + 3)).four, o, upper, lower, bit_at-lt words (i + 3));
       }
 
--- ---- lanes that bits name
+-- ---- lanes that set bits select
 
--- the places of the set bits among the lowest n, the lowest of which has the number p
+-- the positions of the set bits among the lowest n bits, counted from p
 abbrev places : ℕ → ℕ → ℕ → List ℕ
 places zero p m = []
 places (suc n) p m = if m % 2 == 1 then p ∷ places n (p + 1) (m / 2) else places n (p + 1) (m / 2)
@@ -190,7 +190,7 @@ each_below (x ∷ xs) h = let parts = both (ltb x 16) (all_below 16 xs) h in (by
 abbrev row : List ℕ → ℕ → List ℕ
 row table m = take 16 (drop 0 (take (2056 - 8 * m) (drop (8 * m) table)))
 
--- the row of a number begins with the places of its bits, and each entry is a place
+-- the table's row for a number begins with the positions of its set bits, and each entry is below 16
 abbrev good : List ℕ → ℕ → Bool
 good table m = alike (take (count_ones m) (row table m)) (places 8 0 m) && (all_below 16 (row table m) && eqb (length (row table m)) 16)
 
@@ -217,7 +217,7 @@ few table m = omega (arith, length-take 16 (drop 0 (take (2056 - 8 * m) (drop (8
 pub row_fits : (table : List ℕ) → T (upto (good table) 256) → (m : ℕ) → m < 256 → SwzOk w8 16 16 0 (row table m)
 row_fits table all m lt = SwzOk-from_below w8 16 1 16 0 (row table m) refl (few table m) (row_is table all m lt).low
 
--- positions below 16 in one block of 16
+-- shuffling a block of 16 with positions below 16 selects the bytes at these positions
 swz_is : (v : List ℕ) (i : ℕ) (js : List ℕ) → i + length js ≤ 16 → Each1 (λ j. j < 16) js → swz_l w8 16 v i js ≡ map (λ j. get_or v j 0) js
 swz_is v i [] few low = refl
 swz_is v i (j ∷ js) few low =
@@ -251,9 +251,9 @@ not_three words none i lt a b d =
     let zero = ap (λ m. bit_at m (i + 2)) none ∙ bit_at-zero (i + 2) in
     absurd (omega (arith, all, front, zero, twice, shl_two words i lt, a, b, d))
 
--- ---- some lanes more
+-- ---- some more lanes
 
--- how many are set
+-- the number of true lanes
 abbrev pub trues : List Bool → ℕ
 trues [] = 0
 trues (m ∷ ms) = cond m 1 0 + trues ms
@@ -311,7 +311,7 @@ take_past : {X : Type 0} → (a b : List X) (n : ℕ) → take (length a + n) (a
 take_past [] b n = let same : 0 + n ≡ n = omega arith in ap (λ k. take k b) same
 take_past (x ∷ a) b n = let next : suc (length a) + n ≡ suc (length a + n) = omega arith in rw next (ap (λ l. x ∷ l) (take_past a b n))
 
--- what was stored first
+-- after bytes are stored at index i, the row begins with its first i bytes and the first n of the stored bytes
 pub stored_first : (i n : ℕ) (row ys : List ℕ) → i + length ys ≤ length row → n ≤ length ys → take (i + n) (put_chunk i row ys) ≡ take i row ++ take n ys
 stored_first i n row ys room few =
     let m = i + length ys in
@@ -320,7 +320,7 @@ stored_first i n row ys room few =
     sym (take-take (i + n) m (put_chunk i row ys) less) ∙ ap (take (i + n)) (take_more_put_chunk i row ys m refl room)
     ∙ ap (λ k. take (k + n) (take i row ++ ys)) (sym size) ∙ take_past (take i row) ys n
 
--- the next eight lanes
+-- the next eight lanes are the next eight bits of the mask
 pub next_eight : (k : ℕ) (bits : ℕ) (ms : List Bool) → length ms ≡ 64 → k < 8 → bits ≡ mask_l ms
     → (length (take 8 (drop (8 * k) ms)) ≡ 8) × (bit_and (bits / 2 ^ (8 * k)) 255 ≡ mask_l (take 8 (drop (8 * k) ms)))
 next_eight k bits ms size lt is =

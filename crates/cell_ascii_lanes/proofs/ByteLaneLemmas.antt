@@ -17,7 +17,7 @@ use Rattle.cell_ascii_lanes.specs.parts.LaneTables.{IsLaneTable, table_place, ca
 use lib.Bits.{bit_and}
 use lib.Lanes.{zip2, mask_l, top, sel_l, pick_l, Each1}
 
--- ---- a mask that is computed lane by lane is held to a predicate at each of the 256 bytes
+-- ---- a mask that is computed lane by lane agrees with a predicate at each of the 256 bytes
 
 abbrev pub under : ℕ → ℕ → ℕ
 under a b = cond (ltb a b) 255 0
@@ -57,7 +57,7 @@ each_byte f p all (x ∷ xs) fits = ap₂ (λ a b. a ∷ b) (same_is _ _ (upto_s
 
 -- ---- tables
 
--- the lanes that a table has at places
+-- a lookup at the positions js gives the table's lanes at js
 pub table_at : (f : ℕ → ℕ) (table : List ℕ) (i : ℕ) (js : List ℕ) → IsLaneTable f table → i + length js ≤ 64 → Each1 (λ j. j < 16) js
     → swz_l w8 16 (take 64 table) i js ≡ map f js
 table_at f table i [] is few low = refl
@@ -87,7 +87,7 @@ small_place [] k = omega arith
 small_place (x ∷ xs) zero = omega arith
 small_place (x ∷ xs) (suc k) = small_place xs k
 
--- such a table
+-- the table of a function's 16 values, repeated four times
 abbrev table_of : (ℕ → ℕ) → List ℕ
 table_of f = map (λ k. f (k % 16)) (range_with_len 0 64)
 
@@ -97,13 +97,13 @@ table_is f = λ b j few low.
     let rest : k % 16 ≡ j = omega arith in
     get_or-map-range_with_len (λ k. f (k % 16)) 0 64 k k 0 (omega arith) (omega arith) ∙ ap f rest
 
--- what a table says of a byte
+-- a lookup gives the function's value at the byte's table index
 pub looked : (f : ℕ → ℕ) (bytes : List ℕ) (p : ℕ) → p < length bytes → get_or (map f (map table_place bytes)) p 0 ≡ f (table_place (get_or bytes p 0))
 looked f bytes p within =
     let inside : p < length (map table_place bytes) = omega (arith, length-map bytes table_place) in
     get_or-map f (map table_place bytes) p 0 0 inside ∙ ap f (get_or-map table_place bytes p 0 0 within)
 
--- ---- blanks and line feeds, by the low four bits of bytes
+-- ---- blanks and line feeds, looked up with the low four bits of bytes
 
 abbrev pub low_bits : ℕ → ℕ
 low_bits b = bit_and b 15
@@ -152,7 +152,7 @@ sums_are [] ys e f g = refl
 sums_are (x ∷ xs) [] e f g = absurd (omega arith)
 sums_are (x ∷ xs) (y ∷ ys) e f g = ap₂ (λ (a : ℕ) (l : List ℕ). a ∷ l) (one_sum x y f.0.fits g.0.fits) (sums_are xs ys (omega arith) f.1 g.1)
 
--- ---- lanes one further
+-- ---- lanes moved by one place
 
 abbrev round : List ℕ
 round = 63 ∷ range_with_len 0 63
@@ -166,7 +166,7 @@ moved v p long lt =
     ap (λ l. get_or l p 0) (pick_l_left 0 v v 64 round long tt)
     ∙ get_or-map (λ k. get_or v k 0) round p 0 0 lt ∙ ap (λ k. get_or v k 0) (round_at p lt)
 
--- ---- lanes of a mask of which no bit is set
+-- ---- lanes of a mask that has no set bit
 
 pub none_at : (ms : List Bool) (p : ℕ) → length ms ≤ 64 → mask_l ms % 2 ^ 64 ≡ 0 → get_or ms p false ≡ false
 none_at ms p few none = by (get_or ms p false) (sym (bit_mask_l ms p) ∙ ap (λ n. n / 2 ^ p % 2) (sym (mask_l-mod ms 64 few) ∙ none) ∙ bit_at-zero p)
@@ -204,7 +204,7 @@ not_large x y lt e digit = by (eqb y 255) refl (sym (ap (λ b. b && eqb y 255) d
 
 -- ---- rows of bytes
 
--- more bytes of a row, of which the last were lent
+-- k more bytes of a row were read into its lent part
 pub more_bytes : (i k : ℕ) (row part after : List ℕ) → i ≤ length row → k ≤ length part → take (i + k) (take i row ++ (part ++ after)) ≡ take i row ++ take k part
 more_bytes i k row part after within few =
     let size : length (take i row) ≡ i = omega (arith, length-take i row) in
@@ -212,11 +212,11 @@ more_bytes i k row part after within few =
     ∙ take-append-add (take i row) (part ++ after) k
     ∙ ap (λ (l : List ℕ). take i row ++ l) (take-append-le k part after few)
 
--- and the cells that they stand for
+-- the k more bytes denote k more cells
 pub more_byte_cells : (i k : ℕ) (row part after : List ℕ) → i ≤ length row → k ≤ length part
     → cells_of_bytes (take (i + k) (take i row ++ (part ++ after))) ≡ cells_of_bytes (take i row) ++ cells_of_bytes (take k part)
 more_byte_cells i k row part after within few = ap cells_of_bytes (more_bytes i k row part after within few) ∙ map-append byte_cell (take i row) (take k part)
 
--- one byte more
+-- setting the next byte of a row adds its cell
 pub byte_set : (i : ℕ) (row : List ℕ) (b : ℕ) → i < length row → cells_of_bytes (take (i + 1) (set row i b)) ≡ cells_of_bytes (take i row) ++ byte_cell b ∷ []
 byte_set i row b lt = ap cells_of_bytes (take_more_set row i b lt) ∙ map-append byte_cell (take i row) (b ∷ [])

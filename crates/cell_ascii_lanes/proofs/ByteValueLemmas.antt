@@ -14,7 +14,7 @@ both : (a b : Bool) → (a && b) ≡ true → (a ≡ true) × (b ≡ true)
 both true b e = (refl, e)
 both false b e = cc
 
--- ---- what one byte adds
+-- ---- the amount that one byte adds
 
 record IsAdding (b : ℕ) : Type 0 where
   least : 48 ≤ b
@@ -62,7 +62,7 @@ adds_nothing b lt e =
     let high = higher (table_place b) (far b lt e) in
     record { ten = rw high refl; hundred = rw high refl; mask = rw high refl }
 
--- ---- words by their last bytes
+-- ---- words in terms of their last bytes
 
 and_ones : (n : ℕ) → n < 256 → bit_and 255 n ≡ n
 and_ones n lt = let all : n % 2 ^ 8 ≡ n = omega arith in and_comm 255 n ∙ and_mask n 8 ∙ all
@@ -137,7 +137,7 @@ module _ (bytes : List ℕ) (size : length bytes ≡ 64) (fits : (k : ℕ) → g
         let second = both (is_digit (byte (at + 1 + 1))) (is_digit (byte (at + 1 + 1 + 1)) && true) first.1 in
         (first.0, (second.0, (both (is_digit (byte (at + 1 + 1 + 1))) true second.1).0))
 
-    -- of one digit, by what is added to it
+    -- a word of one digit has the value of the digit
     of_one : (m : ℕ) → m ≡ 0 → at + 1 < 64 → Digits 0 → get_or values (at + 1) 0 ≡ capped_sum (as_one (place_at bytes (at + 1))) m → IsWord 0
     of_one m nothing lt digits value =
         let is = adding (byte (at + 1)) (one_digit lt digits) in
@@ -168,7 +168,7 @@ module _ (bytes : List ℕ) (size : length bytes ≡ 64) (fits : (k : ℕ) → g
         let low = ap (λ p. get_or values p 0) here in
         (low ∙ omega (arith, v, small, sum, first.least, first.most, second.least, second.most, is.least, is.most), omega (arith, low, small))
 
-  -- from the sums of two digits, where no three are in a row
+  -- the sums of two digits are the values of words if no three digits are in a row
   pub values_of_two : (values : List ℕ) → ((p : ℕ) → p < 64 → get_or values p 0 ≡ capped_sum (as_one (place_at bytes p)) (as_ten (place_at bytes (lane_before p))))
       → ((p : ℕ) → p + 2 < 64 → is_digit (byte p) ≡ true → is_digit (byte (p + 1)) ≡ true → is_digit (byte (p + 2)) ≡ true → ⊥) → AreWordValues bytes values
   values_of_two values sums not_three at zero few lt none digits =
@@ -187,7 +187,7 @@ module _ (bytes : List ℕ) (size : length bytes ≡ 64) (fits : (k : ℕ) → g
       absurd (not_three (at + 1) within all.0 all.1.0 (ap (λ p. is_digit (byte p)) (sym third) ∙ all.1.1))
   values_of_two values sums not_three at (suc (suc (suc n))) few lt none digits = absurd (omega arith)
 
-  -- and from the sums of three, of which none is large
+  -- the sums of three digits are the values of words if each sum is below 255
   pub values_of_three : (values : List ℕ) → ((p : ℕ) → p < 64 → get_or values p 0 ≡ capped_sum (as_one (place_at bytes p)) (more_at bytes (lane_before p)))
       → ((p : ℕ) → p < 64 → is_digit (byte p) ≡ true → get_or values p 0 < 255) → AreWordValues bytes values
   values_of_three values sums small at zero few lt none digits =

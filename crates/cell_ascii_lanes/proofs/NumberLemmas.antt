@@ -85,7 +85,7 @@ module _ (blanks digits : ℕ) (B : blanks < 2 ^ 64) (D : digits < 2 ^ 64) where
   eight_at : (i : ℕ) → i + 4 < 64 → bit_at eight (i + 4) ≡ min (bit_at four (i + 4)) (bit_at four i)
   eight_at i lt = bit_at_and four (four * 16 % 2 ^ 64) (i + 4) ∙ ap (min (bit_at four (i + 4))) (shl_four four i lt)
 
-  -- the same at places counted from the first of eight
+  -- the bits of two words, at places counted from the first of eight
   record Eight (i : ℕ) : Type 0 where
     two1 : bit_at two (i + 1) ≡ min (bit_at words (i + 1)) (bit_at words (i + 0))
     two3 : bit_at two (i + 3) ≡ min (bit_at words (i + 3)) (bit_at words (i + 2))
@@ -157,7 +157,7 @@ module _ (blanks digits : ℕ) (B : blanks < 2 ^ 64) (D : digits < 2 ^ 64) where
             );
       }
 
--- ---- where the bytes of a word come from
+-- ---- the source positions of a word's bytes
 
 abbrev pub sources : ℕ → List ℕ
 sources size = take 16 (drop 0 (take (24 - size) (drop size (128 ∷ 128 ∷ 128 ∷ 128 ∷ 128 ∷ 128 ∷ 128 ∷ 128 ∷ 0 ∷ 1 ∷ 2 ∷
@@ -222,7 +222,7 @@ module _ (a0 a1 a2 a3 a4 a5 a6 a7 a8 a9 a10 a11 a12 a13 a14 a15 : ℕ) (rest : L
   ended (suc (suc (suc (suc (suc (suc (suc (suc zero)))))))) le = refl
   ended (suc (suc (suc (suc (suc (suc (suc (suc (suc size))))))))) le = absurd (omega arith)
 
--- a word at the end of eight bytes
+-- shuffling moves a word of `size` bytes to the end of eight bytes, after zeros
 pub ended_word : (size : ℕ) (bs : List ℕ) → size ≤ 8 → 16 ≤ length bs
     → take 8 (swz_l w8 16 (take 16 bs) 0 (sources size)) ≡ replicate (8 - size) 0 ++ take size bs
 ended_word size [] le held = absurd (omega arith)
@@ -304,7 +304,7 @@ eight_bytes i xs le =
     e7 : (i : ℕ) → i + 4 + 3 ≡ i + 7
     e7 i = omega arith
 
--- lanes times a number, and the upper bits of each
+-- multiplying each lane and shifting it right gives the upper bits of each product
 moved_at : (p f s n : ℕ) (xs : List ℕ) → length xs ≡ n → (j : ℕ) → j < n
     → get_or (zip2 (λ a b. a / 2 ^ b) (zip2 (λ a b. a * b % p) xs (replicate n f)) (replicate n s)) j 0
     ≡ get_or xs j 0 * f % p / 2 ^ s
@@ -337,7 +337,7 @@ low_long ds long = length-zip2 bit_and ds (replicate 16 15) long ∙ long
 two_of : (a b : ℕ) → a < 10 → b < 10 → (a + 256 * b) * 2561 % 65536 / 2 ^ 8 ≡ 10 * a + b
 two_of a b A B = omega arith
 
--- the values of two digits each
+-- each lane has the value of two digits
 pub twos_at : (ds : List ℕ) → length ds ≡ 16 → ((k : ℕ) → k < 16 → get_or ds k 0 % 16 < 10) → (j : ℕ) → j < 8
     → get_or (zip2 (λ a b. a / 2 ^ b) (zip2 (λ a b. a * b % 65536) (digits_l 65536 8 (number_l 256 (low ds)))
     (replicate 8 2561)) (replicate 8 8)) j 0
@@ -363,7 +363,7 @@ bytes_below (suc n) x = (omega arith, bytes_below n (x / 256))
 four_of : (a b : ℕ) → a < 100 → b < 100 → (a + 65536 * b) * 6553601 % 4294967296 / 2 ^ 16 ≡ 100 * a + b
 four_of a b A B = omega arith
 
--- the values of four digits each
+-- each lane has the value of four digits
 pub fours_at : (ts : List ℕ) → length ts ≡ 8 → ((k : ℕ) → k < 8 → get_or ts k 0 < 100) → (j : ℕ) → j < 4
     → get_or (zip2 (λ a b. a / 2 ^ b) (zip2 (λ a b. a * b % 4294967296)
     (digits_l 4294967296 4 (number_l 256 (digits_l 256 16 (number_l 65536 ts)))) (replicate 4 6553601))
@@ -451,7 +451,7 @@ module _ (fs : List ℕ) (long : length fs ≡ 4) (few : (k : ℕ) → k < 4 →
       ∙ eight_bytes (8 * j) bs room
       ∙ rw (b0, b1, b2, b3, b4, b5, b6, b7, first, second) refl
 
-  -- the values of eight digits each
+  -- each lane has the value of eight digits
   pub eights_at : (j : ℕ) → j < 2
       → get_or (zip2 (λ a b. (a + b) % 18446744073709551616) (zip2 (λ a b. a * b % 18446744073709551616)
       (zip2 bit_and wide (replicate 2 4294967295)) (replicate 2 10000))
@@ -465,7 +465,7 @@ module _ (fs : List ℕ) (long : length fs ≡ 4) (few : (k : ℕ) → k < 4 →
 
 -- ---- words
 
--- a byte that counts: a digit, or a leading 0
+-- a byte that is read as its low four bits: a digit, or a leading 0
 record Counts (x : ℕ) : Type 0 where
   low : x % 16 ≡ x - 48
   few : x - 48 < 10
@@ -497,7 +497,7 @@ pub length-zeros : (k : ℕ) (xs : List ℕ) → length (replicate k 0 ++ xs) �
 length-zeros zero xs = omega arith
 length-zeros (suc k) xs = omega (arith, length-zeros k xs)
 
--- eight bytes that count
+-- eight bytes, each a digit or a leading 0
 record IsWord (xs : List ℕ) : Type 0 where
   size : length xs ≡ 8
   each : Each1 Counts xs
@@ -584,7 +584,7 @@ are_joined us vs xs ys long a b = record { left = left; right = right }
     right (suc (suc (suc (suc (suc (suc (suc zero))))))) lt = second 7 lt
     right (suc (suc (suc (suc (suc (suc (suc (suc k)))))))) lt = absurd (omega arith)
 
--- two words of digits, at the ends of halves
+-- two words of digits, each at the end of eight of 16 bytes
 module _ (us vs p q : List ℕ) (m n : ℕ) (long : length us ≡ 16) (few : (m ≤ 8) × (n ≤ 8))
     (held : (16 ≤ length p) × (16 ≤ length q))
     (digits : (list_all is_digit (take m p) ≡ true) × (list_all is_digit (take n q) ≡ true))
