@@ -1,4 +1,4 @@
--- The reading of the data, against the words of its lines.
+-- The reading of the data, compared with the words of its lines.
 use Rattle.std.proofs.Common.{◌≡◌, ℕ, zero, suc, ◌<◌, ◌≤◌, List, [], ◌∷◌, ◌++◌, Option, Some, None, Bool, false, refl, ap, sym, ◌∙◌, arith, Result, Ok, Err}
 use Rattle.std.specs.Option.{option_and_then}
 use Rattle.std.specs.List.{flat_map}
@@ -11,7 +11,7 @@ use Rattle.cell_ascii_meaning.specs.declared.grid_fault.GridFault.{GridFault}
 use Rattle.cell_ascii_meaning.proofs.TokenLemmas.{coming}
 use Rattle.cell_ascii_law.proofs.LexemeLemmas.{Lines, first_line, rest_lines, put, lex, before_word, next_word}
 
--- what was read, without the error
+-- the value that was read, or none if the reading failed
 abbrev pub accepted : {X : Type 0} → Result X GridFault → Option X
 accepted (Ok x) = Some x
 accepted (Err e) = None
@@ -31,7 +31,7 @@ pub then_none : {X Y : Type 0} (o : Option X) → option_and_then {U = Y} (λ _.
 then_none None = refl
 then_none (Some x) = refl
 
--- a word more ends every reading
+-- if G accepts no lines that begin with a word, G accepts no text that begins with a word
 pub no_word : {Y : Type 0} (G : Lines → Option Y) → ((x : ℕ) (xs : List ℕ) (ls : Lines) → G (put (x ∷ xs) ls) ≡ None) → (b : ℕ) (bs : List ℕ) (f : Bool) → is_space b ≡ false → None ≡ option_and_then G (lex 0 [] (b ∷ bs) f)
 no_word {Y} G none b bs f word = next_word G 0 (λ _. None) (λ e. refl) (λ x xs cs g. sym (then_agree (λ ls. G (put (x ∷ xs) ls)) (λ _. None) (none x xs) (lex 0 [] cs g) ∙ then_none {Y = Y} (lex 0 [] cs g))) b bs f word
 
@@ -43,7 +43,7 @@ bind_assoc (Err e) F G = refl
 abbrev pub Taking : Type 0 → Type 0
 Taking X = List (List ℕ) → Option (X × List (List ℕ))
 
--- what comes of a thing taken and the words after it
+-- the result for a value taken from the words and the words after it
 abbrev pub then_words : {X Y : Type 0} → (X → List (List ℕ) → Option Y) → Option (X × List (List ℕ)) → Option Y
 then_words G o = option_and_then (λ x. G x.0 x.1) o
 
@@ -69,20 +69,20 @@ take_end h rows (word ∷ words) = None
 abbrev pub take_grid : HeaderValue → List (List ℕ) → Option Grid
 take_grid h words = then_words (take_end h) (take_many (take_many (take_cell h) h.region.cols) h.region.rows words)
 
--- from any place where no word waits, F accepts what G makes of the words
+-- from any place where no word is pending, F accepts the result of G on the words that follow
 abbrev pub Agree : {X : Type 0} → (X → At → Result Grid GridFault) → (X → List (List ℕ) → Option Grid) → Type 0
 Agree {X} F G = (x : X) (line run : ℕ) (bs : List ℕ) (f : Bool) → run ≤ 1048576 → accepted (F x (at_of line run (coming bs f))) ≡ option_and_then (λ ls. G x (all_words ls)) (lex run [] bs f)
 
--- at one place, a reading continues as the taking of the words does
+-- at one place, a reading continues as taking the words does
 abbrev pub Follows : {X : Type 0} → (Lines → List (List ℕ)) → At → Option Lines → (At → Reading X) → Taking X → Type 0
 Follows {X} words at o one takes = (F : X → At → Result Grid GridFault) (G : X → List (List ℕ) → Option Grid) → Agree F G
     → accepted (one at >>= (λ x. F x.0 x.1)) ≡ option_and_then (λ ls. then_words G (takes (words ls))) o
 
--- and does so at each place where no word waits
+-- the reading follows the words from each place where no word is pending
 abbrev pub Keeps : {X : Type 0} → (At → Reading X) → Taking X → Type 0
 Keeps one takes = (line run : ℕ) (bs : List ℕ) (f : Bool) → run ≤ 1048576 → Follows all_words (at_of line run (coming bs f)) (lex run [] bs f) one takes
 
--- one more before many
+-- one more item before the items of a reading
 abbrev with_one : {X : Type 0} → X → Reading (List X) → Reading (List X)
 with_one x r = r >>= (λ y. Ok (x ∷ y.0, y.1))
 
@@ -114,7 +114,7 @@ module _ {X : Type 0} (one : At → Reading X) (takes : Taking X) (keeps : Keeps
   many_keeps zero line run bs f low = λ F G agree. agree [] line run bs f low
   many_keeps (suc n) line run bs f low = many_first n (many_keeps n) all_words (at_of line run (coming bs f)) (lex run [] bs f) (keeps line run bs f low)
 
-  -- the first of many may begin elsewhere
+  -- the reading of many items follows the words if the reading of the first item does
   pub many_follow : (n : ℕ) (words : Lines → List (List ℕ)) (at : At) (o : Option Lines) → 0 < n → Follows words at o one takes → Follows words at o (many one n) (take_many takes n)
   many_follow zero words at o some first = absurd (omega arith)
   many_follow (suc n) words at o some first = many_first n (many_keeps n) words at o first
@@ -151,7 +151,7 @@ end_agrees : (h : HeaderValue) → Agree (read_end h) (take_end h)
 end_agrees h rows line run bs f low = before_word (λ ls. take_end h rows (all_words ls)) (λ ls. refl) (λ s. accepted (end_of s >>= (λ _. Ok (whole_grid h rows)))) (λ e. refl) (λ l. refl)
     (λ l b cs g word. no_word (λ ls. take_end h rows (all_words ls)) (λ x xs ls. refl) b cs g word) bs f line run low
 
--- reading all the data
+-- the reading of all the data
 abbrev pub read_grid : HeaderValue → At → Result Grid GridFault
 read_grid h at = data_from h at >>= (λ rows. Ok (whole_grid h rows))
 
@@ -176,10 +176,10 @@ module _ (h : HeaderValue) (rows : 0 < h.region.rows) (cols : 0 < h.region.cols)
       (many_follow (cell_from h) (take_cell h) (λ l r cs g lo F G agree. cell_keeps h F G agree l r cs g lo) h.region.cols words at o cols first)
       (read_end h) (take_end h) (end_agrees h)
 
-  -- the data from its first word on
+  -- the data, read from its first word on, is the grid that is taken of the words
   pub grid_first : (w : List ℕ) (line : ℕ) (bs : List ℕ) (f : Bool) → accepted (read_grid h (record { pending = Some w; line = line; run = 0; coming = coming bs f })) ≡ option_and_then (λ ls. take_grid h (w ∷ all_words ls)) (lex 0 [] bs f)
   grid_first w line bs f = grid_follows (λ ls. w ∷ all_words ls) (record { pending = Some w; line = line; run = 0; coming = coming bs f }) (lex 0 [] bs f) (λ F G agree. cell_first h F G agree w line 0 bs f)
 
-  -- the data of a text that has ended
+  -- the data of a text that has ended is the grid that is taken of no words
   pub grid_none : (line : ℕ) → accepted (read_grid h (at_of line 0 (coming [] false))) ≡ take_grid h []
   grid_none line = grid_follows all_words (at_of line 0 (coming [] false)) (lex 0 [] [] false) (λ F G agree. cell_keeps h F G agree line 0 [] false (omega arith))

@@ -1,4 +1,4 @@
--- The cells of a map, against the words that denote them.
+-- The cells of a map, compared with the words that denote them.
 use Rattle.std.proofs.Common.{◌≡◌, ℕ, zero, suc, ◌+◌, ◌*◌, ◌<◌, ◌≤◌, List, [], ◌∷◌, Option, Some, None, length, drop, refl, ap, ◌∙◌, arith, Result, Ok, Err, subst, slice_get, length-drop}
 use Rattle.std.specs.Prelude.{slice_index_or}
 use Rattle.std.specs.Option.{option_map}
@@ -24,7 +24,7 @@ module _ (h : HeaderValue) where
   abbrev Denotes : Words → ℕ → CellValue → Type 0
   Denotes words i v = option_map (cell_of_word h) (slice_get words i) ≡ Some (Ok v)
 
-  -- the first n words denote the cells of a row, and the rest comes after them
+  -- the first n words denote the cells of a row, and `rest` has the words after them
   record IsRow (n : ℕ) (words : Words) (row : List CellValue) (rest : Words) : Type 0 where
     wide : length row ≡ n
     count : length words ≡ n + length rest
@@ -74,7 +74,7 @@ module _ (h : HeaderValue) where
       ∙ ap (then_words (λ row ws. Some (v ∷ row, ws))) (row_taken n words row (omega arith) (omega arith) (λ c less. each (suc c) (omega arith)))
 
   module _ (cols : ℕ) where
-    -- the cell of a list of rows
+    -- the cell at row r and column c of a list of rows
     abbrev cell_of : List (List CellValue) → ℕ → ℕ → CellValue
     cell_of rows r c = slice_index_or (slice_index_or rows r []) c None
 
@@ -131,7 +131,7 @@ module _ (h : HeaderValue) where
         later r c low inside = ap (option_map (cell_of_word h)) (get-drop cols words (r * cols + c))
             ∙ (let k : cols + (r * cols + c) ≡ suc r * cols + c = omega arith in ap (λ (i : ℕ). option_map (cell_of_word h) (slice_get words i)) k) ∙ each (suc r) c (omega arith) inside
 
-  -- the words denote the cells of the grid that is taken, and of no other
+  -- a grid that is taken of words has the cells that the words denote, and no others
   pub cells_read : (words : Words) (m : Grid) → take_grid h words ≡ Some m → (m ≡ whole_grid h m.rows) × DenoteCells h words m
   cells_read words m e = by (take_many (take_many (take_cell h) h.region.cols) h.region.rows words) (rows_read h.region.cols h.region.rows words) e
     where

@@ -1,4 +1,4 @@
--- The reading of a whole text, against the words of its lines.
+-- The reading of a full text, compared with the words of its lines.
 use Rattle.std.proofs.Common.{◌≡◌, ℕ, zero, suc, ◌+◌, ◌<◌, ◌≤◌, List, [], ◌∷◌, ◌++◌, Option, Some, None, Bool, true, false, refl, ap, sym, ◌∙◌, arith, Result, Ok, Err, if◌then◌else◌}
 use Rattle.std.specs.Option.{option_and_then}
 use Rattle.std.specs.List.{filter, before_first, after_first}
@@ -26,7 +26,7 @@ at_header (Err kind) words = None
 abbrev pub take_data : KeyValues → List (List ℕ) → Option Grid
 take_data keys words = at_header (header_of keys) words
 
--- the keys with the key of a header line, which has one value
+-- the keys and the key of a header line, whose value must be a single word
 abbrev pub with_values : KeyValues → Option HeaderKey → List (List ℕ) → Result KeyValues GridKind
 with_values keys key [] = Err BadHeader
 with_values keys key (value ∷ []) = with_header_key keys key value
@@ -39,7 +39,7 @@ abbrev pub after_key : {Y : Type 0} → Result KeyValues GridKind → (KeyValues
 after_key (Ok keys) rest = rest keys
 after_key (Err kind) rest = None
 
--- the header lines, and then what is taken of the words of the data
+-- the keys of the header lines, followed by what `take` reads from the words of the data
 abbrev pub take_by : {Y : Type 0} → (KeyValues → List (List ℕ) → Option Y) → KeyValues → Lines → Option Y
 take_by take keys [] = take keys []
 take_by take keys ([] ∷ ls) = take_by take keys ls
@@ -50,7 +50,7 @@ take_by take keys ((w ∷ ws) ∷ ls) =
 abbrev pub take_text : KeyValues → Lines → Option Grid
 take_text = take_by take_data
 
--- the data of an opened text
+-- the map that is read from the data of an opened text
 abbrev pub read_opened : OpenedText → Result Grid GridFault
 read_opened o = read_grid o.header o.at
 
@@ -75,7 +75,7 @@ module _ (keys : KeyValues) (line : ℕ) where
       by (Ok h) e = let good = sides h.region (header_given keys h e).good in grid_none h good.0 good.1 line
       by (Err kind) e = refl
 
--- the value after a colon that ends its word, by what ends the blanks
+-- the value after a colon at the end of a word, given how the blanks end
 abbrev pub value_at : ℕ → Gap → Result (List ℕ × Coming) GridFault
 value_at line (Word d) = word_from line [] d
 value_at line (Feed run d) = Err (record { kind = BadHeader; line = line })
@@ -95,7 +95,7 @@ value_is line c = by (gap_of line 0 c) refl
 module _ (rest : KeyValues → ℕ → ℕ → Coming → Result OpenedText GridFault) (line : ℕ) (keys : KeyValues)
     (key : Option HeaderKey)
     (follows : (more : KeyValues) → open_keys more < open_keys keys → (l run : ℕ) (bs : List ℕ) (f : Bool) → run ≤ 1048576 → accepted (rest more l run (coming bs f) >>= read_opened) ≡ option_and_then (take_text more) (lex run [] bs f)) where
-  -- what is accepted from the end of the value on
+  -- the map that is accepted from the end of the value on
   abbrev closed : LineEnd → Result KeyValues GridKind → Option Grid
   closed end r = accepted (((at_line line r >>= (λ more. Ok (more, end))) >>= after_line rest line) >>= read_opened)
 
@@ -138,11 +138,11 @@ module _ (rest : KeyValues → ℕ → ℕ → Coming → Result OpenedText Grid
       goes : Lines → Option Grid
       goes ls = taken (filter is_word ([] ∷ first_line ls)) ls
 
--- what is accepted from the first word of a line on
+-- the map that is accepted from the first word of a line on
 abbrev from_word : (KeyValues → ℕ → ℕ → Coming → Result OpenedText GridFault) → KeyValues → ℕ → Result (List ℕ × Coming) GridFault → Option Grid
 from_word rest keys line r = accepted ((r >>= (λ w. if has_colon w.0 then key_line line keys w.0 w.1 >>= after_line rest line else opened_text keys line (Some w.0) w.1)) >>= read_opened)
 
--- the reading of a text from a line on
+-- reading a text from a line on accepts the map that its lines denote
 pub header_is : (fuel : ℕ) (keys : KeyValues) → open_keys keys < fuel → (line run : ℕ) (bs : List ℕ) (f : Bool) → run ≤ 1048576
     → accepted (header_from fuel keys line run (coming bs f) >>= read_opened) ≡ option_and_then (take_text keys) (lex run [] bs f)
 unfolding header_from

@@ -1,4 +1,4 @@
--- The header that is read of a text is the header of its header lines, whatever comes after them.
+-- The header that is read from a text is the header of its header lines, for any data after them.
 use Rattle.std.proofs.Common.{◌≡◌, ℕ, zero, suc, ◌+◌, ◌<◌, ◌≤◌, List, [], ◌∷◌, ◌++◌, Option, Some, None, ◌==◌, Bool, true, false, cond, length, refl, ap, sym, ◌∙◌, arith, if◌then◌else◌, length-append, Result, Ok, Err, subst, ◌⊎◌, inl, inr}
 use Rattle.std.specs.List.{filter, before_first, after_first}
 use Rattle.std.proofs.lemmas.Bool.{cases_Bool, cases_lt}
@@ -23,11 +23,11 @@ use Rattle.cell_ascii_law.proofs.TextLawLemmas.{with_lines, text_parts, header_r
 none_some : {X A : Type 0} (x : X) → None ≡ Some x → A
 none_some x e = let h : ⊥ = cc in absurd h
 
--- a space before a text
+-- a blank before a text leaves its words as they are, and a line feed also begins a new line
 lines_after : (b : ℕ) (bs : List ℕ) → is_space b ≡ true → line_words (b ∷ bs) ≡ opening (b == 10) (line_words bs)
 lines_after b bs space = lines_space [] b bs tt space
 
--- If k comes to y from what is read next, G of the lines of the text is y.
+-- If reading the coming bytes gives y by k, G gives y for the lines of the text.
 module _ {Y : Type 0} (y : Y) (G : Lines → Option Y) where
   opened_lines : (skips : (ls : Lines) → G ([] ∷ ls) ≡ G ls) (t : Bool) (ls : Lines) → G ls ≡ Some y
       → G (opening t ls) ≡ Some y
@@ -88,7 +88,7 @@ module _ {Y : Type 0} (y : Y) (G : Lines → Option Y) where
             ∙ on (omega (arith, length-append xs (b ∷ []))) (free_more is_space (x ∷ xs) b free word)
             (sym (ap k (word-more line (x ∷ xs) short b bs f word)) ∙ e)
 
-    -- a word from its first byte on
+    -- if the reading gives y from the first byte of a word on, so does G for the lines of the text
     from_word : (b : ℕ) (bs : List ℕ) (f : Bool) → is_space b ≡ false
         → k (word_from line [] (coming (b ∷ bs) f)) ≡ Some y
         → G (line_words (b ∷ bs)) ≡ Some y
@@ -122,7 +122,7 @@ module _ {Y : Type 0} (y : Y) (G : Lines → Option Y) where
             none_some y
             (sym (ap k (gap-stuck line run low b bs f space full) ∙ fails (grid_fault ReaderStuck line)) ∙ e)
 
--- the header that is read
+-- the header of an opened text, or none if the opening failed
 abbrev said : Result OpenedText GridFault → Option HeaderValue
 said (Ok o) = Some o.header
 said (Err e) = None
@@ -131,7 +131,7 @@ abbrev given_header : Result HeaderValue GridKind → Option HeaderValue
 given_header (Ok h) = Some h
 given_header (Err kind) = None
 
--- the header of the keys, whatever the words of the data are
+-- the header of the keys, for any words of the data
 abbrev pub take_header : KeyValues → List (List ℕ) → Option HeaderValue
 take_header keys words = given_header (header_of keys)
 
@@ -202,7 +202,7 @@ module _ (h : HeaderValue) (rest : KeyValues → ℕ → ℕ → Coming → Resu
       (λ x xs ds g. value_end (x ∷ xs) ds g) b cs g word)
       (λ run cs g low e. none_some h e) bs f 0 (omega arith) (sym (ap from_value (value_is line (coming bs f))) ∙ e)
 
--- what is said from the first word of a line on
+-- the header that is read from the first word of a line on
 abbrev said_word : (KeyValues → ℕ → ℕ → Coming → Result OpenedText GridFault) → KeyValues → ℕ
     → Result (List ℕ × Coming) GridFault
     → Option HeaderValue
@@ -247,7 +247,7 @@ header_said h (suc fuel) keys line run bs f low e =
             from_word h (take_lines keys) l (said_word rest keys l) (λ e. refl)
             (λ x xs ds k. first l x xs ds k (has_colon (x ∷ xs))) b cs g word
 
--- the header that the lines give is the header of their header lines
+-- the header that is taken of all lines is the header of their header lines
 lines_say : (ls : Lines) (h : HeaderValue) → take_lines no_keys ls ≡ Some h → IsHeader (header_lines ls) h
 lines_say ls h e = by (with_lines no_keys (header_lines ls)) refl (sym (text_parts take_header ls no_keys) ∙ e)
   where

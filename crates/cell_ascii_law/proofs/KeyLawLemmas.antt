@@ -1,4 +1,4 @@
--- The keys of a header: what one more changes, and what all of them give.
+-- The keys of a header: the effect of one more key, and the header of all keys.
 use Rattle.std.proofs.Common.{◌≡◌, ℕ, suc, ◌+◌, ◌<◌, ℤ, List, [], Option, Some, None, Bool, true, false, is_some, refl, ap, sym, ◌∙◌, arith, Result, Ok, Err, not, subst}
 use Rattle.std.specs.Prelude.{nat_le, unwrap_or, if◌then◌else◌}
 use Rattle.std.specs.Option.{option_map}
@@ -23,7 +23,7 @@ abbrev pub stood : Bool → Option (Unit {0})
 stood true = Some tt
 stood false = None
 
--- what stands for a key
+-- the value that was given for a key
 abbrev pub held : KeyValues → HeaderKey → Option Value
 held k North = option_map Number k.north
 held k South = option_map Number k.south
@@ -35,7 +35,7 @@ held k Null = option_map Text k.null
 held k CellType = option_map (λ _. Text []) (stood k.kind)
 held k Multiplier = option_map Number k.multiplier
 
--- the value that a word gives a key
+-- the value that a word denotes for a key
 abbrev pub number_of : HeaderKey → List ℕ → Option Value
 number_of North value = option_map Number (coordinate value)
 number_of South value = option_map Number (coordinate value)
@@ -51,7 +51,7 @@ abbrev pub open_one : {X : Type 0} → Option X → ℕ
 open_one None = 1
 open_one (Some x) = 0
 
--- how many keys are not given yet
+-- the number of keys that are not yet given
 abbrev pub open_keys : KeyValues → ℕ
 open_keys k = open_one k.north + open_one k.south + open_one k.east + open_one k.west + open_one k.rows + open_one k.cols + open_one k.null + open_one (stood k.kind) + open_one k.multiplier
 
@@ -60,7 +60,7 @@ given_is (Some old) value keep k e = cc
 given_is None None keep k e = cc
 given_is None (Some x) keep k e = (refl, x, refl, cc)
 
--- k is a with one key more, whose value gives a number
+-- k has the keys of a and the key q, whose value denotes a number
 pub record IsGiven (a : KeyValues) (q : HeaderKey) (value : List ℕ) (k : KeyValues) : Type 0 where
   pub free : held a q ≡ None
   pub number : is_some (number_of q value) ≡ true
@@ -68,7 +68,7 @@ pub record IsGiven (a : KeyValues) (q : HeaderKey) (value : List ℕ) (k : KeyVa
   pub others : (p : HeaderKey) → (p ≡ q → ⊥) → held k p ≡ held a p
   pub fewer : suc (open_keys k) ≡ open_keys a
 
--- a key of a field that is kept by its value
+-- a key whose value is kept in one field
 module _ (a : KeyValues) (q : HeaderKey) (value : List ℕ) (k : KeyValues) {X : Type 0} (wrap : X → Value)
     (get : KeyValues → Option X) (read : Option X) (keep : X → KeyValues)
     (sees : (m : KeyValues) → held m q ≡ option_map wrap (get m)) (gives : number_of q value ≡ option_map wrap read)
@@ -176,7 +176,7 @@ pub key_known : (a : KeyValues) (key : Option HeaderKey) (value : List ℕ) (k :
 key_known a None value k e = cc
 key_known a (Some q) value k e = (q, refl, key_given a q value k e)
 
--- a key that was not given is taken if its value gives a number
+-- a key that was not yet given is accepted if its value denotes a number
 pub key_taken : (a : KeyValues) (q : HeaderKey) (value : List ℕ) → held a q ≡ None → is_some (number_of q value) ≡ true → (k : KeyValues) × (with_header_key a (Some q) value ≡ Ok k)
 key_taken a q value = by q
   where
@@ -213,7 +213,7 @@ key_taken a q value = by q
     by CellType e s = typed a.kind (is_int value) e s
     by Multiplier e s = takes a.multiplier (whole_in_range value) (λ x. record a { multiplier = Some x }) (free Number a.multiplier e) (wrapped Number (whole_in_range value) s)
 
--- the keys are the keys of a header with a good region
+-- the keys are the keys of a header with a valid region
 pub record IsHeaderOf (k : KeyValues) (h : HeaderValue) : Type 0 where
   pub north : k.north ≡ Some h.region.north
   pub south : k.south ≡ Some h.region.south
@@ -260,12 +260,12 @@ header_given k h e = by k.north k.south k.east k.west k.rows k.cols e
         (record { north = refl; south = refl; east = refl; west = refl; rows = refl; cols = refl; null = refl; multiplier = refl; good = good.1 })
     by n s e w r c j = cc
 
--- and the keys of a header with a good region give it
+-- the keys of a header with a valid region give that header
 pub header_kept : (k : KeyValues) (h : HeaderValue) → IsHeaderOf k h → header_of k ≡ Ok h
 header_kept k h is = (λ i. header_of (record k { north = is.north i; south = is.south i; east = is.east i; west = is.west i; rows = is.rows i; cols = is.cols i })) ∙ ap (header_of_keys k) is.good
     ∙ (λ i. Ok (record { region = h.region; null_text = is.null i; multiplier = is.multiplier i }))
 
--- a good region has rows and columns
+-- a valid region has at least one row and one column
 pub sides : (region : RegionValue) → region_fault region ≡ Ok region → (0 < region.rows) × (0 < region.cols)
 sides region good = by (is_rectangle region) (is_side region.rows) (is_side region.cols) refl refl good
   where

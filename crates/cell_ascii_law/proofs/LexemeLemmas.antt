@@ -1,4 +1,4 @@
--- The words of each line of a text, byte by byte, and the steps of the reading against them.
+-- The words of each line of a text, byte by byte, compared with the steps of the reading.
 use Rattle.std.proofs.Common.{◌≡◌, ℕ, ◌+◌, ◌<◌, ◌≤◌, List, [], ◌∷◌, ◌++◌, Option, Some, None, ◌==◌, Bool, true, false, cond, length, length-append, refl, ap, sym, ◌∙◌, arith, if◌then◌else◌, Result, Ok, Err, ◌⊎◌, inl, inr}
 use Rattle.std.specs.Option.{option_map, option_and_then}
 use Rattle.std.proofs.lemmas.Bool.{cases_Bool, cases_lt}
@@ -25,7 +25,7 @@ abbrev pub rest_lines : Lines → Lines
 rest_lines [] = []
 rest_lines (l ∷ ls) = ls
 
--- a word before the first line
+-- a word added at the start of the first line
 abbrev pub put : List ℕ → Lines → Lines
 put w ls = (w ∷ first_line ls) ∷ rest_lines ls
 
@@ -37,8 +37,8 @@ abbrev pub opening : Bool → Lines → Lines
 opening true ls = [] ∷ ls
 opening false ls = ls
 
--- the words of each line of what is to come, after `run` spaces or a part of a word; none if the text exceeds the limits
--- or fails
+-- the words of each line of the coming bytes, after `run` spaces or the start of a word;
+-- none if the text exceeds the limits or a read fails
 abbrev pub lex : ℕ → List ℕ → List ℕ → Bool → Option Lines
 lex run token [] true = None
 lex run token [] false = Some (put_token token ([] ∷ []))
@@ -58,7 +58,7 @@ lex-word run token b bs f word room = let t : nat_lt (length token) 64 ≡ true 
 pub lex-long : (run : ℕ) (token : List ℕ) (b : ℕ) (bs : List ℕ) (f : Bool) → is_space b ≡ false → 64 ≤ length token → lex run token (b ∷ bs) f ≡ None
 lex-long run token b bs f word full = let t : nat_lt (length token) 64 ≡ false = grind (arith, nat_tests) in rw (word, t)
 
--- before a word the run does not matter
+-- before a word, the length of the run makes no difference
 lex-begins : (run : ℕ) (b : ℕ) (bs : List ℕ) (f : Bool) → is_space b ≡ false → lex run [] (b ∷ bs) f ≡ lex 0 [] (b ∷ bs) f
 lex-begins run b bs f word = lex-word run [] b bs f word (omega arith) ∙ sym (lex-word 0 [] b bs f word (omega arith))
 
@@ -112,7 +112,7 @@ module _ {Y : Type 0} (G : Lines → Option Y) where
         by on (inr word) (inr full) = ap k (word-long line (x ∷ xs) short b bs f word full) ∙ fails (grid_fault LongToken line) ∙ ap (option_and_then G) (sym (lex-long 0 (x ∷ xs) b bs f word full))
         by on (inr word) (inl room) = ap k (word-more line (x ∷ xs) short b bs f word) ∙ on (omega (arith, length-append xs (b ∷ []))) ∙ ap (option_and_then G) (sym (lex-word 0 (x ∷ xs) b bs f word room))
 
-    -- a word from its first byte on
+    -- a reading agrees with the words from the first byte of a word on
     pub next_word : (b : ℕ) (bs : List ℕ) (f : Bool) → is_space b ≡ false → k (word_from line [] (coming (b ∷ bs) f)) ≡ option_and_then G (lex 0 [] (b ∷ bs) f)
     next_word b bs f word = ap k (word-more line [] (omega arith) b bs f word) ∙ in_word bs f b [] (omega arith) ∙ ap (option_and_then G) (sym (lex-word 0 [] b bs f word (omega arith)))
 

@@ -1,4 +1,4 @@
--- Which texts are within the limits, and the words of their lines.
+-- The texts within the limits, and the words of their lines.
 use Rattle.std.proofs.Common.{◌≡◌, ℕ, ◌+◌, ◌<◌, ◌≤◌, List, [], ◌∷◌, ◌++◌, Option, Some, None, ◌==◌, Bool, true, false, cond, length, map, refl, ap, sym, ◌∙◌, arith, append-nil, append_assoc, length-append, subst, ◌⊎◌, inl, inr}
 use Rattle.std.specs.Option.{option_map}
 use Rattle.std.specs.List.{All, slice_split, onto_first, filter, list_all}
@@ -9,7 +9,7 @@ use Rattle.cell_ascii_meaning.specs.GridText.{is_word, grid_words_of, lines_of, 
 use Rattle.cell_ascii_meaning.proofs.TokenLemmas.{no_feed}
 use Rattle.cell_ascii_law.proofs.LexemeLemmas.{Lines, put_token, opening, lex, lex-space, lex-stuck, lex-word, lex-long}
 
--- bytes that p lets through
+-- no byte satisfies p
 abbrev pub IsFree : (ℕ → Bool) → List ℕ → Type 0
 IsFree p [] = Unit {0}
 IsFree p (b ∷ bs) = (p b ≡ false) × IsFree p bs
@@ -120,7 +120,7 @@ words_short text ws e short = subst (λ (vs : List (List ℕ)). All (λ w. lengt
 pub one_more : (t : List ℕ) (b : ℕ) (bs : List ℕ) → (t ++ b ∷ []) ++ bs ≡ t ++ b ∷ bs
 one_more t b bs = append_assoc t (b ∷ []) bs
 
--- a word that continues has at most 64 bytes so far
+-- an unfinished word of a text with short words has at most 64 bytes
 token_short : (bs t : List ℕ) → IsFree is_space t → AreShort (t ++ bs) → length t ≤ 64
 token_short [] t free short = first_short t [] (words_short (t ++ []) (as_word t ++ []) (words_alone t free ∙ sym (append-nil (as_word t))) short)
 token_short (b ∷ bs) t free short = by (token_short bs (t ++ b ∷ [])) (cases_Bool (is_space b))
@@ -246,7 +246,7 @@ lexes (b ∷ bs) run t free short are = by (lexes bs (run + 1) []) (lexes bs 0 (
         let h = token_short bs (t ++ b ∷ []) free' s in
         lex-word run t b bs false word (omega (arith, length-append t (b ∷ []))) ∙ inside free' s (word_gaps run b bs are) ∙ ap (λ (l : List ℕ). Some (line_words l)) (one_more t b bs)
 
--- the words of a text are read line by line exactly if it is within the limits and ends
+-- if the words of a text are read line by line, no read fails, and the text is within the limits
 pub limits_are : (bs : List ℕ) (f : Bool) (ls : Lines) → lex 0 [] bs f ≡ Some ls → (f ≡ false) × IsWithinLimits bs × (ls ≡ line_words bs)
 limits_are bs f ls e = let g = lexed bs f 0 [] tt (omega arith) (omega arith) ls e in (g.ends, record { words = g.words; gaps = λ front gap back e s. g.gaps.later front gap back e s }, g.lines)
 

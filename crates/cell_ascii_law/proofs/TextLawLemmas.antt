@@ -1,4 +1,4 @@
--- The header lines of a text, against what is said of a header.
+-- The header lines of a text, compared with the definition of its header.
 use Rattle.std.proofs.Common.{◌≡◌, ℕ, ℤ, suc, ◌+◌, List, [], ◌∷◌, ◌++◌, Option, Some, None, Bool, true, false, cond, not, is_some, length, take, drop, map, refl, ap, sym, ◌∙◌, arith, Result, Ok, Err, subst, slice_get, ◌⊎◌, inl, inr, if◌then◌else◌}
 use Rattle.std.specs.Prelude.{codes, bytes_eq, IsSome, unwrap_or}
 use Rattle.std.specs.Option.{option_map, option_and_then}
@@ -117,7 +117,7 @@ only_its_key l q p e has =
     let some : Some p ≡ Some q = sym (key_named p) ∙ ap header_key_of same ∙ e in
     cc
 
--- it has the key p, or its own is another
+-- a line with the key q has the key p only if p is q
 key_cases : (l : List (List ℕ)) (q p : HeaderKey) → header_key_of (key_text l) ≡ Some q → (p ≡ q) ⊎ ((has_key p l ≡ false) × (p ≡ q → ⊥))
 key_cases l q p e = by (cases_Bool (has_key p l))
   where
@@ -125,7 +125,7 @@ key_cases l q p e = by (cases_Bool (has_key p l))
     by (inl has) = inl (only_its_key l q p e has)
     by (inr other) = inr (other, λ same. both_ways (has_key p l) other (ap (λ (k : HeaderKey). has_key k l) same ∙ has_its_key l q e))
 
--- the first line with a key, and the number of its first value
+-- the first line with the key p
 abbrev pub line_of : HeaderKey → Lines → Option (List (List ℕ))
 line_of p ls = find (has_key p) ls
 
@@ -141,7 +141,7 @@ line_first l ls q e = ap (λ (t : Bool). cond t (Some l) (line_of q ls)) (has_it
 line_later : (l : List (List ℕ)) (ls : Lines) (p : HeaderKey) → has_key p l ≡ false → line_of p (l ∷ ls) ≡ line_of p ls
 line_later l ls p e = ap (λ (t : Bool). cond t (Some l) (line_of p ls)) e
 
--- no line has a key exactly if the key is not found
+-- if no line with a key is found, no line has the key
 none_found : (t : List ℕ) (p : HeaderKey) → t ≡ name_of p → (ls : Lines) → line_of p ls ≡ None → AllByRecursion (λ y. bytes_eq t y ≡ false) (map key_text ls)
 none_found t p is [] e = tt
 none_found t p is (l ∷ ls) e = by (cases_Bool (has_key p l)) (none_found t p is ls)
@@ -154,7 +154,7 @@ not_found : (t : List ℕ) (p : HeaderKey) → t ≡ name_of p → (ls : Lines) 
 not_found t p is [] all = refl
 not_found t p is (l ∷ ls) all = line_later l ls p (ap (λ (u : List ℕ). bytes_eq u (key_text l)) (sym is) ∙ all.0) ∙ not_found t p is ls all.1
 
--- What header lines add to the keys that were given before them.
+-- The changes that header lines make to the keys given before them.
 pub record IsTaken (a k : KeyValues) (ls : Lines) : Type 0 where
   pub one_value : All (λ l. length (line_values l) ≡ 1) ls
   pub known : All (λ l. IsSome (header_key_of (key_text l))) ls
@@ -178,7 +178,7 @@ numbered : (o : Option Value) → is_some o ≡ true → (x : Value) × (o ≡ S
 numbered None e = cc
 numbered (Some x) e = (x, refl)
 
--- the first value of a line
+-- the first value of a line, if there is a line
 abbrev pub value_at : Option (List (List ℕ)) → Option (List ℕ)
 value_at o = option_and_then (λ l. slice_get (line_values l) 0) o
 
@@ -192,7 +192,7 @@ pub line_then : (a b k : KeyValues) (l : List (List ℕ)) (ls : Lines) → with_
 line_then a b k l ls first rest =
     ap (λ (r : Result KeyValues GridKind). then_keys r (λ k. with_lines k ls)) first ∙ rest
 
--- a line whose key is q, with the one value v, between a and b
+-- a line with the key q and the single value v, between the keys a and b
 module _ (a b : KeyValues) (l : List (List ℕ)) (ls : Lines) (q : HeaderKey) (v : List ℕ) (is : header_key_of (key_text l) ≡ Some q) (one : line_values l ≡ v ∷ []) (given : IsGiven a q v b) where
   taken_more : (k : KeyValues) → IsTaken b k ls → IsTaken a k (l ∷ ls)
   unfolding IsDistinct
@@ -254,7 +254,7 @@ lines_taken (l ∷ ls) a k e = by (with_line a l) refl (lines_taken ls) e
         let q = key_known a (header_key_of (key_text l)) v.0 b v.2 in
         taken_more a b l ls q.0 v.0 q.1 v.1 q.2 k (on b k e)
 
--- What header lines need to be taken after the keys that were given before.
+-- The conditions under which header lines are accepted after the keys given before them.
 record IsReady (a : KeyValues) (ls : Lines) : Type 0 where
   one_value : All (λ l. length (line_values l) ≡ 1) ls
   known : All (λ l. IsSome (header_key_of (key_text l))) ls
@@ -305,7 +305,7 @@ lines_ready (l ∷ ls) a are = by (held a q.0) refl (lines_ready ls)
         let rest = on b.0 (ready_more a b.0 l ls q.0 v.0 q.1 v.1 (key_given a q.0 v.0 b.0 b.1) are) in
         (rest.0, line_then a b.0 rest.0 l ls ((λ i. with_values a (q.1 i) (v.1 i)) ∙ b.1) rest.1)
 
--- Values of one kind are equal if their contents are.
+-- Values of one kind are equal only if their numbers are.
 pub same_number : (x y : ℤ) → Number x ≡ Number y → x ≡ y
 same_number x y e = cc
 
@@ -348,7 +348,7 @@ module _ {X : Type 0} (wrap : X → Value) (same : (x y : X) → wrap x ≡ wrap
       by None s e = cc
       by (Some y) s e = ap Some e
 
--- header lines with the keys of a header are that header
+-- header lines that give the keys of a header have that header
 pub header_read : (ls : Lines) (k : KeyValues) (h : HeaderValue) → with_lines no_keys ls ≡ Ok k → IsHeaderOf k h
     → IsHeader ls h
 header_read ls k h e is = record {
@@ -427,7 +427,7 @@ header_taken ls h is = (
     are : IsTaken no_keys taken.0 ls
     are = lines_taken ls no_keys taken.0 taken.1
 
--- What the words of the lines denote is a map with that header and those cells.
+-- The map that the words of the lines denote has that header and those cells.
 pub text_read : (ls : Lines) (m : Grid) → take_text no_keys ls ≡ Some m → (h : HeaderValue) × IsHeader (header_lines ls) h × DenoteCells h (data_words ls) m × (m ≡ whole_grid h m.rows)
 text_read ls m e = by (with_lines no_keys (header_lines ls)) refl (sym (text_parts take_data ls no_keys) ∙ e)
   where

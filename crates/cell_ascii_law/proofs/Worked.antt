@@ -1,4 +1,4 @@
--- Worked texts: the map that each denotes, or its error.
+-- Worked texts: the map that each text denotes, or its error.
 use Rattle.std.proofs.Common.{◌≡◌, Bool, true, false, ℕ, List, [], ◌∷◌, ◌++◌, Option, Some, None, refl, Ok, pos, negsuc}
 use Rattle.std.specs.Prelude.{codes}
 use Rattle.std.specs.List.{flat_map}
@@ -14,7 +14,7 @@ use Rattle.cell_ascii_meaning.specs.declared.grid_fault.GridFault.{GridFault}
 use Rattle.cell_ascii_meaning.specs.declared.grid_fault.GridKind.TheVariants.{BadHeader, TwiceKey, MissingKey, BadNumber, BadType, Region, BadCell, CellRange, TooFew, TooMany, Read, LongToken, ReaderStuck}
 use Rattle.cell_ascii_law.proofs.GridLawLemmas.{reading_agrees}
 
--- each ended by a line feed
+-- each line followed by a line feed
 abbrev lines : List (List ℕ) → List ℕ
 lines ls = flat_map (λ l. l ++ 10 ∷ []) ls
 
@@ -118,7 +118,7 @@ row_read = refl
 row_denoted : Denotes (record { bytes = row_of (codes "3") (codes "-9 9 -2"); fails = false }) row
 row_denoted = (reading_agrees (record { bytes = row_of (codes "3") (codes "-9 9 -2"); fails = false }) row).0 row_read
 
--- without a null text and a multiplier: an asterisk and 1
+-- without a null text and a multiplier, they are an asterisk and 1
 abbrev plain_text : List ℕ
 plain_text = 10 ∷ codes "north: 2.5" ++ 13 ∷ 10 ∷ codes "south:0" ++ 10 ∷ 32 ∷ 10 ∷ codes " east:1" ++ 10 ∷ codes "west: -1" ++ 10 ∷ codes "rows: 2" ++ 10 ∷ codes "cols:2" ++ 10 ∷ codes " 1 * -7" ++ 10 ∷ 10 ∷ codes "+4" ++ 10 ∷ []
 
@@ -129,7 +129,7 @@ plain_read : grid_of (record { bytes = plain_text; fails = false }) ≡ Ok plain
 unfolding grid_start word_from header_from gap_of cell_from grid_of
 plain_read = refl
 
--- the opening of a text, which judges no cell
+-- the error of opening a text, which checks no cell
 abbrev opens : List ℕ → Option GridFault
 opens bs = opening_fault (record { bytes = bs; fails = false })
 

@@ -1,4 +1,4 @@
--- The digits of a number, and what is left of them without the zeros at their end.
+-- The digits of a number, and the digits without the zeros at the end.
 use Rattle.std.proofs.Common.{◌≡◌, ℕ, zero, suc, ◌+◌, ◌-◌, ◌*◌, ◌^◌, ◌<◌, ◌≤◌, List, [], ◌∷◌, ◌++◌, length, drop, take, replicate, reverse, Bool, true, false, ◌==◌, decimal, refl, ap, sym, ◌∙◌, arith, cond, fold, ◌⊎◌, inl, inr, rules, subst}
 use Rattle.std.proofs.Math.Nat.{pow-suc}
 use Rattle.std.proofs.Math.Seq.{take-append_seam}
@@ -18,7 +18,7 @@ value_after n ds = fold (λ m b. m * 10 + (b - 48)) n ds
 own : IsNumeralModel (λ ds. list_all is_digit ds ≡ true) value_of_digits
 own = numerals_by_fold _ (search rules) value_after (search rules)
 
--- one digit or more, of this value
+-- at least one digit, with the value n
 pub record IsNumeralOf (n : ℕ) (ds : List ℕ) : Type 0 where
   pub digits : list_all is_digit ds ≡ true
   pub value : value_of_digits ds ≡ n
@@ -27,7 +27,7 @@ pub record IsNumeralOf (n : ℕ) (ds : List ℕ) : Type 0 where
 pub numeral : (n : ℕ) → n < 2 ^ 64 → IsNumeralOf n (decimal n)
 numeral n low = record { digits = digits_decimal own n low; value = digits_value-decimal own n low; some = decimal_nonempty n low }
 
--- digits after a number
+-- digits after a number add their value to the number times a power of ten
 value_behind : (n : ℕ) (ds : List ℕ) → value_after n ds ≡ n * 10 ^ length ds + value_of_digits ds
 value_behind n [] = let e : value_after n [] ≡ n = refl in let z : value_of_digits [] ≡ 0 = refl in let o : 10 ^ 0 ≡ 1 = refl in e ∙ omega arith
 value_behind n (d ∷ ds) =
@@ -36,7 +36,7 @@ value_behind n (d ∷ ds) =
     let weight : n * 10 ^ length (d ∷ ds) ≡ n * (10 ^ length ds * 10) = ap (λ w. n * w) (pow-suc 10 (length ds)) in
     omega arith
 
--- Eight digits after a one.
+-- A 1 and eight more digits.
 first_digit : (d : ℕ) (ds : List ℕ) (part : ℕ) → part < 100000000 → length (d ∷ ds) ≤ 9 → IsNumeralOf (100000000 + part) (d ∷ ds) → (length ds ≡ 8) × IsNumeralOf part ds
 first_digit d ds part low short is = by (cases_lt (length ds) 8)
   where
@@ -52,7 +52,7 @@ first_digit d ds part low short is = by (cases_lt (length ds) 8)
         let split : (0 * 10 + (d - 48)) * 100000000 + value_of_digits ds ≡ 100000000 + part = ap (λ n. (0 * 10 + (d - 48)) * 10 ^ n + value_of_digits ds) (sym eight) ∙ whole in
         (eight, record { digits = digits; value = omega arith; some = omega arith })
 
--- a part of 10^8 in eight digits
+-- a number below 10^8 as eight digits
 abbrev pub eight : ℕ → List ℕ
 eight part = drop 1 (decimal (100000000 + part))
 
@@ -96,7 +96,7 @@ reverse_same (suc k) =
     let one : k + 1 ≡ suc k = omega arith in
     reverse-append {A = ℕ} (48 ∷ []) (replicate k 48) ∙ ap (λ l. l ++ replicate 1 48) (reverse_same k) ∙ replicate-append-replicate k 1 48 ∙ ap (λ n. replicate n 48) one
 
--- digits are those without the zeros at their end, and the zeros
+-- the digits are `front` followed by the zeros at the end
 pub record IsCut (ds front : List ℕ) : Type 0 where
   pub whole : ds ≡ front ++ replicate (zeros ds) 48
   pub count : length front + zeros ds ≡ length ds
@@ -111,7 +111,7 @@ cut ds =
     let taken : front ≡ without_zeros ds = sym (take-append_seam front (replicate k 48)) ∙ (λ i. take (least i) (sym whole i)) in
     subst (IsCut ds) taken (record { whole = whole; count = count })
 
--- The part is the value of what is left, times the weight of the zeros.
+-- The part is the value of the remaining digits times the weight of the zeros.
 pub record IsFraction (part : ℕ) (ds : List ℕ) : Type 0 where
   pub digits : list_all is_digit ds ≡ true
   pub short : length ds ≤ 8

@@ -23,7 +23,7 @@ use Rattle.cell_ascii_law.proofs.WritingNumberLemmas.{size, coordinate_back, sid
 use Rattle.cell_ascii_law.proofs.WritingTokenLemmas.{decimal_value, null_value, coordinate_value}
 use Rattle.cell_ascii_law.proofs.WritingLexLemmas.{IsToken, Adds, adds_none, adds_both, adds_key}
 
--- the lines of a text lead from some keys to more
+-- the lines of a text extend some keys to more keys
 pub record Leads (text : List ℕ) (keys more : KeyValues) : Type 0 where
   pub new : Lines
   pub adds : Adds text new
@@ -39,7 +39,7 @@ leads_both {keys = keys} a b = record {
   reads = λ ls. ap (take_text keys) (append_assoc a.new b.new ls) ∙ a.reads (b.new ++ ls) ∙ b.reads ls;
 }
 
--- the name before a colon is the name of a key
+-- the word before the colon is the name of the key q
 record IsKeyName (q : HeaderKey) (name : List ℕ) : Type 0 where
   token : IsToken (name ++ codes ":")
   colon : has_colon (name ++ codes ":") ≡ true
@@ -56,7 +56,7 @@ line_adds q name value is token =
     append_assoc name (codes ":") (32 ∷ (value ++ 10 ∷ [])) ∙ sym (append_assoc name (codes ": ") (value ++ 10 ∷ [])) ∙ sym (append_assoc (name ++ codes ": ") value (10 ∷ [])) in
     subst (λ t. Adds t (((name ++ codes ":") ∷ value ∷ []) ∷ [])) text (adds_key (name ++ codes ":") value is.token token)
 
--- a line gives its key
+-- a line of a key's name and its value extends the keys by that key
 line_leads : (q : HeaderKey) (name value : List ℕ) (keys more : KeyValues) → IsKeyName q name → IsToken value → with_header_key keys (Some q) value ≡ Ok more → Leads (line_of_key name value) keys more
 line_leads q name value keys more is token takes =
     let word = name ++ codes ":" in
@@ -158,14 +158,14 @@ module _ (e : RegionValue) (is : IsRegion e) where
   region_leads : Leads (region_text e) no_keys (region_keys e)
   region_leads = leads_both (leads_both (leads_both (leads_both (leads_both north_leads south_leads) east_leads) west_leads) rows_leads) cols_leads
 
--- the header that a written map has
+-- the header of a written map
 abbrev pub written_header : List ℕ → RegionValue → HeaderValue
 written_header null_text e = record { region = e; null_text = null_text; multiplier = usual_multiplier }
 
 abbrev keys_of : List ℕ → RegionValue → Bool → KeyValues
 keys_of null_text e usual = if usual then region_keys e else record (region_keys e) { null = Some null_text }
 
--- all its keys
+-- all keys of a written map
 abbrev pub written_keys : List ℕ → RegionValue → KeyValues
 written_keys null_text e = keys_of null_text e (bytes_eq null_text usual_null)
 

@@ -39,7 +39,7 @@ module _ (null_text : List ℕ) (is : IsNullText null_text) where
   row_adds (cell ∷ row) some ranged =
       adds_tokens (cell_text null_text cell) (words_of_row row) (All-map IsToken (cell_text null_text) (cell ∷ row) (λ k d within. (cell_value (get_or (cell ∷ row) k d) (ranged k d within)).token))
 
-  -- the first line of the data begins it
+  -- the first row of the data is its first line
   data_begins : (keys : KeyValues) (row : List CellValue) (ls : Lines) → 0 < length row → All IsRanged row → take_text keys (words_of_row row ∷ ls) ≡ take_data keys (all_words (words_of_row row ∷ ls))
   data_begins keys [] ls some ranged = absurd (omega arith)
   data_begins keys (cell ∷ row) ls some ranged =

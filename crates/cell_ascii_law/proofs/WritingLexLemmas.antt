@@ -7,7 +7,7 @@ use Rattle.std.proofs.lemmas.List.Elements.{All-head, All-tail}
 use Rattle.cell_ascii_meaning.specs.GridTokens.{is_space, is_word_byte}
 use Rattle.cell_ascii_law.proofs.LexemeLemmas.{Lines, put, put_token, opening, lex, lex-space, lex-word}
 
--- a word within the limits
+-- a word of 1 to 64 bytes without blanks
 pub record IsToken (w : List ℕ) : Type 0 where
   pub some : 0 < length w
   pub most : length w ≤ 64
@@ -20,7 +20,7 @@ not_space b e = by (is_space b) e
     by true e = cc
     by false e = refl
 
--- the lines of what is to come, after at most one blank or line feed
+-- the coming bytes have these lines, after at most one blank or line feed
 abbrev pub Lexes : List ℕ → Lines → Type 0
 Lexes bs ls = (run : ℕ) → run ≤ 1 → lex run [] bs false ≡ Some ls
 
@@ -48,15 +48,15 @@ put_is [] ls some = absurd (omega arith)
 put_is (x ∷ xs) ls some = refl
 
 module _ (w : List ℕ) (is : IsToken w) (bs : List ℕ) (ls : Lines) (on : Lexes bs ls) where
-  -- a token and a space
+  -- a token and a space add a word to the first line
   pub spaced : Lexes (w ++ 32 ∷ bs) (put w ls)
   spaced run low = token_first (32 ∷ bs) run w is ∙ lex-space 0 w 32 bs false refl (omega arith) ∙ ap (option_map (λ l. put_token w (opening false l))) (on 1 (omega arith)) ∙ ap Some (put_is w ls is.some)
 
-  -- a token and a line feed
+  -- a token and a line feed add a line of that word
   pub fed : Lexes (w ++ 10 ∷ bs) ((w ∷ []) ∷ ls)
   fed run low = token_first (10 ∷ bs) run w is ∙ lex-space 0 w 10 bs false refl (omega arith) ∙ ap (option_map (λ l. put_token w (opening true l))) (on 1 (omega arith)) ∙ ap Some (put_is w ([] ∷ ls) is.some)
 
--- a text adds lines to the lines of what follows it
+-- a text adds the lines `new` before the lines of any text that follows it
 pub record Adds (text : List ℕ) (new : Lines) : Type 0 where
   pub to : (bs : List ℕ) (ls : Lines) → Lexes bs ls → Lexes (text ++ bs) (new ++ ls)
 
@@ -66,7 +66,7 @@ adds_none = record { to = λ bs ls on. on }
 pub adds_both : {text text' : List ℕ} {new new' : Lines} → Adds text new → Adds text' new' → Adds (text ++ text') (new ++ new')
 adds_both {text} {text'} {new} {new'} first second = record { to = λ bs ls on. rw (append_assoc text text' bs, append_assoc new new' ls) (first.to (text' ++ bs) (new' ++ ls) (second.to bs ls on)) }
 
--- a line of a key and its value
+-- a key, a space, its value and a line feed add one line
 pub adds_key : (key value : List ℕ) → IsToken key → IsToken value → Adds (key ++ 32 ∷ (value ++ 10 ∷ [])) ((key ∷ value ∷ []) ∷ [])
 adds_key key value is_key is_value = record { to = to }
   where
@@ -75,7 +75,7 @@ adds_key key value is_key is_value = record { to = to }
         let text : (key ++ 32 ∷ (value ++ 10 ∷ [])) ++ bs ≡ key ++ 32 ∷ (value ++ 10 ∷ bs) = append_assoc key (32 ∷ (value ++ 10 ∷ [])) bs ∙ ap (λ l. key ++ 32 ∷ l) (append_assoc value (10 ∷ []) bs) in
         subst (λ t. Lexes t ((key ∷ value ∷ []) ∷ ls)) (sym text) (spaced key is_key (value ++ 10 ∷ bs) ((value ∷ []) ∷ ls) (fed value is_value bs ls on))
 
--- a line of tokens that are joined by one space
+-- tokens joined by spaces and ended by a line feed add one line
 pub adds_tokens : (w : List ℕ) (ws : List (List ℕ)) → All IsToken (w ∷ ws) → Adds (join_with_byte 32 (w ∷ ws) ++ 10 ∷ []) ((w ∷ ws) ∷ [])
 adds_tokens w ws are = record { to = to w ws are }
   where
@@ -87,7 +87,7 @@ adds_tokens w ws are = record { to = to w ws are }
         append_assoc (w ++ 32 ∷ rest) (10 ∷ []) bs ∙ append_assoc w (32 ∷ rest) (10 ∷ bs) ∙ ap (λ l. w ++ 32 ∷ l) (sym (append_assoc rest (10 ∷ []) bs)) in
         subst (λ t. Lexes t ((w ∷ x ∷ xs) ∷ ls)) (sym text) (spaced w (All-head IsToken w (x ∷ xs) are) ((rest ++ 10 ∷ []) ++ bs) ((x ∷ xs) ∷ ls) (to x xs (All-tail IsToken w (x ∷ xs) are) bs ls on))
 
--- lines one after another
+-- lines one after another add each of their lines
 pub adds_each : {X : Type 0} (text : X → List ℕ) (line : X → List (List ℕ)) → (xs : List X) → All (λ x. Adds (text x) (line x ∷ [])) xs → Adds (flat_map text xs) (map line xs)
 adds_each text line [] are = adds_none
 adds_each text line (x ∷ xs) are = adds_both (All-head (λ y. Adds (text y) (line y ∷ [])) x xs are) (adds_each text line xs (All-tail (λ y. Adds (text y) (line y ∷ [])) x xs are))

@@ -31,7 +31,7 @@ digits_back : (n : ℕ) (ds : List ℕ) → IsNumeralOf n ds → digits_of ds �
 digits_back n [] is = absurd (let h = is.some in omega arith)
 digits_back n (d ∷ ds) is = rw is.digits (ap Some is.value)
 
--- how far a number is from 0
+-- the distance of a number from 0
 abbrev pub size : ℤ → ℕ
 size (pos n) = n
 size (negsuc n) = suc n
@@ -82,7 +82,7 @@ units_of whole part w p is short frac =
     let c : nat_le 1 (length whole + length part) ≡ true = grind (arith, nat_tests) in
     rw (is.digits, frac.digits, a, b, c) (λ i. Some (is.value i * 100000000 + frac.value i))
 
--- the point and what comes after it
+-- the point and the digits after it, or nothing
 record IsTail (part : ℕ) (tail : List ℕ) : Type 0 where
   first : prefix_len (λ b. not (is_point b)) tail ≡ 0
   rest : IsFraction part (drop 1 tail)

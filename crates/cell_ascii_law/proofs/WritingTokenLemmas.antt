@@ -18,7 +18,7 @@ use Rattle.cell_ascii_law.proofs.WritingLexLemmas.{IsToken}
 abbrev is_mark : ℕ → Bool
 is_mark b = is_digit b || (b == 45 || b == 46)
 
--- a token of the data, or a value
+-- a token without a colon: a cell, or the value of a key
 pub record IsValue (w : List ℕ) : Type 0 where
   pub token : IsToken w
   pub colon : has_colon w ≡ false
