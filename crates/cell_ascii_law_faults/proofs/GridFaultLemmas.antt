@@ -18,12 +18,12 @@ use Rattle.cell_ascii_law_faults.proofs.PlaceWordLemmas.{table_of}
 use Rattle.cell_ascii_law.proofs.HeaderLawLemmas.{read_opened}
 use Rattle.cell_ascii_law.proofs.GridLawLemmas.{reading_agrees}
 
--- the error that is reported of a text is the error of its reading
+-- the first error reported in a text is the error of reading its header and data
 reported_is : (w : Bool) (c : Coming)
     → fault_after w (header_of_text c) ≡ first_reported (table_of w) [] c.bytes c.fails
 reported_is w c = header_is w 10 no_keys (omega arith) [] (refl, refl) 1 0 c.bytes c.fails (omega arith) ∙ sym (first_is (table_of w) c.bytes [] c.fails)
 
--- the error that is read is the error of the first place that reports one
+-- the error of reading a text is the error of the first place that reports one
 fault_is : (c : Coming) → fault_in (grid_of c) ≡ text_fault c
 unfolding grid_of
 fault_is c = by (header_of_text c) ∙ reported_is true c
@@ -32,7 +32,7 @@ fault_is c = by (header_of_text c) ∙ reported_is true c
     by (Ok o) = refl
     by (Err e) = refl
 
--- and of the opening of a text
+-- the error of opening a text is the first error that the opening reports
 opening_is : (c : Coming) → fault_in (header_of_text c) ≡ opening_fault c
 opening_is c = by (header_of_text c) ∙ reported_is false c
   where
@@ -40,7 +40,7 @@ opening_is c = by (header_of_text c) ∙ reported_is false c
     by (Ok o) = refl
     by (Err e) = refl
 
--- a reading gives the error that is reported of it
+-- a reading fails with an error exactly if that error is reported
 is_reported : {X : Type 0} (r : Result X GridFault) (o : Option GridFault) → fault_in r ≡ o → (f : GridFault) → (r ≡ Err f) ↔ (o ≡ Some f)
 is_reported {X} r o reported f = (λ e. sym reported ∙ ap fault_in e, λ e. by r (reported ∙ e))
   where

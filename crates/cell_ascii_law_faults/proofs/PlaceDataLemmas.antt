@@ -1,4 +1,4 @@
--- The reading of the data, against the places that it passes.
+-- The reading of the data, compared with the places that it passes.
 use Rattle.std.proofs.Common.{◌≡◌, ℕ, zero, suc, ◌+◌, ◌*◌, ◌<◌, ◌≤◌, List, [], ◌∷◌, ◌++◌, Option, Some, None, ◌==◌, Bool, true, false, cond, not, length, take, drop, refl, ap, sym, ◌∙◌, arith, append-nil, append_assoc, length-append, Result, Ok, Err, ◌&&◌, ◌||◌, ◌⊎◌, inl, inr, if◌then◌else◌, subst}
 use Rattle.std.specs.Prelude.{nat_lt, nat_le}
 use Rattle.std.specs.Option.{option_map}
@@ -54,7 +54,7 @@ all_words-append : (ls rest : Lines) → all_words (ls ++ rest) ≡ all_words ls
 all_words-append [] rest = refl
 all_words-append (l ∷ ls) rest = ap (λ ws. l ++ ws) (all_words-append ls rest) ∙ sym (append_assoc l (all_words ls) (all_words rest))
 
--- lines after some without data
+-- lines after some lines without data add their header lines
 pub heads_before : (ls rest : Lines) → has_data ls ≡ false → header_lines (ls ++ rest) ≡ heads ls ++ header_lines rest
 heads_before [] rest e = refl
 heads_before (l ∷ ls) rest e = by (is_data_line l) refl e (heads_before ls rest)
@@ -75,7 +75,7 @@ words_before (l ∷ ls) rest e = by (is_data_line l) refl e (words_before ls res
     by true is e on = cc
     by false is e on = words_more l (ls ++ rest) is ∙ on e
 
--- lines after some with data
+-- lines after some lines with data add no header lines
 heads_after : (ls rest : Lines) → has_data ls ≡ true → header_lines (ls ++ rest) ≡ header_lines ls
 heads_after [] rest e = cc
 heads_after (l ∷ ls) rest e = by (is_data_line l) refl e (heads_after ls rest)
@@ -104,7 +104,7 @@ has_data-append (k ∷ ls) l = by (is_data_line k) (has_data-append ls l)
     by true on = refl
     by false on = on
 
--- A place in the data, where n of its words have ended.
+-- A place in the data, after n complete words of the data.
 pub record IsData (h : HeaderValue) (n : ℕ) (ls : Lines) (ws : List (List ℕ)) : Type 0 where
   pub header : header_in (ls ++ ws ∷ []) ≡ Ok h
   pub count : length (data_words (ls ++ ws ∷ [])) ≡ n
@@ -172,7 +172,7 @@ module _ (h : HeaderValue) (n : ℕ) (ls : Lines) (ws : List (List ℕ)) (is : I
             begun = inr (e.0, later);
           }
 
--- What the table reports in the data.
+-- The reports of the table at places in the data.
 pub and_never : (t : Bool) → (t && false) ≡ false
 and_never true = refl
 and_never false = refl
@@ -264,27 +264,27 @@ module _ (h : HeaderValue) where
   abbrev cells : ℕ
   cells = h.region.rows * h.region.cols
 
-  -- what is reported in the data, at a place where no word continues
+  -- the report of the table between two words of the data
   reported_there : (n : ℕ) (ls : Lines) (ws : List (List ℕ)) → IsData h n ls ws → (line gap : ℕ) (place : FaultPlace)
       → reports whole_table (at_seen line gap ls ws []) place ≡ option_map (λ kind. grid_fault kind line) (data_reported gap [] h (data_words (ls ++ ws ∷ [])) place)
   reported_there n ls ws is line gap place = ap (option_map (λ kind. grid_fault kind line)) (reported_in_data h gap [] (in_header_line ls ws) ls ws (header_in (ls ++ ws ∷ [])) (data_words (ls ++ ws ∷ [])) (outside h n ls ws is) is.header place)
 
-  -- and where a word does
+  -- the report of the table within a word of the data
   reported_within : (n : ℕ) (ls : Lines) (ws : List (List ℕ)) (x : ℕ) (xs : List ℕ) → IsData h n ls (ws ++ (x ∷ xs) ∷ []) → (line : ℕ) (place : FaultPlace)
       → reports whole_table (at_seen line 0 ls ws (x ∷ xs)) place ≡ option_map (λ kind. grid_fault kind line) (data_reported 0 (x ∷ xs) h (data_words (ls ++ (ws ++ (x ∷ xs) ∷ []) ∷ [])) place)
   reported_within n ls ws x xs is line place =
       let now : List (List ℕ) = ws ++ (x ∷ xs) ∷ [] in
       ap (option_map (λ kind. grid_fault kind line)) (reported_in_data h 0 (x ∷ xs) (in_header_line ls now) ls now (header_in (ls ++ now ∷ [])) (data_words (ls ++ now ∷ [])) (outside h n ls now is) is.header place)
 
-  -- from any place with n words in the data, F gives what the places report
+  -- from any place after n words of the data, F gives the error that the places report
   abbrev Goes : {X : Type 0} → ℕ → (X → At → Result Grid GridFault) → Type 0
   Goes {X} n F = (x : X) (line gap : ℕ) (bs : List ℕ) (f : Bool) (ls : Lines) (ws : List (List ℕ)) → gap ≤ 1048576 → IsData h n ls ws → fault_in (F x (at_of line gap (coming bs f))) ≡ scan whole_table (at_seen line gap ls ws []) bs f
 
-  -- at one place, where s is reported from here on, a reading takes the next a words
+  -- at one place, if s is reported from there on, a reading takes the next `a` words
   abbrev Follows : {X : Type 0} → At → Option GridFault → ℕ → (At → Reading X) → ℕ → Type 0
   Follows {X} at s n one a = (F : X → At → Result Grid GridFault) → Goes (n + a) F → fault_in (one at >>= (λ x. F x.0 x.1)) ≡ s
 
-  -- and the reading advances by one cell while n + a cells are still to come
+  -- the reading takes the next `a` words while n + a cells are still to come
   abbrev Advances : {X : Type 0} → (At → Reading X) → ℕ → Type 0
   Advances one a = (n : ℕ) → n + a ≤ cells → (line gap : ℕ) (bs : List ℕ) (f : Bool) (ls : Lines) (ws : List (List ℕ)) → gap ≤ 1048576 → IsData h n ls ws
       → Follows (at_of line gap (coming bs f)) (scan whole_table (at_seen line gap ls ws []) bs f) n one a
@@ -319,12 +319,12 @@ module _ (h : HeaderValue) where
         none n = omega arith
     many_advance (suc m) n room line gap bs f ls ws low is = many_first m (many_advance m) n room (at_of line gap (coming bs f)) (scan whole_table (at_seen line gap ls ws []) bs f) (advances n (omega arith) line gap bs f ls ws low is)
 
-    -- the first of many may begin elsewhere
+    -- the reading of many items advances if the reading of the first item does
     many_follow : (m n : ℕ) → 0 < m → n + m * a ≤ cells → (at : At) (s : Option GridFault) → Follows at s n one a → Follows at s n (many one m) (m * a)
     many_follow zero n some room at s first = absurd (omega arith)
     many_follow (suc m) n some room at s first = many_first m (many_advance m) n room at s first
 
-  -- the next cell, from the end of its word on
+  -- the reading of the next cell agrees with the places from the end of its word on
   cell_after : (F : CellValue → At → Result Grid GridFault) (n : ℕ) → Goes (n + 1) F → (line : ℕ) (ls : Lines) (ws : List (List ℕ)) (x : ℕ) (xs bs : List ℕ) (f : Bool) → IsAfterWord bs f → IsData h (n + 1) ls (ws ++ (x ∷ xs) ∷ [])
       → fault_in (after_cell line (coming bs f) (cell_of_word h (x ∷ xs)) >>= (λ y. F y.0 y.1)) ≡ scan whole_table (at_seen line 0 ls ws (x ∷ xs)) bs f
   cell_after F n goes line ls ws x xs bs f after is = by (cell_of_word h (x ∷ xs)) refl
@@ -368,7 +368,7 @@ module _ (h : HeaderValue) where
               (λ x xs ds t after. cell_after F n goes l ms vs x xs ds t after (one_word h n ms vs here (x ∷ xs))) g b cs e word
               (reported_there n ms vs here l g (Byte b) ∙ ap (option_map (λ kind. grid_fault kind l)) (word_silent h g (data_words (ms ++ vs ∷ [])) b word (let c = here.count in omega arith)))
 
-  -- the end of the data
+  -- the reading of the end of the data agrees with the places there
   end_goes : Goes cells (read_end h)
   end_goes rows line gap bs f ls ws low is = before_word true (IsData h cells) (fed h cells) (outside h cells) (λ ms vs at. refl) k (λ e. refl) begins ends bs f line gap ls ws is low
     where
@@ -381,7 +381,7 @@ module _ (h : HeaderValue) where
       begins : (ms : Lines) (vs : List (List ℕ)) → IsData h cells ms vs → (l g b : ℕ) (cs : List ℕ) (e : Bool) → is_space b ≡ false → k (Begins l (coming (b ∷ cs) e)) ≡ scan whole_table (at_seen l g ms vs []) (b ∷ cs) e
       begins ms vs here l g b cs e word = sym (one_reported true (at_seen l g ms vs []) b cs e (grid_fault TooMany l) (reported_there cells ms vs here l g (Byte b) ∙ ap (option_map (λ kind. grid_fault kind l)) (word_many h g (data_words (ms ++ vs ∷ [])) b word here.count)))
 
-  -- the data from the end of its first word on
+  -- the reading of the data agrees with the places from the end of its first word on
   pub data_first : 0 < h.region.rows → 0 < h.region.cols → (line : ℕ) (ls : Lines) (x : ℕ) (xs bs : List ℕ) (f : Bool) → IsAfterWord bs f → IsData h 1 ls ((x ∷ xs) ∷ [])
       → fault_in (read_grid h (record { pending = Some (x ∷ xs); line = line; run = 0; coming = coming bs f })) ≡ scan whole_table (at_seen line 0 ls [] (x ∷ xs)) bs f
   unfolding cell_from
@@ -398,7 +398,7 @@ module _ (gap : ℕ) (inside : Bool) (ls : Lines) (line : List (List ℕ)) (head
   behind_silent : (token : List ℕ) → is_opening words token ≡ false → (place : FaultPlace) → opening_table gap token inside ls line header words place ≡ None
   behind_silent token e place = ap (λ (t : Bool). if t then header_rows gap token inside ls line header words place else None) e
 
-  -- nor at its end if the header is a good one
+  -- the opening reports nothing at the end of the first token if the header is valid
   opened_silent : (h : HeaderValue) (x : ℕ) (xs : List ℕ) → gap ≡ 0 → inside ≡ false → header ≡ Ok h → (place : FaultPlace) → ends_token place ≡ true → opening_table gap (x ∷ xs) inside ls line header words place ≡ None
   opened_silent h x xs start out is place ends = ap (λ (o : Option GridKind). if is_opening words (x ∷ xs) then o else None) (rows place ends) ∙ no_matter (is_opening words (x ∷ xs))
     where

@@ -1,4 +1,4 @@
--- The reading of a text, header and data, against the places that it passes.
+-- The reading of a text, header and data, compared with the places that it passes.
 use Rattle.std.proofs.Common.{◌≡◌, ℕ, zero, suc, ◌+◌, ◌*◌, ◌<◌, ◌≤◌, List, [], ◌∷◌, ◌++◌, Option, Some, None, ◌==◌, Bool, true, false, cond, not, length, refl, ap, sym, ◌∙◌, arith, append-nil, Result, Ok, Err, ◌&&◌, ◌||◌, ◌⊎◌, inl, inr, if◌then◌else◌}
 use Rattle.std.specs.Prelude.{nat_lt, nat_le}
 use Rattle.std.specs.Option.{option_map}
@@ -27,12 +27,12 @@ use Rattle.cell_ascii_law_faults.proofs.PlaceWordLemmas.{table_of, judged, one_r
 use Rattle.cell_ascii_law_faults.proofs.PlaceDataLemmas.{heads, has_data, heads_before, words_before, heads_more, heads_data, words_data, words_more, has_data-append, and_never, fault_in, IsData, data_first, opening_first}
 use Rattle.cell_ascii_law_faults.proofs.PlaceKeyLemmas.{keys_taken, line_reported, no_value_reported, lines_more}
 
--- What the table reports in the header, whatever the words before a place are.
+-- The reports of the table in the header, for any words before a place.
 no_cells : (header : Result HeaderValue GridKind) (token : List ℕ) → cell_fault header [] token ≡ None
 no_cells (Ok h) token = refl
 no_cells (Err kind) token = refl
 
--- the end of the data, in the table of a whole text alone
+-- the report of missing cells, which only the table of a full text makes
 abbrev few_by : Bool → Option GridKind → Option GridKind
 few_by true o = o
 few_by false o = None
@@ -46,7 +46,7 @@ judged_one true words v x xs one = refl
 judged_one false words v x xs one = ap (λ (ws : List (List ℕ)). is_opening ws (x ∷ xs)) one
 
 module _ (gap : ℕ) (inside : Bool) (ls : Lines) (line : List (List ℕ)) (header : Result HeaderValue GridKind) (words : List (List ℕ)) where
-  -- the first byte of a word, if there is no value
+  -- without a value on the line, the first byte of a word reports nothing
   first_silent : (w : Bool) (b : ℕ) → words ≡ [] → is_space b ≡ false → line_values line ≡ [] → has_all header words ≡ false → table_of w gap [] inside ls line header words (Byte b) ≡ None
   first_silent w b nil word none few = by w inside (judged_none w words [] nil)
     where
@@ -56,7 +56,7 @@ module _ (gap : ℕ) (inside : Bool) (ls : Lines) (line : List (List ℕ)) (head
       by false true j = rw (j, word, no_feed b word, none)
       by false false j = rw (j, word, no_feed b word)
 
-  -- and where one does
+  -- with a value on the line, the first byte of a further word reports an error
   first_reported : (w : Bool) (b : ℕ) (v : List ℕ) → judged w words [] ≡ true → is_space b ≡ false → inside ≡ true → line_values line ≡ v ∷ [] → table_of w gap [] inside ls line header words (Byte b) ≡ Some BadHeader
   first_reported true b v j word head one = rw (word, head, one)
   first_reported false b v j word head one = rw (j, word, head, one)
@@ -69,7 +69,7 @@ module _ (gap : ℕ) (inside : Bool) (ls : Lines) (line : List (List ℕ)) (head
   end_reported true none = refl
   end_reported false none = ap (λ (t : Bool). if t then header_rows gap [] inside ls line header words End else None) (judged_none false words [] none)
 
-  -- the end of a word of a header line
+  -- at the end of a word of a header line, the table reports the same error as without an unfinished word
   word_reported : (w : Bool) (x : ℕ) (xs : List ℕ) → words ≡ [] → (place : FaultPlace) → ends_token place ≡ true → table_of w 0 (x ∷ xs) inside ls line header words place ≡ table_of w 0 [] inside ls line header words place
   word_reported true x xs none (Byte b) space = rw (none, space, no_cells header (x ∷ xs))
   word_reported true x xs none End ends = rw (none, no_cells header (x ∷ xs))
@@ -77,7 +77,7 @@ module _ (gap : ℕ) (inside : Bool) (ls : Lines) (line : List (List ℕ)) (head
   word_reported false x xs none End ends = rw none
   word_reported w x xs none Fails ends = cc
 
-  -- the end of the first word of the data, without a header
+  -- without a header, the end of the first word of the data reports the error of the header
   no_header_reported : (w : Bool) (x : ℕ) (xs : List ℕ) (kind : GridKind) → judged w words (x ∷ xs) ≡ true → inside ≡ false → header ≡ Err kind → length words ≡ 1 → (place : FaultPlace) → ends_token place ≡ true → table_of w 0 (x ∷ xs) inside ls line header words place ≡ Some kind
   no_header_reported w x xs kind j out is one (Byte b) space = by w (cases_Bool (b == 10)) words j one
     where
@@ -144,7 +144,7 @@ module _ (ls : Lines) (no : has_data ls ≡ false) where
     inside_is : in_header_line ls ws ≡ true
     inside_is = λ i. not (no i) && head i
 
--- The cells of a header.
+-- The number of cells of a header is positive.
 product : (rows cols : ℕ) → 0 < rows → 0 < cols → 0 < rows * cols
 product zero cols r c = absurd (omega arith)
 product (suc rows) zero r c = absurd (omega arith)
@@ -170,7 +170,7 @@ no_cell_left : (h : HeaderValue) (line : ℕ)
 unfolding cell_from
 no_cell_left h line = ap (after_start h) (start-ends line 0 (omega arith))
 
--- The error of reading the header, and after it the error of reading the data, if all of the text is read.
+-- The error of reading the header and, for a full text, the error of reading the data after it.
 abbrev after_by : Bool → Option GridFault → Option GridFault
 after_by true o = o
 after_by false o = None
@@ -203,7 +203,7 @@ module _ (whole : Bool) where
             last whole (nat_lt 0 (h.region.rows * h.region.cols)) (fault_in (read_opened (record { header = h; at = at_of line 0 (coming [] false) }))) t (ap fault_in (read_grid_is h (at_of line 0 (coming [] false)) ∙ ap (λ r. r >>= (λ x. read_end h x.0 x.1))
             (many_err (many (cell_from h) h.region.cols) h.region.rows (at_of line 0 (coming [] false)) (grid_fault TooFew line) s.0 (many_err (cell_from h) h.region.cols (at_of line 0 (coming [] false)) (grid_fault TooFew line) s.1 (no_cell_left h line)))))
 
-  -- The data from the end of its first word on, or no header.
+  -- The data from the end of its first word on, with or without a valid header.
   module _ (line : ℕ) (keys : KeyValues) (ls : Lines) (no : has_data ls ≡ false) (taken : with_lines no_keys (heads ls) ≡ Ok keys) (x : ℕ) (xs : List ℕ) (word : is_data_line ((x ∷ xs) ∷ []) ≡ true) where
     abbrev first_line : Lines
     first_line = ls ++ ((x ∷ xs) ∷ []) ∷ []
@@ -245,12 +245,12 @@ module _ (whole : Bool) where
             let s = sides h.region (header_given keys h e).good in
             opens whole h s.0 s.1 (record { header = header_now ∙ e; count = ap length words_now; begun = inr (no, word) })
 
-  -- where a line begins, after lines whose keys were taken
+  -- a line begins there, after header lines whose keys were accepted
   abbrev pub IsStart : KeyValues → Lines → List (List ℕ) → Type 0
   IsStart keys ls [] = (has_data ls ≡ false) × (with_lines no_keys (heads ls) ≡ Ok keys)
   IsStart keys ls (w ∷ ws) = ⊥
 
-  -- from the beginning of a line on, the reading gives what the places report
+  -- from the beginning of a line on, the reading gives the error that the places report
   abbrev Follows : (KeyValues → ℕ → ℕ → Coming → Result OpenedText GridFault) → KeyValues → Type 0
   Follows rest keys = (more : KeyValues) → open_keys more < open_keys keys → (ls : Lines) → IsStart more ls [] → (line run : ℕ) (bs : List ℕ) (f : Bool) → run ≤ 1048576
       → fault_after whole (rest more line run (coming bs f)) ≡ scan (table_of whole) (at_seen line run ls [] []) bs f
@@ -263,7 +263,7 @@ module _ (whole : Bool) where
     abbrev from_end : Option HeaderKey → List ℕ → Result LineEnd GridFault → Option GridFault
     from_end key value r = fault_after whole (((r >>= (λ end. at_line line (with_header_key keys key value) >>= (λ more. Ok (more, end)))) >>= after_line rest line))
 
-    -- a line with its one value
+    -- a header line with a single value
     module _ (ws : List (List ℕ)) (head : is_header_line ws ≡ true) (v : List ℕ) (one : line_values ws ≡ v ∷ []) where
       abbrev key : Option HeaderKey
       key = header_key_of (key_text ws)
@@ -315,7 +315,7 @@ module _ (whole : Bool) where
     abbrev from_value : Option HeaderKey → Result (List ℕ × Coming) GridFault → Option GridFault
     from_value key r = fault_after whole (((r >>= (λ value. line_end line (gap_of line 0 value.1) >>= (λ end. at_line line (with_header_key keys key value.0) >>= (λ more. Ok (more, end))))) >>= after_line rest line))
 
-    -- a line with its first word
+    -- a header line with its first word
     module _ (w : List ℕ) (head : has_colon w ≡ true) where
       abbrev w_key : Option HeaderKey
       w_key = header_key_of (before_first is_colon w)
@@ -364,11 +364,11 @@ module _ (whole : Bool) where
           by (y ∷ ys) e = value_end (w ∷ []) head (y ∷ ys) (ap (λ (a : List ℕ). filter is_word (a ∷ [])) e) bs f
           by [] e = no_value e bs f
 
-  -- what is reported from the end of the first word of a line on
+  -- the error that is reported from the first word of a line on
   abbrev from_word : (KeyValues → ℕ → ℕ → Coming → Result OpenedText GridFault) → KeyValues → ℕ → Result (List ℕ × Coming) GridFault → Option GridFault
   from_word rest keys line r = fault_after whole ((r >>= (λ w. if has_colon w.0 then key_line line keys w.0 w.1 >>= after_line rest line else opened_text keys line (Some w.0) w.1)))
 
-  -- the reading of a text from a line on
+  -- reading a text from a line on gives the error that the places report
   pub header_is : (fuel : ℕ) (keys : KeyValues) → open_keys keys < fuel → (ls : Lines) → IsStart keys ls [] → (line run : ℕ) (bs : List ℕ) (f : Bool) → run ≤ 1048576
       → fault_after whole (header_from fuel keys line run (coming bs f)) ≡ scan (table_of whole) (at_seen line run ls [] []) bs f
   unfolding header_from
@@ -390,7 +390,7 @@ module _ (whole : Bool) where
       judge ms [] start = judged_none whole (data_words (ms ++ [] ∷ [])) [] (words_blank ms start.0)
       judge ms (v ∷ vs) start = absurd start
 
-      -- a first word that continues may yet get its colon
+      -- within the first word of a line, the table can report an error
       judge_first : (ms : Lines) → has_data ms ≡ false → (x : ℕ) (xs : List ℕ) → judged whole (data_words (ms ++ ((x ∷ xs) ∷ []) ∷ [])) (x ∷ xs) ≡ true
       judge_first ms clear x xs = by (cases_Bool (has_colon (x ∷ xs)))
         where

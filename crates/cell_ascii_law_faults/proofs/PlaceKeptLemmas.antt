@@ -1,4 +1,4 @@
--- Where the header and cells end, is a place again.
+-- After the header and after each cell, the reader is at a place again.
 use Rattle.std.proofs.Common.{◌≡◌, ℕ, zero, suc, ◌+◌, ◌-◌, ◌<◌, ◌≤◌, List, [], ◌∷◌, ◌++◌, Option, Some, None, ◌==◌, Bool, true, false, cond, length, take, refl, sym, ◌∙◌, arith, length-append, Result, Ok, Err, ◌&&◌, ◌⊎◌, inl, inr, if◌then◌else◌, subst}
 use Rattle.std.specs.List.{list_all}
 use Rattle.std.proofs.lemmas.Bool.{cases_Bool, cases_lt}
@@ -16,7 +16,7 @@ use Rattle.cell_ascii_meaning.specs.declared.grid_fault.GridFault.{GridFault}
 use Rattle.cell_ascii_meaning.proofs.TokenLemmas.{coming, start-ends, start-fails, start-begins, start-stuck, start-more}
 use Rattle.cell_ascii_meaning.proofs.TokenLemmas.{word-ends, word-fails, word-stops, word-long, word-more}
 
--- a place where no token waits and no run comes before
+-- a place without a pending token, after no run of blanks
 abbrev IsFresh : At → Type 0
 IsFresh at = IsPlaceOf at × (at.pending ≡ None)
 
@@ -91,7 +91,7 @@ start_far : (line run : ℕ) (c : Coming) (m : ℕ) (d : Coming) → 1048576 < r
 unfolding grid_start
 start_far line run c m d far e = let s : grid_start line run c ≡ Stops (grid_fault ReaderStuck (line + newlines (take (1048576 - run) c.bytes))) = grind (arith, nat_tests) in cc
 
--- A word, and what comes after it.
+-- A word, and the bytes after it.
 abbrev IsWord : List ℕ × Coming → Type 0
 IsWord y = (is_word y.0 ≡ true) × (list_all is_word_byte y.0 ≡ true) × (is_apart y.1 ≡ true)
 

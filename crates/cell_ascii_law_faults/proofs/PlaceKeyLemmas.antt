@@ -1,4 +1,4 @@
--- What the header lines before a place give their keys, and the error of the next line.
+-- The keys that the header lines before a place give, and the error of the next line.
 use Rattle.std.proofs.Common.{◌≡◌, ℕ, List, [], ◌∷◌, ◌++◌, Option, Some, None, Bool, true, false, cond, is_some, refl, ap, sym, ◌∙◌, Result, Ok, Err, ◌||◌, if◌then◌else◌}
 use Rattle.std.specs.Prelude.{codes, bytes_eq}
 use Rattle.std.specs.Option.{option_map, option_and_then}
@@ -34,7 +34,7 @@ kind_is None false e good = refl
 kind_is (Some v) true e good = refl
 kind_is (Some v) false e good = let f : false ≡ true = ap is_some e ∙ good v refl in cc
 
--- the keys that were taken are those that the lines give
+-- the accepted keys are the keys that the lines give
 pub keys_taken : (hs : Lines) (k : KeyValues) → with_lines no_keys hs ≡ Ok k → keys_of hs ≡ k
 keys_taken hs k e = λ i. record {
   north = sym (unwrapped Number same_number coordinate k.north (value_of (codes "north") hs) (are.looked North refl)) i;
@@ -59,7 +59,7 @@ some_found p (x ∷ xs) = by (p x) (some_found p xs)
     by true on = refl
     by false on = on
 
--- a key was given before if an earlier line has it
+-- a key is given twice exactly if an earlier line has it
 twice_is : (hs : Lines) (k : KeyValues) (l : List (List ℕ)) (q : HeaderKey) → with_lines no_keys hs ≡ Ok k → header_key_of (key_text l) ≡ Some q → has_key_of l hs ≡ is_some (held k q)
 twice_is hs k l q e is = ap (λ (t : List ℕ). list_any (λ m. bytes_eq t (key_text m)) hs) (name_is (key_text l) q is) ∙ sym (some_found (has_key q) hs) ∙ sym ((lines_taken hs no_keys k e).stands q (none_held q))
 
@@ -68,7 +68,7 @@ given_reported wrap (Some old) value keep = refl
 given_reported wrap None None keep = refl
 given_reported wrap None (Some x) keep = refl
 
--- why a key is not taken
+-- the reported error of a line is the reason why its key is not accepted
 key_reported : (a : KeyValues) (v : List ℕ) (q : HeaderKey) → line_fault (is_some (held a q)) (Some q) (v ∷ []) ≡ why_not (with_header_key a (Some q) v)
 key_reported a v North = sym (given_reported Number a.north (coordinate v) (λ x. record a { north = Some x }))
 key_reported a v South = sym (given_reported Number a.south (coordinate v) (λ x. record a { south = Some x }))
@@ -90,7 +90,7 @@ key_reported a v CellType = by a.kind (is_int v)
     by false false = refl
 key_reported a v Multiplier = sym (given_reported Number a.multiplier (whole_in_range v) (λ x. record a { multiplier = Some x }))
 
--- the error at the end of a line with one value is why its key is not taken
+-- at the end of a line with one value, the error is the reason why its key is not accepted
 pub line_reported : (hs : Lines) (k : KeyValues) (l : List (List ℕ)) (v : List ℕ) → with_lines no_keys hs ≡ Ok k → line_values l ≡ v ∷ [] → line_fault (has_key_of l hs) (header_key_of (key_text l)) (line_values l) ≡ why_not (with_header_key k (header_key_of (key_text l)) v)
 line_reported hs k l v e one = ap (line_fault (has_key_of l hs) (header_key_of (key_text l))) one ∙ by (header_key_of (key_text l)) refl
   where
@@ -98,12 +98,12 @@ line_reported hs k l v e one = ap (line_fault (has_key_of l hs) (header_key_of (
     by None is = refl
     by (Some q) is = ap (λ (t : Bool). line_fault t (Some q) (v ∷ [])) (twice_is hs k l q e is) ∙ key_reported k v q
 
--- a line without a value has an error
+-- a line without a value is an error
 pub no_value_reported : (t : Bool) (o : Option HeaderKey) → line_fault t o [] ≡ Some BadHeader
 no_value_reported t None = refl
 no_value_reported t (Some q) = refl
 
--- a line more
+-- one more line extends the keys that the lines before it give
 lines_then : (hs : Lines) (a k m : KeyValues) (l : List (List ℕ)) → with_lines a hs ≡ Ok k → with_line k l ≡ Ok m → with_lines a (hs ++ l ∷ []) ≡ Ok m
 lines_then [] a k m l e next = let same : a ≡ k = cc in ap (λ (b : KeyValues). then_keys (with_line b l) (λ k. Ok k)) same ∙ ap (λ r. then_keys r (λ k. Ok k)) next
 lines_then (h ∷ hs) a k m l e next = by (with_line a h) refl e (lines_then hs)

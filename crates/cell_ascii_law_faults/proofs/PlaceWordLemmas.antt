@@ -1,4 +1,4 @@
--- The words of a text, and what comes between them, against the places that they pass.
+-- The words of a text and the bytes between them, compared with the places that they pass.
 use Rattle.std.proofs.Common.{◌≡◌, ℕ, ◌+◌, ◌<◌, ◌≤◌, List, [], ◌∷◌, ◌++◌, Option, Some, None, ◌==◌, Bool, true, false, cond, length, refl, ap, sym, ◌∙◌, arith, length-append, Result, Ok, Err, ◌⊎◌, inl, inr}
 use Rattle.std.specs.Option.{option_map}
 use Rattle.std.proofs.lemmas.Bool.{cases_Bool, cases_lt}
@@ -16,12 +16,12 @@ use Rattle.cell_ascii_meaning.proofs.TokenLemmas.{gap-ends, gap-fails, gap-word,
 use Rattle.cell_ascii_law.proofs.LexemeLemmas.{Lines}
 use Rattle.cell_ascii_law_faults.proofs.SeenLemmas.{Seen, at_seen, here, all_lines, reports, step, step_by, scan}
 
--- the table of a whole text, or of its opening alone
+-- the table of a full text, or of only its opening
 abbrev pub table_of : Bool → Table
 table_of true = whole_table
 table_of false = opening_table
 
--- places at which the table reports anything
+-- the places at which the table can report an error
 abbrev pub judged : Bool → List (List ℕ) → List ℕ → Bool
 judged true words token = true
 judged false words token = is_opening words token
@@ -35,12 +35,12 @@ step_blank s b space blank = λ i. step_by (space i) (blank i) s b
 pub step_feed : (s : Seen) (b : ℕ) → (b == 10) ≡ true → step s b ≡ step_by true true s b
 step_feed s b feed = λ i. step_by (feed_space b feed i) (feed i) s b
 
--- a word is not followed by a byte of its own, nor by a failing read
+-- a word is followed by a blank, or by the end of the text
 abbrev pub IsAfterWord : List ℕ → Bool → Type 0
 IsAfterWord [] f = f ≡ false
 IsAfterWord (b ∷ bs) f = is_space b ≡ true
 
--- What the table reports at one byte, whatever the words before it are.
+-- The reports of the table at one byte, for any words before it.
 module _ (gap : ℕ) (inside : Bool) (ls : Lines) (line : List (List ℕ)) (header : Result HeaderValue GridKind) (words : List (List ℕ)) (b : ℕ) where
   blank_silent : (w : Bool) → judged w words [] ≡ true → is_space b ≡ true → (b == 10) ≡ false → gap < 1048576 → table_of w gap [] inside ls line header words (Byte b) ≡ None
   blank_silent true j space blank room = let t : (gap == 1048576) ≡ false = grind (arith, nat_tests) in rw (space, blank, t)
@@ -145,7 +145,7 @@ module _ (whole : Bool) where
             ∙ sym (one_silent s (at_seen line 0 ls ws (x ∷ (xs ++ b ∷ []))) b bs f
             (ap (option_map (λ kind. grid_fault kind line)) (more_silent 0 (in_header_line ls line_now) ls line_now (header_in (ls ++ line_now ∷ [])) (data_words (ls ++ line_now ∷ [])) b whole x xs (judge x xs) word room)) (step_word s b word))
 
-    -- a word from its first byte on
+    -- a reading agrees with the places from the first byte of a word on
     pub next_word : (gap b : ℕ) (bs : List ℕ) (f : Bool) → is_space b ≡ false → reports (table_of whole) (at_seen line gap ls ws []) (Byte b) ≡ None → k (word_from line [] (coming (b ∷ bs) f)) ≡ scan (table_of whole) (at_seen line gap ls ws []) (b ∷ bs) f
     next_word gap b bs f word silent = ap k (word-more line [] (omega arith) b bs f word) ∙ in_word bs f b [] (omega arith)
         ∙ sym (one_silent (at_seen line gap ls ws []) (at_seen line 0 ls ws (b ∷ [])) b bs f silent (step_word (at_seen line gap ls ws []) b word))

@@ -1,4 +1,4 @@
--- The reading of cells and of the end, from any place after the header, against the places that it passes.
+-- The reading of cells and of the end, from any place after the header, compared with the places that it passes.
 use Rattle.std.proofs.Common.{◌≡◌, ℕ, zero, suc, ◌+◌, ◌<◌, ◌≤◌, List, [], ◌∷◌, ◌++◌, Option, Some, None, ◌==◌, Bool, true, false, cond, not, length, refl, ap, sym, ◌∙◌, arith, length-append, Result, Ok, Err, ◌⊎◌, inl, inr, if◌then◌else◌, subst}
 use Rattle.std.specs.Prelude.{nat_lt}
 use Rattle.std.specs.Option.{option_map, unwrap_or}
@@ -158,7 +158,7 @@ module _ (h : HeaderValue) (count : ℕ) where
     early : (gap : ℕ) → table gap [] ws End ≡ Some TooFew
     early gap = judged gap [] ws End inside ∙ (let t : nat_lt (length ws) count ≡ true = grind (arith, nat_tests) in rw t)
 
-  -- after the last cell nothing is reported
+  -- after the last cell, no place belongs to the cells
   over : (ws : List (List ℕ)) (t : List ℕ) → count ≤ length ws → is_within count (with_token ws t) t ≡ false
   over ws [] all = let u : nat_lt (length ws) count ≡ false = grind (arith, nat_tests) in rw u
   over ws (x ∷ xs) all =
@@ -183,7 +183,7 @@ module _ (h : HeaderValue) (count : ℕ) where
       by on (inl space) = one_silent table s (row_seen (line + cond (b == 10) 1 0) (gap + 1) (with_token ws t) []) b bs f (ap (on_line line) (behind gap t (with_token ws t) (Byte b) (over ws t all))) (step_space s b space) ∙ on (line + cond (b == 10) 1 0) (gap + 1) (with_token ws t) [] (more t)
       by on (inr word) = one_silent table s (row_seen line 0 ws (t ++ b ∷ [])) b bs f (ap (on_line line) (behind gap t (with_token ws t) (Byte b) (over ws t all))) (step_word s b word) ∙ on line 0 ws (t ++ b ∷ []) all
 
-  -- the end of a word
+  -- the report at the end of a word is the error of its cell
   module _ (ws : List (List ℕ)) (fewer : length ws < count) (x : ℕ) (xs : List ℕ) where
     abbrev now : List (List ℕ)
     now = ws ++ (x ∷ xs) ∷ []
@@ -222,7 +222,7 @@ module _ (h : HeaderValue) (count : ℕ) where
         last (inl less) = more place ends ∙ sym (judged 0 [] now place (inside now less))
         last (inr all) = none place ends (let u : nat_lt (length now) count ≡ false = grind (arith, nat_tests) in u) ∙ sym (behind 0 [] now place (over now [] all))
 
-  -- what is reported from a cell on
+  -- the error that is reported from a cell on
   abbrev then_more : ℕ → Reading CellValue → Option GridFault
   then_more m r = fault_in {X = List CellValue × At} (r >>= (λ y. many (cell_from h) m y.1 >>= (λ z. Ok (y.0 ∷ z.0, z.1))))
 
@@ -230,7 +230,7 @@ module _ (h : HeaderValue) (count : ℕ) where
   more_fault v (Ok z) = refl
   more_fault v (Err e) = refl
 
-  -- from n cells on, the next m give what the places report
+  -- after the cells read so far, reading m more cells gives the error that the places report
   abbrev Reports : ℕ → List (List ℕ) → Type 0
   Reports m ws = (bs : List ℕ) (f : Bool) (line gap : ℕ) → gap ≤ 1048576 → fault_in (many (cell_from h) m (at_of line gap (coming bs f))) ≡ row_scan table (row_seen line gap ws []) bs f
 
@@ -261,7 +261,7 @@ module _ (h : HeaderValue) (count : ℕ) where
           begins : (l g b : ℕ) (cs : List ℕ) (e : Bool) → is_space b ≡ false → then_more m (after_start h (Begins l (coming (b ∷ cs) e))) ≡ row_scan table (row_seen l g ws []) (b ∷ cs) e
           begins l g b cs e word = next_word table ws (within ws fewer) l (λ r. then_more m (cell_after_word h l r)) (λ e. refl) (λ x xs ds t after. word_done m ws fewer l x xs (on (x ∷ xs)) ds t after) g b cs e word (first ws fewer g b word)
 
-  -- if a token waits
+  -- with a pending token, the cells give the error that the places report
   cells_with : (m : ℕ) → m ≡ count → (line x : ℕ) (xs bs : List ℕ) (f : Bool) → IsAfterWord bs f → fault_in (many (cell_from h) m (record { pending = Some (x ∷ xs); line = line; run = 0; coming = coming bs f })) ≡ row_scan table (row_seen line 0 [] (x ∷ xs)) bs f
   unfolding cell_from
   cells_with zero all line x xs bs f after = sym (nothing bs f line 0 [] (x ∷ xs) (omega arith))
@@ -280,7 +280,7 @@ after_word_is [] true e = cc
 after_word_is [] false e = refl
 after_word_is (b ∷ bs) f e = e
 
--- what the next cells give from a place
+-- the next cells give the error that is reported from their place on
 pub cells_reported : (h : HeaderValue) (count : ℕ) (at : At) → IsPlaceOf at → fault_in (many (cell_from h) count at) ≡ cells_fault h count at
 cells_reported h count at is = by at.pending is
   where
@@ -293,7 +293,7 @@ cells_reported h count at is = by at.pending is
         ∙ (λ i. row_scan (cells_table h count) (row_seen at.line (sym is.fresh i) [] (x ∷ xs)) at.coming.bytes at.coming.fails)
         ∙ sym (first_is (cells_table h count) (record at { pending = Some (x ∷ xs) }) (free_word (x ∷ xs) is.whole))
 
--- and what the end gives
+-- between words, the table of the end reports only a run of blanks that is too long
 end_between : IsBetween end_table []
 end_between = record {
   blank = λ gap b space room. (let t : (gap == 1048576) ≡ false = grind (arith, nat_tests) in rw (space, t));

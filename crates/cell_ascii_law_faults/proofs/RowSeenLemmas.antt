@@ -1,4 +1,4 @@
--- A record of the bytes before a place of the data, and how one more byte changes it.
+-- A record of the bytes before a place of the data, and the effect of one more byte on it.
 use Rattle.std.proofs.Common.{◌≡◌, ℕ, ◌+◌, fold, List, [], ◌∷◌, ◌++◌, Option, ◌==◌, ◌&&◌, Bool, true, false, cond, length, refl, ap, sym, ◌∙◌, arith, append-nil, append_assoc, length-append, ◌⊎◌, inl, inr, if◌then◌else◌}
 use Rattle.std.specs.List.{slice_split, onto_first, list_all}
 use Rattle.std.specs.Option.{option_map, unwrap_or}
@@ -14,7 +14,7 @@ use Rattle.cell_ascii_meaning.proofs.TokenLemmas.{no_feed}
 use Rattle.cell_ascii_law.proofs.LimitLawLemmas.{IsFree, free_more, split_made, onto, split_free, as_word, words_alone, words_space}
 use Rattle.cell_ascii_law_faults.proofs.SeenLemmas.{with_token, gap_more, last_onto}
 
--- the words that ended, and the token that continues
+-- the complete words and the unfinished token
 abbrev pub Counted : Type 0
 Counted = List (List ℕ) × List ℕ
 
@@ -66,7 +66,7 @@ pub record RowSeen : Type 0 where
 abbrev pub row_seen : ℕ → ℕ → List (List ℕ) → List ℕ → RowSeen
 row_seen line gap ws t = record { line = line; gap = gap; words = ws; token = t }
 
--- what is reported, from the record
+-- the error that is reported at a place, computed from the record
 abbrev pub row_reports : RowTable → RowSeen → FaultPlace → Option GridFault
 row_reports table s place = option_map (λ kind. grid_fault kind s.line) (table s.gap s.token (with_token s.words s.token) place)
 
@@ -74,11 +74,11 @@ abbrev pub row_step_by : Bool → RowSeen → ℕ → RowSeen
 row_step_by true s b = row_seen (s.line + cond (b == 10) 1 0) (s.gap + 1) (with_token s.words s.token) []
 row_step_by false s b = row_seen s.line 0 s.words (s.token ++ b ∷ [])
 
--- one more byte
+-- the record after one more byte
 abbrev pub row_step : RowSeen → ℕ → RowSeen
 row_step s b = row_step_by (is_space b) s b
 
--- the first error that is reported from here on
+-- the first error that is reported from a place on, computed from the record
 abbrev pub row_scan : RowTable → RowSeen → List ℕ → Bool → Option GridFault
 row_scan table s [] false = row_reports table s End
 row_scan table s [] true = row_reports table s Fails

@@ -1,4 +1,4 @@
--- A record of the bytes before a place, and how one more byte changes it.
+-- A record of the bytes before a place, and the effect of one more byte on it.
 use Rattle.std.proofs.Common.{◌≡◌, ℕ, ◌+◌, fold, List, [], ◌∷◌, ◌++◌, Option, ◌==◌, Bool, true, false, cond, map, refl, ap, sym, ◌∙◌, arith, append-nil, append_assoc, ◌⊎◌, inl, inr}
 use Rattle.std.specs.List.{slice_split, onto_first, prefix_len}
 use Rattle.std.specs.Option.{option_map}
@@ -13,12 +13,12 @@ use Rattle.cell_ascii_meaning.proofs.TokenLemmas.{no_feed}
 use Rattle.cell_ascii_law.proofs.LexemeLemmas.{Lines, put_token, opening}
 use Rattle.cell_ascii_law.proofs.LimitLawLemmas.{IsFree, free_more, IsMade, split_made, onto, split_free, lines_alone, lines_space}
 
--- the words of a line with the token that continues
+-- the words of a line, including the unfinished token
 abbrev pub with_token : List (List ℕ) → List ℕ → List (List ℕ)
 with_token words [] = words
 with_token words (x ∷ xs) = words ++ (x ∷ xs) ∷ []
 
--- the words of each earlier line, the ended words of this one, and the token that continues
+-- the words of each earlier line, the complete words of the current line, and the unfinished token
 pub record Tracked : Type 0 where
   pub earlier : Lines
   pub words : List (List ℕ)
@@ -38,12 +38,12 @@ track_by true true x b = tracked_at (lines_at x) [] []
 abbrev pub track : Tracked → ℕ → Tracked
 track x b = track_by (is_space b) (b == 10) x b
 
--- words before the first line
+-- words added at the start of the first line
 abbrev join : List (List ℕ) → Lines → Lines
 join ws [] = ws ∷ []
 join ws (l ∷ ls) = (ws ++ l) ∷ ls
 
--- lines that are some
+-- at least one line
 abbrev AreLines : Lines → Type 0
 AreLines [] = ⊥
 AreLines (l ∷ ls) = Unit {0}
@@ -148,7 +148,7 @@ here s = with_token s.words s.token
 abbrev pub all_lines : Seen → Lines
 all_lines s = s.earlier ++ here s ∷ []
 
--- what is reported, from the record
+-- the error that is reported at a place, computed from the record
 abbrev pub reports : Table → Seen → FaultPlace → Option GridFault
 reports table s place = option_map (λ kind. grid_fault kind s.line) (kind_at table s.gap s.token s.earlier (here s) (all_lines s) place)
 
@@ -157,11 +157,11 @@ step_by false feed s b = at_seen s.line 0 s.earlier s.words (s.token ++ b ∷ []
 step_by true false s b = at_seen s.line (s.gap + 1) s.earlier (here s) []
 step_by true true s b = at_seen (s.line + 1) (s.gap + 1) (all_lines s) [] []
 
--- one more byte
+-- the record after one more byte
 abbrev pub step : Seen → ℕ → Seen
 step s b = step_by (is_space b) (b == 10) s b
 
--- the first error that is reported from here on
+-- the first error that is reported from a place on, computed from the record
 abbrev pub scan : Table → Seen → List ℕ → Bool → Option GridFault
 scan table s [] false = reports table s End
 scan table s [] true = reports table s Fails
@@ -205,7 +205,7 @@ seen_more before b = (λ i. parts (line_more before b i) (gap_more before b i) (
     by (inl space) (inr blank) = (λ i. parts (line_of_place before + cond (blank i) 1 0) (cond (space i) (1 + gap_of_place before) 0) (track_by (space i) (blank i) (tracked before) b))
         ∙ (λ i. parts (same i) (wider i) (track_by true false (tracked before) b)) ∙ (λ i. step_by (sym space i) (sym blank i) (seen before) b)
 
--- the first error after some bytes is the first error from their record on
+-- the first error reported after some bytes is the first error reported from their record on
 pub first_is : (table : Table) (bs before : List ℕ) (fails : Bool) → first_reported table before bs fails ≡ scan table (seen before) bs fails
 first_is table [] before false = reported_is table before End
 first_is table [] before true = reported_is table before Fails
