@@ -1,4 +1,4 @@
--- The next word, what ends the blanks of a line, and the rest of a word, one byte further.
+-- The next word, the end of a line's blanks and the rest of a word, after one more byte.
 use Rattle.std.proofs.Common.{◌≡◌, ℕ, suc, ◌+◌, ◌-◌, ◌<◌, ◌≤◌, List, [], ◌∷◌, ◌++◌, ◌==◌, Bool, true, false, cond}
 use Rattle.std.proofs.Common.{drop, take, length, refl, ap, sym, ◌∙◌, arith, if◌then◌else◌, append-nil, append_assoc}
 use Rattle.std.proofs.Common.{length-append, Ok, Err, Result, not, ◌&&◌, ◌||◌}
@@ -13,7 +13,7 @@ use Rattle.cell_ascii_meaning.specs.Header.{Gap, Word, Feed, Last, Fault, gap_of
 use Rattle.cell_ascii_meaning.specs.declared.grid_fault.GridFault.{GridFault}
 use Rattle.cell_ascii_meaning.specs.declared.grid_fault.GridKind.TheVariants.{Read, ReaderStuck, LongToken}
 
--- these bytes, and then the end or a failure
+-- the coming bytes, followed by the end of the text or by a failed read
 abbrev pub coming : List ℕ → Bool → Coming
 coming bs f = record { bytes = bs; fails = f }
 
@@ -84,7 +84,7 @@ module _ (line run : ℕ) (low : run ≤ 1048576) where
       (line + newlines (take n (b ∷ bs))) (drop n (b ∷ bs)) f) longer
       ∙ (λ i. parts (tests i) (stuck i) (newlines_more line b (take gap bs) i) (drop gap bs) f)
 
-  -- the line after the byte, by whatever name
+  -- skipping a blank or line feed does not change the next word, and a line feed adds 1 to the line
   pub start-next : (b m : ℕ) (bs : List ℕ) (f : Bool) → is_space b ≡ true → run < 1048576
       → line + cond (b == 10) 1 0 ≡ m
       → grid_start line run (coming (b ∷ bs) f) ≡ grid_start m (run + 1) (coming bs f)

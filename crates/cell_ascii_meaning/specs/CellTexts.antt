@@ -33,7 +33,7 @@ after_start h (Begins line c) = cell_after_word h line (word_from line [] c)
 after_start h (Ends line) = Err (grid_fault TooFew line)
 after_start h (Stops f) = Err f
 
--- the next cell, from the pending word or else from the next word
+-- the next cell: from the pending word if there is one, otherwise from the next word
 unfoldable pub cell_from : HeaderValue → At → Reading CellValue
 cell_from h at = next at.pending
   where

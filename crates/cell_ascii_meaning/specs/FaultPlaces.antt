@@ -173,7 +173,7 @@ abbrev pub header_ends : Result HeaderValue GridKind → List (List ℕ) → Lis
 header_ends header words token place =
     if (is_end_of_words place && is_empty words) || ((ends_token place && is_word token) && length words == 1) then why_not header else None
 
--- why a data token is not a cell, if the header is valid
+-- the error of a data token that is not a cell, if the header is valid
 abbrev pub cell_fault : Result HeaderValue GridKind → List (List ℕ) → List ℕ → Option GridKind
 cell_fault (Err kind) words token = None
 cell_fault (Ok h) [] token = None
@@ -251,8 +251,7 @@ opening_table gap token inside earlier line header words place = if is_opening w
 abbrev pub kind_at : Table → ℕ → List ℕ → List (List (List ℕ)) → List (List ℕ) → List (List (List ℕ)) → FaultPlace → Option GridKind
 kind_at table gap token earlier line lines place = table gap token (in_header_line earlier line) earlier line (header_in lines) (data_words lines) place
 
--- the error at a place, given the bytes before it; a token contains no line feed, so it begins and ends in the same
--- line
+-- the error at a place, given the bytes before the place; a token contains no line feed, so each token is in one line
 abbrev pub reported_fault : Table → List ℕ → FaultPlace → Option GridFault
 reported_fault table before place = option_map (λ kind. grid_fault kind (line_of_place before))
     (kind_at table (gap_of_place before) (token_at_place before) (front_of (line_words before)) (last_token (line_words before)) (line_words before) place)

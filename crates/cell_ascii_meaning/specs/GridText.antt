@@ -1,4 +1,4 @@
--- Which texts denote which maps (r.in.ascii manual: header lines, then the cells row by row; the limits are our own).
+-- The maps that texts denote (r.in.ascii manual: header lines, then the cells row by row; the limits are our own).
 use Rattle.std.specs.Prelude.{ℕ, ◌≡◌, ◌+◌, ◌*◌, ◌<◌, ◌≤◌, Bool, true, false, not, ◌==◌, List, [], ◌∷◌, ◌++◌, length, map, drop, All, Option, Some, None, Ok, IsTrue, IsSome, bytes_eq, codes, slice_get, if◌then◌else◌}
 use Rattle.std.specs.List.{slice_split, filter, flat_map, list_all, find, take_while, prefix_len, before_first, after_first, IsDistinct}
 use Rattle.std.specs.Option.{option_and_then, option_map}
@@ -22,12 +22,12 @@ grid_words_of text = filter is_word (slice_split is_space text)
 abbrev pub line_words : List ℕ → List (List (List ℕ))
 line_words text = map grid_words_of (lines_of text)
 
--- the line has a first word without a colon, so it belongs to the data
+-- the line's first word has no colon, so the line belongs to the data
 abbrev pub is_data_line : List (List ℕ) → Bool
 is_data_line [] = false
 is_data_line (word ∷ words) = not (has_colon word)
 
--- the line has a first word with a colon, so it is a header line if it precedes the data
+-- the line's first word has a colon, so the line is a header line if it precedes the data
 abbrev pub is_header_line : List (List ℕ) → Bool
 is_header_line [] = false
 is_header_line (word ∷ words) = has_colon word

@@ -91,7 +91,7 @@ gap_of line run c =
     if nat_lt 1048576 (run + gap) then Fault (grid_fault ReaderStuck line)
     else gap_at line (run + gap) (drop gap c.bytes) c.fails
 
--- the value of a header line: the text after the colon, or else the next word of the line
+-- the value of a header line: the text after the colon if there is any, otherwise the next word of the line
 abbrev pub value_from : ℕ → List ℕ → Coming → Result (List ℕ × Coming) GridFault
 value_from line (b ∷ bs) c = Ok (b ∷ bs, c)
 value_from line [] c = after (gap_of line 0 c)

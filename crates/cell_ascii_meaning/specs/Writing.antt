@@ -17,11 +17,11 @@ without_zeros digits = take (length digits - prefix_len (λ b. b == byte (codes 
 abbrev pub fraction_text : ℕ → List ℕ
 fraction_text part = if part == 0 then [] else byte (codes ".") ∷ without_zeros (drop 1 (decimal (100000000 + part)))
 
--- a non-negative number, given in units of 10^-8
+-- the text of a non-negative number that is given in units of 10^-8
 abbrev pub units_text : ℕ → List ℕ
 units_text n = decimal (n / 100000000) ++ fraction_text (n % 100000000)
 
--- a coordinate: a minus sign if it is negative, its whole part, and its fraction if that is not 0
+-- the text of a coordinate: a minus sign if it is negative, its whole part, and its fraction if that is not 0
 abbrev pub coordinate_text : ℤ → List ℕ
 coordinate_text (pos n) = units_text n
 coordinate_text (negsuc n) = byte (codes "-") ∷ units_text (suc n)

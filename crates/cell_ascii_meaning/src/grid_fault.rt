@@ -3,7 +3,7 @@
 use cell_core::region::RegionFault;
 use thiserror::Error;
 
-/// What is wrong with a grid text.
+/// The kind of an error in a grid text.
 #[derive(Clone, Copy, Debug, PartialEq, Eq, Error)]
 pub enum GridKind {
     /// A header line with an unknown key, with no value or more than one, or with a null text that contains a colon.
