@@ -1,4 +1,4 @@
--- How large the value of digits is.
+-- Bounds of the value of digits.
 use Rattle.std.proofs.Common.{◌≡◌, ℕ, ◌+◌, ◌-◌, ◌*◌, ◌^◌, ◌<◌, ◌≤◌, Bool, true, false, List, [], ◌∷◌, length, ap, sym, ◌∙◌, refl, arith, Some}
 use Rattle.std.specs.Prelude.{fold, ◌&&◌, nat_le}
 use Rattle.std.specs.List.{list_all}
@@ -18,7 +18,7 @@ digit_most b e = grind (arith, nat_tests)
 abbrev next : ℕ → ℕ → ℕ
 next n b = n * 10 + (b - 48)
 
--- one digit more, below ten times as much
+-- one more digit keeps the value below ten times its bound
 one_more : (a d p : ℕ) → d ≤ 9 → (a * 10 + d + 1) * p ≤ (a + 1) * (p * 10)
 one_more a d p h = omega (arith, mul-le-mul_right p h)
 
@@ -31,7 +31,7 @@ fold_below a (b ∷ bs) e =
     let power : 10 ^ length (b ∷ bs) ≡ 10 ^ length bs * 10 = pow-suc 10 (length bs) in
     rw power (omega (arith, rest, grows))
 
--- digits are below a power of ten
+-- the value of n digits is below 10^n
 pub value_below : (bs : List ℕ) → list_all is_digit bs ≡ true → value_of_digits bs < 10 ^ length bs
 value_below bs e = omega (arith, fold_below 0 bs e)
 
@@ -41,7 +41,7 @@ whole_below bs e h = let p : 10 ^ length bs ≤ 10 ^ 10 = pow-le-pow_right (omeg
 split_power : (k : ℕ) → k ≤ 8 → 10 ^ k * 10 ^ (8 - k) ≡ 100000000
 split_power k h = let sum : k + (8 - k) ≡ 8 = omega arith in sym (pow-add 10 k (8 - k)) ∙ ap (λ (n : ℕ). 10 ^ n) sum
 
--- the digits after the point are worth less than one
+-- the digits after the point denote less than 1
 pub part_below : (bs : List ℕ) → list_all is_digit bs ≡ true → length bs ≤ 8 → value_of_digits bs * 10 ^ (8 - length bs) < 100000000
 part_below bs e h =
     let q = 10 ^ (8 - length bs) in

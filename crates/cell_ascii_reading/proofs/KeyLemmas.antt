@@ -1,4 +1,4 @@
--- The header of six keys that were all given.
+-- The header of six keys that are all given.
 use Rattle.std.proofs.Common.{◌≡◌, Some, Ok, Err, Result, refl}
 use Rattle.cell_core_values.specs.Region.{RegionValue, region_fault}
 use Rattle.cell_core_values.specs.declared.region.RegionFault.{RegionFault}
@@ -10,7 +10,7 @@ judged : (k : KeyValues) (made : Result RegionValue RegionFault)
 judged k (Ok region) = refl
 judged k (Err fault) = refl
 
--- the header is judged by the region of the keys
+-- if all six keys are given, the header depends on whether they form a region
 pub header-given : (k : KeyValues) (region : RegionValue) (made : Result RegionValue RegionFault)
     → made ≡ region_fault region
     → k.north ≡ Some region.north → k.south ≡ Some region.south → k.east ≡ Some region.east

@@ -1,4 +1,4 @@
--- Which errors are errors of the text.
+-- The errors of keys are errors of the text.
 use Rattle.std.proofs.Common.{◌≡◌, ℕ, List, Option, Some, None, Ok, Err, Bool, true, false, if◌then◌else◌, refl, subst}
 use Rattle.cell_ascii_meaning.specs.EdgeNumbers.{coordinate, side, whole_in_range}
 use Rattle.cell_ascii_meaning.specs.Header.{KeyValues, value_given, is_int, has_colon, with_header_key}
@@ -8,7 +8,7 @@ use Rattle.cell_ascii_meaning.specs.declared.header_key.HeaderKey.TheVariants.{N
 use Rattle.cell_ascii_meaning.specs.declared.grid_fault.GridKind.{GridKind}
 use Rattle.cell_ascii_meaning.specs.declared.grid_fault.GridKind.TheVariants.{BadHeader, TwiceKey, BadNumber, BadType}
 
--- what holds of the four errors of a key
+-- a property of the four kinds of key errors holds of each error of a key
 module _ (P : GridKind → Type 0) (header : P BadHeader) (twice : P TwiceKey) (number : P BadNumber) (other : P BadType) where
   given_kind : {X : Type 0} (old value : Option X) (keep : X → KeyValues) (kind : GridKind) → value_given old value keep ≡ Err kind → P kind
   given_kind (Some old) value keep kind e = let p : TwiceKey ≡ kind = cc in subst P p twice
@@ -36,7 +36,7 @@ module _ (P : GridKind → Type 0) (header : P BadHeader) (twice : P TwiceKey) (
   key_has keys (Some CellType) value kind e = type_kind keys.kind (is_int value) keys kind e
   key_has keys (Some Multiplier) value kind e = given_kind keys.multiplier (whole_in_range value) (λ x. record keys { multiplier = Some x }) kind e
 
--- a key that is not taken is an error of the text, and not of its source
+-- the error of a rejected key is an error of the text, not of its source
 pub key_kind : (keys : KeyValues) (key : Option HeaderKey) (value : List ℕ) (kind : GridKind) → with_header_key keys key value ≡ Err kind → IsOfText kind
 key_kind = key_has IsOfText tt tt tt tt
 

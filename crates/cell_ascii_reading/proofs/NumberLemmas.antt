@@ -1,4 +1,4 @@
--- Capped numbers denote the cells that the whole ones do.
+-- Capped numbers denote the same cells as uncapped numbers.
 use Rattle.std.proofs.Common.{◌≡◌, ℕ, ℤ, ◌≤◌, pos, negsuc, Bool, true, false, List, [], ◌∷◌, ap, sym, ◌∙◌, refl, arith, Option, Some, None, Err, if◌then◌else◌}
 use Rattle.std.specs.Prelude.{neg_ℤ, ◌==◌, ◌*ℤ◌, bytes_eq}
 use Rattle.std.specs.Int.RustNames.{unsigned_abs}
@@ -16,7 +16,7 @@ use Rattle.cell_ascii_meaning.specs.declared.grid_fault.GridKind.TheVariants.{Ce
 cell_far : (m n : ℤ) → is_in_range n ≡ false → cell_of_number m (Some n) ≡ Err CellRange
 cell_far m n e = rw e refl
 
--- a number that is in range is not capped, and one that is out of range stays so
+-- a number in range is not capped, and a number out of range stays out of range
 agree : (m z y : ℤ) → is_in_range y ≡ is_in_range z → (is_in_range z ≡ true → y ≡ z) → cell_of_number m (Some y) ≡ cell_of_number m (Some z)
 agree m z y e same = by (is_in_range z) refl
   where
@@ -52,7 +52,7 @@ signed_cell m true plus rest all = minus_cell m rest
 signed_cell m false true rest all = plus_cell m rest
 signed_cell m false false rest all = plus_cell m all
 
--- a number as it is computed denotes the cell that the number does
+-- a capped number denotes the same cell as the number
 pub capped_cell : (m : ℤ) (bs : List ℕ) → cell_of_number m (capped_number bs) ≡ cell_of_number m (whole_number bs)
 capped_cell m [] = refl
 capped_cell m (b ∷ bs) = signed_cell m (b == 45) (b == 43) (digits_of bs) (digits_of (b ∷ bs))
@@ -70,7 +70,7 @@ signed_same true plus rest all n e r = minus_same rest n e r
 signed_same false true rest all n e r = plus_same rest n e r
 signed_same false false rest all n e r = plus_same all n e r
 
--- a number in range is computed as it is
+-- a number in range is unchanged by the cap
 pub capped_same : (bs : List ℕ) (n : ℤ) → whole_number bs ≡ Some n → is_in_range n ≡ true → capped_number bs ≡ Some n
 capped_same [] n e r = cc
 capped_same (b ∷ bs) n e r = signed_same (b == 45) (b == 43) (digits_of bs) (digits_of (b ∷ bs)) n e r
@@ -83,7 +83,7 @@ signed_none false true (Some k) all e = cc
 signed_none false false rest None e = refl
 signed_none false false rest (Some k) e = cc
 
--- a text whose computed number is None is not a number
+-- a text without a capped number is not a number
 capped_none : (bs : List ℕ) → capped_number bs ≡ None → whole_number bs ≡ None
 capped_none [] e = refl
 capped_none (b ∷ bs) e = signed_none (b == 45) (b == 43) (digits_of bs) (digits_of (b ∷ bs)) e
@@ -98,19 +98,19 @@ by_one m n e = by (is_in_range n) refl
     by true f = rw (e, times_one n, f) refl
     by false f = rw f refl
 
--- the word of a number is its cell if the null text is not a number and nothing is multiplied
+-- a number denotes its cell if the null text is not a number and the multiplier is 1
 pub plain_cell : (h : HeaderValue) (word : List ℕ) (n : ℤ) → whole_number word ≡ Some n → capped_number h.null_text ≡ None → h.multiplier ≡ pos 1
     → cell_in_range n ≡ cell_of_word h word
 plain_cell h word n is none one =
     let other : bytes_eq word h.null_text ≡ false = bytes_eq-differ word h.null_text (λ same. let no : whole_number word ≡ None = capped_none word (ap capped_number same ∙ none) in cc) in
     rw (other, is) (by_one h.multiplier n one)
 
--- a word that is not the null text is judged as a number
+-- a word other than the null text denotes the cell of its number
 pub number_judged : (h : HeaderValue) (word : List ℕ) (number : ℤ) → bytes_eq word h.null_text ≡ false
     → Some number ≡ capped_number word → cell_of_number h.multiplier (Some number) ≡ cell_of_word h word
 number_judged h word number other is = rw other (ap (cell_of_number h.multiplier) is ∙ capped_cell h.multiplier word)
 
--- how large a number in range is
+-- the magnitude of a number in range is at most 2147483647
 pub number_small : (n : ℤ) → is_in_range n ≡ true → unsigned_abs n ≤ 2147483647
 number_small (pos k) e = grind (arith, nat_tests)
 number_small (negsuc k) e = grind (arith, nat_tests)

@@ -1,4 +1,4 @@
--- The lines of a header, from their values, their ends and their first words.
+-- The lines of a header, read from their values, their ends and their first words.
 use Rattle.std.proofs.Common.{◌≡◌, ℕ, suc, ◌+◌, ◌-◌, ◌<◌, ◌≤◌, List, [], ◌∷◌, Option, Some, None, Result, Ok, Err, Bool, true, false, if◌then◌else◌, length, drop, take, refl, ap, sym, ◌∙◌, arith, take_all, length-drop, cond, not}
 use Rattle.std.proofs.lemmas.List.{drop_all}
 use Rattle.std.specs.Option.{option_map}
@@ -20,12 +20,12 @@ use Rattle.cell_ascii_reading.specs.declared.scanner.Next.TheVariants.{Word as N
 use Rattle.cell_ascii_reading.proofs.MapLemmas.{then_map, map_same}
 use Rattle.cell_ascii_reading.proofs.ComingLemmas.{at_end}
 
--- what comes after the colon is the value
+-- the bytes after the colon of a word are the value, if there are any
 pub value_here : (line : ℕ) (bs : List ℕ) (c : Coming) → 0 < length bs → value_from line bs c ≡ Ok (bs, c)
 value_here line [] c h = absurd (omega arith)
 value_here line (b ∷ bs) c h = refl
 
--- the value after a colon that ends its word, by what ends the blanks
+-- the value after a colon at the end of a word, given how the blanks end
 abbrev after_blanks : ℕ → Gap → Result (List ℕ × Coming) GridFault
 after_blanks line (Word d) = word_from line [] d
 after_blanks line (FeedGap run d) = Err (grid_fault BadHeader line)
@@ -58,7 +58,7 @@ ends_with : (more : KeyValues) (line run : ℕ) (e : Ending) (c : Coming) → af
 ends_with more line run Feed c = refl
 ends_with more line run Text c = refl
 
--- a header line whose value and end were read
+-- a header line whose value and end were read gives its key
 pub key_done : (line : ℕ) (keys : KeyValues) (word w : List ℕ) (at run : ℕ) (e : Ending) (more : KeyValues) (a b d : Option Coming)
     → option_map (value_from line (after_first is_colon word)) a ≡ option_map (value_seen (Ok at) w) b
     → option_map (λ c. line_end line (gap_of line 0 c)) b ≡ option_map (ending_seen (Ok e) run) d
@@ -72,7 +72,7 @@ key_done line keys word w at run e more a b d values ends given =
     ∙ ap (λ (v : Result KeyValues GridKind). option_map (λ c. after_end v line (ending_seen (Ok e) run c)) d) given
     ∙ map_same (λ c. after_end (Ok more) line (ending_seen (Ok e) run c)) (key_line_seen (Ok e) more run) d (ends_with more line run e)
 
--- one whose value could not be read
+-- a header line whose value could not be read gives the error of the value
 pub key_unread : (line : ℕ) (keys : KeyValues) (word w : List ℕ) (run : ℕ) (more : KeyValues) (f : GridFault)
     (a b : Option Coming)
     → option_map (value_from line (after_first is_colon word)) a ≡ option_map (value_seen (Err f) w) b
@@ -81,7 +81,7 @@ key_unread line keys word w run more f a b values =
     then_map (after_value line keys word) (value_from line (after_first is_colon word)) (value_seen (Err f) w) a b
     values
 
--- one whose end could not be read
+-- a header line whose end could not be read gives the error of the end
 pub key_unended : (line : ℕ) (keys : KeyValues) (word w : List ℕ) (at run : ℕ) (more : KeyValues) (f : GridFault)
     (a b d : Option Coming)
     → option_map (value_from line (after_first is_colon word)) a ≡ option_map (value_seen (Ok at) w) b
@@ -98,7 +98,7 @@ refused_with : (kind : GridKind) (line run : ℕ) (e : Ending) (c : Coming)
 refused_with kind line run Feed c = refl
 refused_with kind line run Text c = refl
 
--- a line whose key or value is rejected
+-- a header line whose key or value is rejected gives the error of the key
 pub key_refused : (line : ℕ) (keys : KeyValues) (word w : List ℕ) (at run : ℕ) (e : Ending) (more : KeyValues)
     (kind : GridKind)
     (a b d : Option Coming)
@@ -115,11 +115,11 @@ key_refused line keys word w at run e more kind a b d values ends given =
     ∙ map_same (λ c. after_end (Err kind) line (ending_seen (Ok e) run c))
     (key_line_seen (Err (grid_fault kind line)) more run) d (refused_with kind line run e)
 
--- the rest of a list, cut at its own length, is the rest
+-- the rest of a list, cut to its own length, is unchanged
 whole_rest : (bs : List ℕ) (i : ℕ) → take (length bs - i) (drop i bs) ≡ drop i bs
 whole_rest bs i = take_all (length bs - i) (drop i bs) (omega (arith, length-drop i bs))
 
--- the key and the value as they are computed
+-- the key and the value that the code computes are the key and the value of the line
 pub key_given : (keys : KeyValues) (r : Result KeyValues GridKind) (word first last end : List ℕ) (colon at : ℕ)
     (key : Option HeaderKey)
     → colon ≡ position_or_len is_colon word → first ≡ word → key ≡ header_key_of (take colon first) → last ≡ end
@@ -136,7 +136,7 @@ later p x xs e = ap (λ (t : Bool). cond (not t) (1 + position_or_len p xs) 0) e
 none_later : (p : ℕ → Bool) (x : ℕ) (xs : List ℕ) → p x ≡ true → position_or_len p (x ∷ xs) ≡ 0
 none_later p x xs e = ap (λ (t : Bool). cond (not t) (1 + position_or_len p xs) 0) e
 
--- a word has a colon if the first colon comes before its end
+-- a word contains a colon if its first colon comes before its end
 pub any_within : (p : ℕ → Bool) (xs : List ℕ) → position_or_len p xs < length xs → list_any p xs ≡ true
 any_within p [] h = absurd (omega arith)
 any_within p (x ∷ xs) h = by (any_within p xs) (p x) refl
@@ -164,7 +164,7 @@ module _ (keys : KeyValues) (line run l : ℕ) (word : List ℕ) (a b d : Option
       then_map (line_read keys) (grid_start line run) (start_seen (Ok NextWord) l) a b starts
       ∙ then_map (after_first_word keys l) (word_from l []) (word_seen (Ok tt) word) b d words
 
-  -- the data begins
+  -- a line whose first word has no colon begins the data
   pub line_data : list_any is_colon word ≡ false → option_map (λ c. line_read keys (grid_start line run c)) a ≡ option_map (λ c. Ok (Stop keys l (Some word) c)) d
   line_data none = first_word ∙ map_same (λ c. after_first_word keys l (Ok (word, c))) (λ c. Ok (Stop keys l (Some word) c)) d (λ c. rw none refl)
 
@@ -176,12 +176,12 @@ module _ (keys : KeyValues) (line run l : ℕ) (word : List ℕ) (a b d : Option
         → option_map (λ c. line_read keys (grid_start line run c)) a ≡ option_map (λ c. key_line_seen r more run' c >>= after_key l) e
     line_ends r h = key_word some ∙ then_map (λ r. r >>= after_key l) (key_line l keys word) (key_line_seen r more run') d e h
 
-    -- a further line comes
+    -- another line follows
     pub line_more : (m : ℕ) → m ≡ l + 1 → option_map (key_line l keys word) d ≡ option_map (key_line_seen (Ok Feed) more run') e
         → option_map (λ c. line_read keys (grid_start line run c)) a ≡ option_map (λ c. Ok (More more m run' c)) e
     line_more m next h = line_ends (Ok Feed) h ∙ ap (λ (n : ℕ). option_map (λ c. Ok (More more n run' c)) e) (sym next)
 
-    -- the text ends with the line
+    -- the text ends with this line
     pub line_last : (m : ℕ) → m ≡ l → IsAtEnd false e → option_map (key_line l keys word) d ≡ option_map (key_line_seen (Ok Text) more run') e
         → option_map (λ c. line_read keys (grid_start line run c)) a ≡ option_map (λ c. Ok (Stop more m None c)) e
     line_last m same end h =
@@ -192,7 +192,7 @@ module _ (keys : KeyValues) (line run l : ℕ) (word : List ℕ) (a b d : Option
         → option_map (λ c. line_read keys (grid_start line run c)) a ≡ option_map (λ c. Err f) e
     line_fails f h = line_ends (Err f) h
 
--- a line of the header, and then what is read after it
+-- the header after one line, which continues with `rest`
 abbrev go_on : (KeyValues → ℕ → ℕ → Coming → Result OpenedText GridFault) → Result AfterLine GridFault
     → Result OpenedText GridFault
 go_on rest (Ok (More keys line run c)) = rest keys line run c
@@ -243,7 +243,7 @@ module _ (F : Coming → Result OpenedText GridFault) (a b d : Option Coming) (i
       ∙ map_same (header_from (suc (10 - (i + 1))) keys line run) (λ c. go_on (λ k l r x. header_from (10 - (i + 1)) k l r x) (line_read keys (grid_start line run c))) b (header_more (10 - (i + 1)) keys line run)
       ∙ then_map (go_on (λ k l r x. header_from (10 - (i + 1)) k l r x)) (λ c. line_read keys (grid_start line run c)) seen b d h
 
-  -- the keys after the line, and the lines after it
+  -- reading a header is reading its first line and then the other lines with the line's keys
   pub header_goes : (more : KeyValues) (l r : ℕ) → option_map (λ c. line_read keys (grid_start line run c)) b ≡ option_map (λ c. Ok (More more l r c)) d
       → option_map F a ≡ option_map (header_from (10 - (i + 1)) more l r) d
   header_goes more l r h = one_line (λ c. Ok (More more l r c)) h

@@ -27,7 +27,7 @@ room_of run e = grind (arith, nat_tests)
 full_of : (run : ℕ) → nat_lt run 1048576 ≡ false → 1048576 ≤ run
 full_of run e = grind (arith, nat_tests)
 
--- a step at a byte of which these three are known
+-- a step at a byte, given whether it is a blank, whether the run has room and whether it is a line feed
 pub step-byte : (line run b : ℕ) (bs : List ℕ) (f : Bool) {space room feed : Bool}
     → is_space b ≡ space → nat_lt run 1048576 ≡ room → (b == 10) ≡ feed
     → step_of line run (coming (b ∷ bs) f)
@@ -43,7 +43,7 @@ pub step-fails : (line run : ℕ) → step_of line run (coming [] true) ≡ (Err
 unfolding step_of
 step-fails line run = refl
 
--- what a function says of what was to come goes by what another says of it
+-- functions of results that agree before and after a step also agree
 agrees_after : {A B : Type 0} (F K : Coming → A) (H : Coming → B) (G : A → B) → ((c : Coming) → H c ≡ G (F c))
     → (x y : Option Coming)
     → option_map F x ≡ option_map K y → option_map H x ≡ option_map (λ c. G (K c)) y
@@ -52,7 +52,7 @@ agrees_after F K H G same None (Some d) e = cc
 agrees_after F K H G same (Some c) None e = cc
 agrees_after F K H G same (Some c) (Some d) e = let inner : F c ≡ K d = cc in ap Some (same c ∙ ap G inner)
 
--- what a step and the bytes after it say of the next word, and of the rest of the line
+-- the next word after a step, and the rest of the line after it
 abbrev start_after : ℕ → ℕ → Result ScanStep GridFault × Coming → Start
 start_after line run p = start_step p.0 (line_step p.0 line) (run_step p.0 run) p.1
 
@@ -98,7 +98,7 @@ lines_by (Ok Word) line run = omega arith
 lines_by (Ok End) line run = omega arith
 lines_by (Err f) line run = omega arith
 
--- what a step from one place to another shows
+-- a step from one place to another gives the same next word, line end, line and run
 pub record Reports (r : Result ScanStep GridFault) (s t : Scan) : Type 0 where
   pub starts : Agrees (grid_start s.line s.run) s.ahead (start_step r t.line t.run) t.ahead
   pub gap : Agrees (gap_of s.line s.run) s.ahead (gap_step r t.line t.run) t.ahead
@@ -122,7 +122,7 @@ step_reports {r = r} {s = s} {t = t} low step =
       word = ap (λ (v : Scan). v.word) step.scan;
     }
 
--- the line and the run after some steps and one more
+-- the line number stays below its limit after `more` more bytes
 pub room_left : (old run line more most : ℕ) → line + run ≤ old + more → old + 1048576 < most → line + 1048576 < most + more
 room_left old run line more most lines room = omega arith
 

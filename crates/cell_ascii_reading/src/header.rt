@@ -106,8 +106,8 @@ impl Header {
         }
     }
 
-    // Returns whether the word of a number is the null text. The texts are compared only if the numbers do not decide
-    // it.
+    // Returns whether the word of a number is the null text. The texts are compared only if their numbers do not settle
+    // the question.
     #[inline(always)]
     fn spells_null(&self, word: &[u8], number: i64) -> bool
         requires { whole_number word.now ≡ Some number }

@@ -148,7 +148,7 @@ fn read_line<R: Source>(
     }
 }
 
-/// Reads the lines of a header up to the first word of the data, or to the end of the text. Returns whether it found a
+/// Reads the lines of a header up to the first word of the data, or to the end of the text. Returns whether there is a
 /// first word.
 pub fn read_header<R: Source>(
     scanner: &mut Scanner<R>,

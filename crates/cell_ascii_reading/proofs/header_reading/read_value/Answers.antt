@@ -15,7 +15,7 @@ below_most a b h = omega arith
 least : (n : ℕ) → 0 ≤ n
 least n = omega arith
 
--- something comes after a place within a list
+-- a list has items after each index within it
 some_behind : {A : Type 0} (at : ℕ) (xs : List A) → at < length xs → 0 < length (drop at xs)
 some_behind at xs h = omega (arith, length-drop at xs)
 

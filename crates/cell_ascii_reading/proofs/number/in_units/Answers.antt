@@ -6,7 +6,7 @@ use Rattle.cell_core_values.specs.Capped.{at_most}
 use Rattle.cell_ascii_reading.proofs.DigitLemmas.{whole_capped, part_capped, in_units_is, units_below, whole_below, short_whole}
 use Rattle.cell_ascii_reading.proofs.number.in_units.Goals as goal
 
--- the value as it is computed, below its bound
+-- the computed value is below its bound
 below : (whole part : List ℕ) (a b scale : ℕ) → list_all is_digit whole ≡ true → list_all is_digit part ≡ true
     → ((nat_le (length whole) 10 && nat_le (length part) 8) && nat_le 1 (length whole + length part)) ≡ true
     → a ≡ at_most (value_of_digits whole) → b ≡ at_most (value_of_digits part) → scale ≡ 10 ^ (8 - length part)

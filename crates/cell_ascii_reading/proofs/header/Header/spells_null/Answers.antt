@@ -7,7 +7,7 @@ use Rattle.cell_ascii_meaning.specs.EdgeNumbers.{whole_number, is_in_range}
 use Rattle.cell_ascii_reading.proofs.NumberLemmas.{capped_same}
 use Rattle.cell_ascii_reading.proofs.header.Header.spells_null.Goals as goal
 
--- a word is not a text whose number is another
+-- a word differs from a text that denotes another number
 other_word : (word text : List ℕ) (number : ℤ) → whole_number word ≡ Some number → is_in_range number ≡ true → capped_number text ≢ Some number → bytes_eq word text ≡ false
 other_word word text number is near other = bytes_eq-differ word text (λ same. other (sym (ap capped_number same) ∙ capped_same word number is near))
 

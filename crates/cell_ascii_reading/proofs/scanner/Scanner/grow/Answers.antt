@@ -20,7 +20,7 @@ err_no_ok P (Err d) x err e = cc
 false_no_true : (P : Type 0) (r : Result Bool GridFault) → r ≡ Ok false → r ≡ Ok true → P
 false_no_true P r one other = cc
 
--- one byte more
+-- storing one more byte extends the word by that byte
 one_more : (word items : List ℕ) (len b : ℕ) → len < 64 → length items ≡ 64 → take len items ≡ word → length (take (len + 1) (set items len b)) ≡ length word + 1
 one_more word items len b room size front =
     omega (arith, length-take (len + 1) (set items len b), length-set items len b, length-take len items, ap length front)
