@@ -51,7 +51,7 @@ fn cells_of(alloc: Global, map: &CellMap) -> Result<Vec<Cell>, Memory> {
     Ok(found)
 }
 
-// Checks that both are the same map or the same error.
+// Checks that two results are the same map or the same error.
 fn expect_same<R: Abort + AllocGlobal>(
     rt: &R,
     answer: &Result<CellMap, GridFault>,
