@@ -1,4 +1,4 @@
--- Bytes as a number.
+-- Bytes and their numbers.
 use Rattle.std.proofs.Common.{◌≡◌, ℕ, zero, suc, ◌+◌, ◌*◌, ◌/◌, ◌%◌, ◌^◌, ◌<◌, ◌≤◌, List, [], ◌∷◌, ◌++◌, length, take, drop, get_or, decimal, refl, ap, ap₂, sym, ◌∙◌, arith, length-take, length-append, append_assoc, add-one}
 use Rattle.std.proofs.lemmas.Nat.{mod-pow-add, field_of, mod_low}
 use Rattle.std.proofs.lemmas.List.{get_or-take, take-append-le}
@@ -9,7 +9,7 @@ use Rattle.std.proofs.Math.Seq.{take-append-add}
 use Rattle.cell_ascii_writer.specs.Fields.{low_bytes}
 use lib.Lanes.{number_l, digits_l, put_chunk}
 
--- the lower bits have the lower digits
+-- the low bytes of a number depend only on its low bits
 pub digits-mod : (size all n : ℕ) → size ≤ all → digits_l 256 size (n % 2 ^ (8 * all)) ≡ digits_l 256 size n
 digits-mod zero all n le = refl
 digits-mod (suc size) zero n le = absurd (omega arith)
@@ -20,7 +20,7 @@ digits-mod (suc size) (suc all) n le =
     ap (λ (k : ℕ). digits_l 256 (suc size) (n % 2 ^ k)) more
     ∙ ap₂ (λ (d : ℕ) (l : List ℕ). d ∷ l) first (ap (digits_l 256 size) (field_of n (8 * all) 8) ∙ digits-mod size all (n / 2 ^ 8) (omega arith))
 
--- bytes as a number, and back
+-- the bytes of the number of some bytes are these bytes
 pub digits-number : (size all : ℕ) (bytes : List ℕ) → size ≤ all → all ≤ length bytes → ((k : ℕ) → k < size → get_or bytes k 0 < 256) → digits_l 256 size (number_l 256 (take all bytes)) ≡ take size bytes
 digits-number zero all bytes le held below = refl
 digits-number (suc size) zero bytes le held below = absurd (omega arith)
@@ -33,7 +33,7 @@ digits-number (suc size) (suc all) (b ∷ bytes) le held below =
     let rest : (b + 256 * n) / 256 ≡ n = omega arith in
     ap₂ (λ (d : ℕ) (l : List ℕ). d ∷ l) first (ap (digits_l 256 size) rest ∙ digits-number size all bytes (omega arith) (omega arith) (λ k few. below (suc k) (omega arith)))
 
--- a text at the start of bytes that are loaded as a number
+-- the number loaded from a field has the field's space and text as its lowest bytes
 pub loaded : (field text : List ℕ) → 8 ≤ length field → length text ≤ 7 → ((k : ℕ) → get_or text k 0 < 256) → take (length text + 1) field ≡ 32 ∷ text
     → low_bytes (number_l 256 (take 8 field) % 18446744073709551616) (length text + 1) ≡ 32 ∷ text
 loaded field text held few below is =
@@ -52,7 +52,7 @@ digits-fewer zero all n le = refl
 digits-fewer (suc size) zero n le = absurd (omega arith)
 digits-fewer (suc size) (suc all) n le = ap (λ (l : List ℕ). (n % 256) ∷ l) (digits-fewer size all (n / 256) (omega arith))
 
--- eight bytes are stored, of which the first belong to a text
+-- storing a number's eight bytes keeps the bytes before them and writes the number's lowest `size` bytes
 pub stored : (line : List ℕ) (at bytes size : ℕ) → at + 8 ≤ length line → size ≤ 8 → take (at + size) (put_chunk at line (digits_l 256 8 (bytes + 0))) ≡ take at line ++ low_bytes bytes size
 stored line at bytes size room few =
     let same : bytes + 0 ≡ bytes = omega arith in
@@ -65,7 +65,7 @@ stored line at bytes size room few =
     ∙ take-append-add (take at line) (eight ++ drop (length eight) (drop at line)) size
     ∙ ap (λ (l : List ℕ). take at line ++ l) (take-append-le size eight (drop (length eight) (drop at line)) short ∙ digits-fewer size 8 (bytes + 0) few ∙ ap (digits_l 256 size) same)
 
--- one byte more, below the others
+-- adding a lowest byte to a number puts it before the number's bytes
 pub low_bytes-more : (bytes size d : ℕ) → d < 256 → low_bytes (bytes * 256 + d) (size + 1) ≡ d ∷ low_bytes bytes size
 low_bytes-more bytes size d small =
     let count : size + 1 ≡ suc size = omega arith in

@@ -1,4 +1,4 @@
--- Digits of numbers, in a byte each.
+-- The digits of numbers, one per byte.
 use Rattle.std.proofs.Common.{◌≡◌, ◌≢◌, ◌∙◌, ℕ, zero, suc, ◌+◌, ◌-◌, ◌*◌, ◌/◌, ◌%◌, ◌^◌, ◌<◌, ◌≤◌, List, [], ◌∷◌, ◌++◌, decimal, refl, ap, ap₂, sym, arith, inl, inr}
 use Rattle.std.proofs.lemmas.Fmt.{decimal_digit, decimal_step}
 use Rattle.std.proofs.lemmas.Nat.{pow-add, div-mul-add, mod-pow-add}
@@ -8,7 +8,7 @@ use Rattle.std.specs.Int.Count.{count_trailing_zeros, under}
 use Rattle.cell_ascii_writer.specs.Fields.{digit_values, low_bytes}
 use lib.Lanes.{digits_l}
 
--- a number in two parts, and its digits
+-- the digits of a number of two parts are the digits of the parts
 pub values-parts : (j k upper lower : ℕ) → lower < 10 ^ k
     → digit_values (j + k) (upper * 10 ^ k + lower) ≡ digit_values j upper + 256 ^ j * digit_values k lower
 values-parts j zero upper lower few =
@@ -39,21 +39,21 @@ values-parts j (suc k) upper lower few =
     ∙ ap (λ (v : ℕ). v + 256 ^ (j + k) * d) (values-parts j k upper (lower / 10) less)
     ∙ rest
 
--- no digits but zeros
+-- the digits of 0 are zeros
 values-none : (k : ℕ) → digit_values k 0 ≡ 0
 values-none zero = refl
 values-none (suc k) =
     let rest : 0 + 256 ^ k * 0 ≡ 0 = omega arith in
     ap (λ (v : ℕ). v + 256 ^ k * 0) (values-none k) ∙ rest
 
--- zeros before the digits of a smaller number
+-- a smaller number has zeros before its digits
 values-after_zeros : (z k n : ℕ) → n < 10 ^ k → digit_values (z + k) n ≡ 256 ^ z * digit_values k n
 values-after_zeros z k n few =
     let whole : 0 * 10 ^ k + n ≡ n = omega arith in
     let parts = ap (digit_values (z + k)) (sym whole) ∙ values-parts z k 0 n few in
     omega (arith, parts, values-none z)
 
--- k digits 0
+-- k bytes that are each the digit 0
 abbrev pub zeros : ℕ → ℕ
 zeros zero = 0
 zeros (suc k) = zeros k + 256 ^ k * 48
@@ -90,7 +90,7 @@ text-below (suc k) n =
     let most : 256 ^ k * d ≤ 256 ^ k * 9 = mul-le-mul_left (256 ^ k) small in
     omega arith
 
--- one byte more, above the others
+-- adding a highest byte to a number puts it after the number's bytes
 low_bytes-last : (k a d : ℕ) → a < 256 ^ k → d < 256 → low_bytes (a + 256 ^ k * d) (suc k) ≡ low_bytes a k ++ d ∷ []
 low_bytes-last zero a d few small =
     let number : (a + 1 * d) % 256 ≡ d = omega arith in
@@ -105,7 +105,7 @@ low_bytes-last (suc k) a d few small =
     let rest : (a + 256 ^ suc k * d) / 256 ≡ a / 256 + 256 ^ k * d = omega (arith, ends) in
     ap₂ (λ (x : ℕ) (l : List ℕ). x ∷ l) first (ap (digits_l 256 (suc k)) rest ∙ low_bytes-last k (a / 256) d less small)
 
--- the digits of a number of k + 1 digits are its text
+-- the digits of a number of k + 1 digits are its decimal text
 pub values-decimal : (k n : ℕ) → 10 ^ k ≤ n → n < 10 ^ suc k → n < 2 ^ 64
     → low_bytes (digit_values (suc k) n + zeros (suc k)) (suc k) ≡ decimal n
 values-decimal zero n many few wide =
@@ -136,7 +136,7 @@ values-decimal (suc k) n many few wide =
     pow-some zero = omega arith
     pow-some (suc k) = omega (arith, pow-suc 10 k, pow-some k)
 
--- the first of them is not 0
+-- the first digit of a number of k + 1 digits is not 0
 values-first : (k n : ℕ) → 10 ^ k ≤ n → n < 10 ^ suc k → 0 < digit_values (suc k) n % 256
 values-first zero n many few = omega arith
 values-first (suc k) n many few =
@@ -194,7 +194,7 @@ bytes-power (suc z) =
     pow-suc 256 z ∙ ap (λ (x : ℕ). x * 256) (bytes-power z) ∙ sym (pow-add 2 (8 * z) 8)
     ∙ ap (λ (i : ℕ). 2 ^ i) (sym count)
 
--- z bytes 0 before one that is not 0
+-- z low bytes that are 0, before a byte that is not, are counted with the trailing zero bits
 trailing-bytes : (z y : ℕ) → z ≤ 7 → 0 < y % 256 → count_trailing_zeros 64 (256 ^ z * y) / 8 ≡ z
 trailing-bytes z y few some =
     let rest = 64 - 8 * z in
@@ -205,7 +205,7 @@ trailing-bytes z y few some =
     let last : count_trailing_zeros rest y < 8 = trailing-below 8 rest y le some in
     omega (arith, shifted, last)
 
--- ---- a number that has at most a given number of digits
+-- ---- a number with at most a given number of digits
 
 record HasDigits (most number : ℕ) : Type 0 where
   before : ℕ
@@ -224,7 +224,7 @@ has-digits (suc most) n some few =
       | inr more ↦ record { before = 0; others = most; all = omega arith; many = more; few = few }
     ]
 
--- its digits, as the lowest bytes of a number
+-- the digits of a number, as the low bytes of another number
 pub record AreDigits (number before bytes : ℕ) : Type 0 where
   pub most : before ≤ 5
   pub small : bytes < 281474976710656
@@ -265,7 +265,7 @@ digits-text n x before some few is found =
       text = ap₂ low_bytes text size ∙ values-decimal k n has.many has.few wide;
     }
 
--- a number of seven digits, in a first one and six others
+-- the text of a number of seven digits is its first digit and the six others
 pub seven-digits : (n x : ℕ) → 1000000 ≤ n → n < 10000000 → x ≡ digit_values 6 (n % 1000000)
     → low_bytes ((x + 52983525027888) * 256 + (n / 1000000 + 48)) 7 ≡ decimal n
 seven-digits n x many few is =

@@ -1,4 +1,4 @@
--- Fields of the cells that bytes stand for.
+-- Fields with the text of cells that bytes stand for.
 use Rattle.std.proofs.Common.{◌≡◌, ◌≢◌, ◌∙◌, ℕ, ◌<◌, ◌≤◌, ◌==◌, false, List, [], ◌∷◌, length, get_or, replicate, decimal, ap, refl, sym, subst, arith}
 use Rattle.std.proofs.Math.ListN.{set}
 use Rattle.std.proofs.lemmas.Bool.Decides.{nat_tests}
@@ -10,11 +10,11 @@ use Rattle.cell_ascii_writer.specs.Fields.{IsFieldOf}
 use Rattle.cell_ascii_writer.specs.declared.fields.Field.{Field}
 use Rattle.cell_ascii_writer.specs.parts.MadeFields.{AreMade}
 
--- the text of the cell that a byte other than 255 stands for
+-- the text of a byte below 255 is its decimal number
 small-text : (null : List ℕ) (i : ℕ) → i < 255 → cell_text null (byte_cell i) ≡ decimal i
 small-text null i below = let t : (i == 255) ≡ false = grind (arith, nat_tests) in rw t
 
--- the field of 0 is the first
+-- a table filled with the field of 0 has the correct field for 0
 pub first-made : (n : ℕ) (field : Field) → IsFieldOf (48 ∷ []) field → 0 < n → (k : ℕ) (d : Field) → k < 1
     → IsFieldOf (decimal k) (get_or (replicate n field) k d)
 first-made n field is some k d below =
@@ -24,7 +24,7 @@ first-made n field is some k d below =
 
 module _ (null : List ℕ) (small : List Field) (short : length null ≤ 64)
     (made : (k : ℕ) (d : Field) → k < 255 → IsFieldOf (decimal k) (get_or small k d)) where
-  -- null has no field
+  -- if the null text has more than seven bytes, null needs no field
   pub made-but_null : 7 < length null → AreMade null small
   made-but_null long = record {
     null = short;
@@ -32,7 +32,7 @@ module _ (null : List ℕ) (small : List Field) (short : length null ≤ 64)
     null_field = λ d few. absurd (omega (arith, few, long));
   }
 
-  -- it has one
+  -- storing the field of null for byte 255 completes the fields
   pub made-all : (field : Field) → length small ≡ 256 → IsFieldOf null field → AreMade null (set small 255 field)
   made-all field room is = record {
     null = short;

@@ -1,4 +1,4 @@
--- How long a grid text is at the most.
+-- The maximum length of a grid text.
 use Rattle.std.proofs.Common.{Some, None, ◌≡◌, ◌+◌, ◌-◌, ◌*◌, ◌/◌, ◌%◌, ◌<◌, ◌≤◌, ◌==◌, ℕ, ℤ, pos, negsuc, suc, Bool, true, false, List, [], ◌∷◌, ◌++◌, All, length, drop, map, reverse, get_or, codes, decimal, flat_map, unsigned_abs, refl, arith, length-append, length-take, length-drop}
 use Rattle.std.specs.List.{join_with_byte, prefix_len}
 use Rattle.std.proofs.lemmas.Bool.Decides.{nat_tests}
@@ -55,7 +55,7 @@ edge_line key z few h = omega (arith, line key (coordinate_text z), coordinate z
 side_line : (key : List ℕ) (n : ℕ) → length key ≤ 5 → n ≤ 65535 → length (line_of_key key (decimal n)) ≤ 28
 side_line key n few h = omega (arith, line key (decimal n), decimal_20 n (omega (arith, h)), few)
 
--- the lines of a region
+-- the lines of a region have at most 256 bytes
 pub region_length : (e : RegionValue) → unsigned_abs e.north < 18446744073709551616 → unsigned_abs e.south < 18446744073709551616 → unsigned_abs e.east < 18446744073709551616 → unsigned_abs e.west < 18446744073709551616
     → e.rows ≤ 65535 → e.cols ≤ 65535 → length (region_text e) ≤ 256
 region_length e north south east west rows cols =
@@ -80,7 +80,7 @@ region_length e north south east west rows cols =
       length-append a b,
     )
 
--- the line of a null text
+-- the line of a null text has at most 71 bytes
 pub null_length : (null : List ℕ) → length null ≤ 64 → length (null_line null) ≤ 71
 null_length null few = by (bytes_eq null usual_null) refl
   where
@@ -88,7 +88,7 @@ null_length null few = by (bytes_eq null usual_null) refl
     by true e = rw e (omega arith)
     by false e = rw e (omega (arith, line (codes "null") null, few))
 
--- texts joined by a byte, and texts one after another
+-- texts of at most 64 bytes, joined by a byte, have at most 65 bytes each
 joined : (c : ℕ) (texts : List (List ℕ)) → All (λ t. length t ≤ 64) texts → length (join_with_byte c texts) ≤ 65 * length texts
 joined c [] few = omega arith
 joined c (t ∷ []) few = omega (arith, few 0 [] (omega arith))
@@ -100,7 +100,7 @@ one_after_another f [] few = omega arith
 one_after_another f (x ∷ xs) few =
     omega (arith, few 0 x (omega arith), one_after_another f xs (λ i d h. few (suc i) d (omega (arith, h))), length-append (f x) (flat_map f xs))
 
--- a cell
+-- the magnitude of a category is below 2^31
 category_below : (c : ℤ) → is_category c ≡ true → mag c < 2147483648
 category_below (pos n) h = grind (arith, ints)
 category_below (negsuc n) h = grind (arith, ints)
@@ -117,7 +117,7 @@ row_length null few row are narrow =
     let texts = map (cell_text null) row in
     omega (arith, joined 32 texts (cells null few row are), length-map row (cell_text null), narrow, length-append (join_with_byte 32 texts) (10 ∷ []))
 
--- a grid text
+-- the length of a grid text is below the largest count
 pub grid_length : (null : List ℕ) → length null ≤ 64 → (m : Grid) → length (region_text m.region) ≤ 256 → m.region.rows ≤ 65535 → m.region.cols ≤ 65535 → IsFilled m.region m.rows → AreCells m.rows
     → length (grid_text null m) < 18446744073709551615
 grid_length null few m region rows cols filled are =

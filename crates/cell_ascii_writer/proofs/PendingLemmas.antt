@@ -1,4 +1,4 @@
--- Text that is appended but for its last bytes.
+-- Text that is appended except for its last bytes.
 use Rattle.std.proofs.Common.{◌≡◌, ◌∙◌, ℕ, List, [], ◌++◌, Option, refl, sym, ap, append_assoc, append-nil, subst}
 use Rattle.cell_core_devices.specs.Device.{Faults}
 use Rattle.cell_core_devices.specs.Blocks.{BlockValue, Appends}
@@ -6,11 +6,11 @@ use Rattle.cell_core_devices.proofs.BlockLemmas.{appends_none, appends_then}
 use Rattle.cell_ascii_writer.specs.Fields.{AppendsBut}
 
 module _ {S : Type 0} {taken : S → Option (List ℕ)} {faults : S → Faults} {old : S} {block : BlockValue} where
-  -- nothing is appended yet
+  -- before anything is appended, all bytes are pending
   pub pending_none : (text : List ℕ) → AppendsBut taken faults old block text text old block
   pending_none text = record { front = []; whole = refl; appends = appends_none }
 
-  -- more bytes are still to be appended
+  -- more text makes more bytes pending
   pub pending_more : {text pending : List ℕ} {now : S} {new : BlockValue} (more : List ℕ) → AppendsBut taken faults old block text pending now new
       → AppendsBut taken faults old block (text ++ more) (pending ++ more) now new
   pending_more {text} {pending} more p = record {
@@ -19,7 +19,7 @@ module _ {S : Type 0} {taken : S → Option (List ℕ)} {faults : S → Faults} 
     appends = p.appends;
   }
 
-  -- some of them are appended
+  -- some of the pending bytes are appended
   pub pending_then : {text pending rest : List ℕ} {mid now : S} {middle new : BlockValue} → AppendsBut taken faults old block text pending mid middle → AppendsBut taken faults mid middle pending rest now new
       → AppendsBut taken faults old block text rest now new
   pending_then {text} {pending} {rest} first second = record {
@@ -28,7 +28,7 @@ module _ {S : Type 0} {taken : S → Option (List ℕ)} {faults : S → Faults} 
     appends = appends_then first.appends second.appends;
   }
 
-  -- all of them are
+  -- all pending bytes are appended
   pub pending_all : {text pending : List ℕ} {mid now : S} {middle new : BlockValue} → AppendsBut taken faults old block text pending mid middle → Appends taken faults mid middle pending now new
       → Appends taken faults old block text now new
   pending_all {text} {pending} {mid} {now} {middle} {new} first second =

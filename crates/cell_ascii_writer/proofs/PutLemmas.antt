@@ -1,22 +1,22 @@
--- A text that was written through a block which was then emptied.
+-- A text that is written through a block, which is then emptied.
 use Rattle.std.proofs.Common.{◌≡◌, ◌∙◌, ℕ, ◌<◌, Bool, true, false, List, [], ◌++◌, length, take, Option, Ok, Err, refl, sym, ap, arith, append-nil, length-append}
 use Rattle.std.proofs.Math.Seq.{take-append_seam}
 use Rattle.cell_core_devices.specs.Device.{Faults, after_put, append_known}
 use Rattle.cell_core_devices.specs.Blocks.{capped_count, BlockValue, Appended, fault_if}
 use Rattle.cell_core_devices.specs.declared.sink.WriteFault.{WriteFault}
 
--- a text that is shorter than the largest count: it was put, or its first bytes were
+-- a text that is shorter than the largest count is put in full, or its first bytes are
 module _ {before now : Option (List ℕ)} {start faults : Faults} {text : List ℕ} {block : BlockValue} (p : Appended before start text now faults block) where
   put_ends : block.failed ≡ false → block.held ≡ [] → p.front ≡ text
   put_ends good none = sym (append-nil p.front) ∙ ap (λ (l : List ℕ). p.front ++ l) (sym none ∙ rw good at p.held) ∙ p.whole
 
-  -- all was put
+  -- without a failure, the full text is put
   pub appended_put : block.failed ≡ false → block.held ≡ [] → (now ≡ append_known before text) × ((block.written ≡ capped_count (length text)) × (faults ≡ start))
   appended_put good none =
       let front = put_ends good none in
       (p.taken ∙ ap (append_known before) front, (p.count ∙ ap (λ (l : List ℕ). capped_count (length l)) front, rw good at p.fails))
 
-  -- a put failed: what the sink took is reported, and is not all
+  -- if a put fails, the reported count is the bytes that the sink took, which are not all
   pub appended_cut : block.failed ≡ true → length text < 18446744073709551615
       → (now ≡ append_known before (take block.written text)) × ((block.written < length text) × (faults ≡ after_put start true))
   appended_cut failed short =
@@ -27,7 +27,7 @@ module _ {before now : Option (List ℕ)} {start faults : Faults} {text : List �
       let front : take block.written text ≡ p.front = ap (λ (n : ℕ). take n text) count ∙ ap (λ (t : List ℕ). take (length p.front) t) (sym p.whole) ∙ take-append_seam p.front p.rest in
       (p.taken ∙ ap (append_known before) (sym front), (rw count few, rw failed at p.fails))
 
--- the outcome of a block
+-- if the result of a block is Ok, no put failed
 pub outcome_ok : (failed : Bool) (written : ℕ) (done : Unit) → fault_if failed written ≡ Ok done → failed ≡ false
 outcome_ok false written done is = refl
 outcome_ok true written done is = cc

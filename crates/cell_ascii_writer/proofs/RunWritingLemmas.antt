@@ -9,13 +9,13 @@ use Rattle.cell_core.specs.Text.{cell_text}
 use Rattle.cell_core.proofs.RunLemmas.{written_out-push}
 use Rattle.cell_ascii_writer.specs.WrittenRuns.{times, spaced_cells, joined_cells}
 
--- a run has a cell or more
+-- a run has at least one cell
 pub first-some : (runs rest : List RunValue) (cell : CellValue) (n : ℕ) → All (λ run. 0 < run.1) runs
     → runs ≡ (cell, n) ∷ rest → 0 < n
 first-some runs rest cell n some e = (rw e at some) 0 (cell, n) (omega arith)
 
 module _ (null : List ℕ) where
-  -- a cell, n times
+  -- writing a cell n times is writing n equal cells
   pub times_cells : (n : ℕ) (cell : CellValue) → times n (32 ∷ cell_text null cell) ≡ spaced_cells null (replicate n cell)
   times_cells zero cell = refl
   times_cells (suc n) cell = ap (λ (t : List ℕ). (32 ∷ cell_text null cell) ++ t) (times_cells n cell)
@@ -23,16 +23,16 @@ module _ (null : List ℕ) where
   pub both : (xs ys : List CellValue) → spaced_cells null (xs ++ ys) ≡ spaced_cells null xs ++ spaced_cells null ys
   both xs ys = flat_map-append (λ cell. 32 ∷ cell_text null cell) xs ys
 
-  -- a cell, m times more
+  -- n + m equal cells are written as n cells and then m cells
   pub spaced-more : (n m : ℕ) (cell : CellValue) → spaced_cells null (replicate (n + m) cell) ≡ spaced_cells null (replicate n cell) ++ spaced_cells null (replicate m cell)
   spaced-more n m cell =
       ap (spaced_cells null) (sym (replicate-append-replicate n m cell)) ∙ both (replicate n cell) (replicate m cell)
 
-  -- one run more
+  -- one more run adds the text of its cells
   pub cells_text-more : (runs : List RunValue) (cell : CellValue) (n : ℕ) → spaced_cells null (written_out (runs ++ (cell, n) ∷ [])) ≡ spaced_cells null (written_out runs) ++ spaced_cells null (replicate n cell)
   cells_text-more runs cell n = ap (spaced_cells null) (written_out-push runs cell n) ∙ both (written_out runs) (replicate n cell)
 
-  -- the first cell has no space before it
+  -- the first cell of a row has no space before it
   pub joined-first : (cell : CellValue) (cells : List CellValue) → joined_cells null (cell ∷ cells) ≡ cell_text null cell ++ spaced_cells null cells
   joined-first cell [] = sym (append-nil (cell_text null cell))
   joined-first cell (next ∷ cells) = ap (λ (t : List ℕ). cell_text null cell ++ (32 ∷ t)) (joined-first next cells)

@@ -1,4 +1,4 @@
--- The parts of a grid text, as they are written.
+-- The parts of a grid text, in the order in which they are written.
 use Rattle.std.proofs.Common.{◌≡◌, ◌≢◌, ℕ, ℤ, pos, negsuc, ◌+◌, ◌≤◌, ◌==◌, true, false, [], ◌∷◌, ◌++◌, drop, decimal, unsigned_abs, refl, arith}
 use Rattle.std.specs.Prelude.{int_lt}
 use Rattle.std.proofs.lemmas.Bool.Decides.{nat_tests}
@@ -15,6 +15,6 @@ pub coordinate_text-positive : (z : ℤ) → int_lt z (pos 0) ≡ false → coor
 coordinate_text-positive (pos n) above = refl
 coordinate_text-positive (negsuc n) above = cc
 
--- a loop that counts up to its end
+-- a counter that is neither below nor above its end equals it
 pub at_end : (i end : ℕ) → end ≤ i → i ≤ end → i ≡ end
 at_end i end least most = omega arith

@@ -142,7 +142,7 @@ fn put_byte_cells(line: &mut [u8], bytes: &[u8], fields: &Fields<'_>) -> usize
     end
 }
 
-// Like `put_byte_cells`, but faster if null has a field, because then every one of these cells has a field.
+// Like `put_byte_cells`, but faster if null has a field, because every cell stored as a byte then has a field.
 #[inline(never)]
 pub(crate) fn put_bytes(line: &mut [u8], bytes: &[u8], fields: &Fields<'_>) -> usize
     requires { 72 * length bytes.now ≤ length line.old }

@@ -63,7 +63,7 @@ impl Triples {
         upper as u64 + lower as u64 * 0x100_0000
     }
 
-    // Returns the digits of a number in the lowest bytes of the result, and how many digits there are.
+    // Returns the digits of a number in the lowest bytes of the result, and the number of digits.
     #[inline(always)]
     fn digits_of(&self, number: u32) -> (u64, usize)
         requires some { 0 < number }
