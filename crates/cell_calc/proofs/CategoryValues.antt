@@ -1,4 +1,4 @@
--- The value of an expression that depends on the category of one cell alone.
+-- The value of an expression that depends only on the category of one cell.
 use Rattle.std.proofs.Common.{◌≡◌, ◌<◌, ◌+◌, ℕ, zero, suc, pos, ◌+ℤ◌, List, [], ◌∷◌, length, map, get_or, refl, sym}
 use Rattle.std.proofs.Common.{ap, ◌∙◌, arith, Option, Some, None, false}
 use Rattle.std.specs.Prelude.{All, IfSome, slice_get}
@@ -25,7 +25,7 @@ use Rattle.cell_calc.specs.ByCategory.{asks_place, IsCategoryStep, IsByCategory,
 use Rattle.cell_calc.specs.parts.Operands.{IsReadyStep, seen_cell}
 use Rattle.cell_calc.proofs.Values.{over_maps, value_after, after_same}
 
--- a window of one row is ready for each step
+-- a window of one row is ready for each step that depends only on a category
 ready_step : (w : Window) (s : Step ℕ) → IsProperStep s → IsCategoryStep s → IsReadyStep (w ∷ []) s
 ready_step w (step.Number n) p is = p
 ready_step w (step.Map i down right) p is =
@@ -37,7 +37,7 @@ pub ready_window : (f : Formula) (w : Window) → IsProper f → IsByCategory f 
 ready_window f w proper is = λ k d lt. ready_step w (get_or (postfix f) k d) (proper_steps f proper k d lt)
     (is k d lt)
 
--- a function that does not ask where the cell is
+-- a function that does not ask for the cell's position has the same result everywhere
 call_anywhere : (f : Function) (region : RegionValue) (row col : ℕ) (xs : List CellValue) → asks_place f ≡ false
     → call_result f (grid_position region row col) xs ≡ call_result f (grid_position region 0 0) xs
 call_anywhere function.Row region row col xs not = absurd (let no : ⊥ = cc in no)
@@ -53,7 +53,7 @@ seen_step region w row k (step.Map i down right) is xs = rw (is.0, is.1.0, is.1.
 seen_step region w row k (step.Call f n) is xs = call_anywhere f region row k xs is
 seen_step region w row k _ is xs = refl
 
--- the value at a cell of a window's row
+-- the value at a cell of a window's row depends only on that cell
 pub seen_value : (region : RegionValue) (w : Window) (row k : ℕ) (steps : List (Step ℕ)) → All IsCategoryStep steps
     → values_after (seen_cell (w ∷ []) (grid_position region row k)) steps [] ≡ values_after (of_cell region (at
     (centre_row w) k)) steps []
@@ -71,7 +71,7 @@ map_step region m maps r c (step.Map i down right) first is xs =
 map_step region m maps r c (step.Call f n) first is xs = sym (call_anywhere f region r c xs is)
 map_step region m maps r c _ first is xs = refl
 
--- the value at a cell of the map
+-- the value at a cell of the map is the value of the expression there
 pub value_by_category : (f : Formula) (region : RegionValue) (m : Grid) (maps : List Grid) (r c : ℕ)
     → slice_get maps 0 ≡ Some m
     → IsByCategory f → value_of_cell region f (cell_at m r c) ≡ value f maps (grid_position region r c)
@@ -80,7 +80,7 @@ value_by_category f region m maps r c first is =
     ap (λ l. at l 0) (after_same (of_cell region (cell_at m r c)) (over_maps maps s) (postfix f)
     (λ k d lt. map_step region m maps r c (get_or (postfix f) k d) first (is k d lt)) [] ∙ value_after maps s f)
 
--- a list of what a function makes of each cell
+-- a row that contains a function's result for each cell is the function mapped over the cells
 pub map_of_each : (f : CellValue → CellValue) (new old : List CellValue) → length new ≡ length old
     → ((c : ℕ) → c < length old → at new c ≡ f (at old c)) → new ≡ map f old
 map_of_each f [] [] e each = refl

@@ -1,4 +1,4 @@
--- Operands that steps take from the end of a list.
+-- Operands that steps remove from the end of a list.
 use Rattle.std.proofs.Common.{◌≡◌, ◌<◌, ◌≤◌, ◌+◌, ◌-◌, ℕ, List, [], ◌∷◌, ◌++◌, length, take, drop, get_or, map, refl, sym, ap, ◌∙◌, arith, append_assoc, length-append, add-one, Result, Ok, Err}
 use Rattle.std.proofs.Math.Seq.{take-append_seam, drop-append_seam, drop-cons}
 use Rattle.std.proofs.lemmas.List.{take_all, length-map, length-take-le, length-drop, map-append, take-append-drop, nil_from_length, reverse-append, reverse-reverse}
@@ -14,7 +14,7 @@ use Rattle.cell_calc_grammar.specs.Postfix.{arity, values_after, AreEnough}
 use Rattle.cell_calc.specs.RowValues.{at, column}
 use Rattle.cell_calc_grammar.proofs.PostfixLemmas.{one_step}
 
--- the steps before the last operands, and the operands
+-- removing n appended items from a list leaves the list before them
 pub front_is : {X : Type 0} (old new ys : List X) (n : ℕ) → old ≡ new ++ ys → length ys ≡ n → new ≡ take (length old - n) old
 front_is old new ys n is count =
     let e : length (new ++ ys) - n ≡ length new = omega (arith, length-append new ys) in
@@ -25,7 +25,7 @@ back_is old new ys n is count =
     let e : length (new ++ ys) - n ≡ length new = omega (arith, length-append new ys) in
     rw (is, e) (sym (drop-append_seam new ys))
 
--- one more of the last operands
+-- after one more operand is removed, the list is the remaining operands, that operand and the operands removed before
 one_more : {X : Type 0} (old before new : List X) (a : X) (j : ℕ) → j ≤ length old → before ≡ take (length old - j) old → before ≡ new ++ a ∷ []
     → old ≡ new ++ (a ∷ drop (length old - j) old)
 one_more old before new a j le is popped =
@@ -41,20 +41,20 @@ pub back_more : {X : Type 0} (old before new : List X) (a : X) (j : ℕ) → j �
 back_more old before new a j le is popped =
     back_is old new (a ∷ drop (length old - j) old) (j + 1) (one_more old before new a j le is popped) (omega (arith, length-drop (length old - j) old))
 
--- the only one
+-- a list of length 1 contains only its last item
 pub only_one : {X : Type 0} (old new : List X) (x : X) → length old ≡ 1 → old ≡ new ++ x ∷ [] → old ≡ x ∷ []
 only_one old new x one is =
     let none : length new ≡ 0 = omega (arith, ap length is, length-append new (x ∷ [])) in
     is ∙ ap (λ l. l ++ x ∷ []) (nil_from_length new none)
 
--- the steps from one on
+-- the steps from index i on begin with step i
 pub steps_from : (steps : List (Step ℕ)) (i : ℕ) (d : Step ℕ) → i < length steps → drop i steps ≡ get_or steps i d ∷ drop (i + 1) steps
 steps_from steps i d lt = rw add-one (drop-cons steps i d lt)
 
 pub no_steps : (steps : List (Step ℕ)) (i : ℕ) → length steps ≤ i → drop i steps ≡ []
 no_steps steps i le = nil_from_length (drop i steps) (omega (arith, length-drop i steps))
 
--- the next step has its operands, and so have those after it
+-- if steps have enough operands, so do the next step and the steps after it
 pub enough_at : (steps : List (Step ℕ)) (i n : ℕ) (d : Step ℕ) → i < length steps → AreEnough (drop i steps) n → arity (get_or steps i d) ≤ n
 enough_at steps i n d lt h = let all = rw (steps_from steps i d lt) at h in all.0
 
@@ -67,7 +67,7 @@ enough_more steps i d old new o lt h is =
     ap (λ l. length l) is ∙ length-append (take n old) (o ∷ []) ∙ ap (λ k. k + 1) (length-take-le n old (omega arith)) in
     rw count all.1
 
--- one step more along a strip
+-- one more step along a strip gives the step's value at column c
 pub step_more : (windows : List Window) (strip : Strip) (steps : List (Step ℕ)) (i c : ℕ) (d : Step ℕ) (old new : List Operand) (o : Operand) (end : List CellValue)
     → i < length steps → arity (get_or steps i d) ≤ length old → new ≡ take (length old - arity (get_or steps i d)) old ++ o ∷ []
     → operand_at windows strip c o ≡ seen_cell windows (position_at strip c) (get_or steps i d) (operand_cells_at windows strip c (drop (length old - arity (get_or steps i d)) old))
@@ -86,7 +86,7 @@ step_more windows strip steps i c d old new o end lt le is made before =
     ∙ ap (λ l. values_after g (s ∷ drop (i + 1) steps) l) (sym split)
     ∙ ap (λ l. values_after g l (map f old)) (sym (steps_from steps i d lt)) ∙ before
 
--- the value of the only operand that is left
+-- after the last step, the only remaining operand is the value
 pub end_value : (windows : List Window) (strip : Strip) (steps : List (Step ℕ)) (i c : ℕ) (old : List Operand) (o : Operand) (end : List CellValue)
     → drop i steps ≡ [] → old ≡ o ∷ [] → values_after (seen_cell windows (position_at strip c)) (drop i steps) (operand_cells_at windows strip c old) ≡ end
     → operand_at windows strip c o ∷ [] ≡ end
@@ -95,7 +95,7 @@ end_value windows strip steps i c old o end none only is =
     ap (λ l. values_after g l (operand_at windows strip c o ∷ [])) (sym none)
     ∙ ap (λ l. values_after g (drop i steps) (operand_cells_at windows strip c l)) (sym only) ∙ is
 
--- one more row of the arguments of a call, of which the last one comes first
+-- one more row of arguments adds its cell to the column; the last argument comes first
 pub gather_more : {V : Type 0} (f : V → List CellValue) (windows : List Window) (strip : Strip) (c : ℕ) (old before new : List Operand) (a : Operand) (j : ℕ) (rows : List V) (row : V)
     → j ≤ length old → before ≡ take (length old - j) old → before ≡ new ++ a ∷ []
     → column c (map f rows) ≡ reverse (operand_cells_at windows strip c (drop (length old - j) old)) → at (f row) c ≡ operand_at windows strip c a
@@ -113,27 +113,27 @@ map-reverse f (x ∷ xs) =
     ap (λ l. map f l) (reverse-append (x ∷ []) xs) ∙ map-append f (reverse xs) (x ∷ []) ∙ ap (λ l. l ++ f x ∷ []) (map-reverse f xs)
     ∙ sym (reverse-append (f x ∷ []) (map f xs))
 
--- they are put in order
+-- reversing the rows puts the arguments in order
 pub gathered : {V : Type 0} (f : V → List CellValue) (c : ℕ) (rows : List V) (cells : List CellValue)
     → column c (map f rows) ≡ reverse cells → column c (map f (reverse rows)) ≡ cells
 gathered f c rows cells is =
     ap (λ l. column c l) (map-reverse f rows) ∙ map-reverse (λ r. at r c) (map f rows) ∙ ap (λ l. reverse l) is ∙ reverse-reverse cells
 
--- nothing is taken yet
+-- before any operand is removed, all operands are left
 pub none_taken : {X : Type 0} (old : List X) → old ≡ take (length old - 0) old
 none_taken old = sym (take_all (length old - 0) old (omega arith))
 
 pub none_left : {X : Type 0} (old : List X) → drop (length old - 0) old ≡ []
 none_left old = nil_from_length (drop (length old - 0) old) (omega (arith, length-drop (length old - 0) old))
 
--- there is one more to take
+-- with fewer than n operands removed, there is one more to remove
 pub more_left : {X : Type 0} (old before : List X) (j n : ℕ) → j < n → n ≤ length old → before ≡ take (length old - j) old → 0 < length before
 more_left old before j n lt le is = rw (is, length-take-le (length old - j) old (omega arith)) (omega arith)
 
 pub more_before : {X : Type 0} (n : ℕ) (old new : List X) (a : X) → old ≡ new ++ a ∷ [] → n + 1 < length old → n < length new
 more_before n old new a is lt = omega (arith, ap length is, length-append new (a ∷ []))
 
--- what holds of all holds of the last one and of those before it
+-- a property of all items holds of the last item and of the items before it
 last_of : {X : Type 0} (P : X → Type 0) (new : List X) (a : X) → All P (new ++ a ∷ []) → P a
 last_of P [] a h = h 0 a (omega arith)
 last_of P (x ∷ new) a h = last_of P new a (All-tail P x (new ++ a ∷ []) h)
@@ -146,7 +146,7 @@ of_front P old new a is h =
     let e : take (length new) old ≡ new = rw is (take-append_seam new (a ∷ [])) in
     rw e at (All-take P (length new) old h)
 
--- two and three of them
+-- the last two or three operands are at the end of the list
 pub two_last : {X : Type 0} (old before new : List X) (a b : X) → old ≡ before ++ b ∷ [] → before ≡ new ++ a ∷ [] → old ≡ new ++ (a ∷ b ∷ [])
 two_last old before new a b is popped = is ∙ ap (λ l. l ++ b ∷ []) popped ∙ append_assoc new (a ∷ []) (b ∷ [])
 
@@ -161,12 +161,12 @@ all_reversed P (x ∷ xs) h =
     All-same P (reverse (x ∷ xs)) (reverse xs ++ x ∷ []) (reverse-append (x ∷ []) xs)
     (All-push P (reverse xs) x (all_reversed P xs (All-tail P x xs h)) (All-head P x xs h))
 
--- what holds in any case holds on success
+-- a fact that always holds also holds on success
 pub on_ok : {T E P : Type 0} (r : Result T E) → P → OnOk r P
 on_ok (Ok x) h = h
 on_ok (Err e) h = tt
 
--- what follows on success follows of the result
+-- an implication that holds on success carries over to a result
 pub if_ok : {T E : Type 0} (r : Result T E) (P Q : T → Type 0) → ((x : T) → P x → Q x) → IfOk r P → IfOk r Q
 if_ok (Ok x) P Q f h = f x h
 if_ok (Err e) P Q f h = tt

@@ -1,4 +1,4 @@
--- Windows that reach an offset, and the rows that they hold.
+-- Windows that reach an offset, and the rows that the windows hold.
 use Rattle.std.proofs.Common.{◌≡◌, ◌<◌, ◌+◌, ℕ, zero, suc, ℤ, pos, negsuc, refl, ◌+ℤ◌, ◌-ℤ◌, ◌<ℤ◌, List, [], ◌∷◌, length, get_or, sym, ap, arith, Some}
 use Rattle.std.specs.Prelude.{slice_get}
 use Rattle.std.proofs.lemmas.Int.{ints}
@@ -8,13 +8,13 @@ use Rattle.cell_calc.specs.Window.{Window, Reaches}
 use Rattle.cell_calc.specs.WindowsOver.{row_below}
 use Rattle.cell_calc.specs.parts.InReach.{IsInReach}
 
--- the window at a place is the one that is there
+-- a window that was read at index i is window i of the list
 pub window_at : (windows : List Window) (i : ℕ) (w : Window) → i < length windows → w ≡ get_or windows i w → slice_get windows i ≡ Some w
 window_at [] i w lt is = absurd (let no : ⊥ = omega arith in no)
 window_at (v ∷ windows) zero w lt is = ap (λ v. Some v) (sym is)
 window_at (v ∷ windows) (suc i) w lt is = window_at windows i w (omega arith) is
 
--- if an offset is in reach, there is a window
+-- an index that has a window in reach of an offset is within the list
 pub within : (windows : List Window) (i : ℕ) (down : ℤ) → IsInReach down (slice_get windows i) → i < length windows
 within [] i down h = absurd h
 within (v ∷ windows) zero down h = omega arith
@@ -23,12 +23,12 @@ within (v ∷ windows) (suc i) down h = let lt : i < length windows = within win
 pub reach_at : (windows : List Window) (i : ℕ) (down : ℤ) (w : Window) → IsInReach down (slice_get windows i) → w ≡ get_or windows i w → Reaches w down
 reach_at windows i down w ready is = rw (window_at windows i w (within windows i down ready) is) at ready
 
--- the row of the window that is there
+-- the row of window i at an offset is the row that was read
 pub row_at : (windows : List Window) (i : ℕ) (down : ℤ) (w : Window) (row : List CellValue) → IsInReach down (slice_get windows i) → w ≡ get_or windows i w
     → row ≡ row_below down (Some w) → row ≡ row_below down (slice_get windows i)
 row_at windows i down w row ready is held = rw (window_at windows i w (within windows i down ready) is) held
 
--- the row so far below the centre is the one at a place, or none
+-- the row at an offset from the centre is the held row at that offset, or empty if there is none
 pub held_below : (held : List (List CellValue)) (centre first i : ℕ) (down : ℤ) (row : List CellValue)
     → pos (first + i) ≡ pos centre +ℤ down → row ≡ get_or held i [] → row ≡ item_at [] held ((pos centre +ℤ down) -ℤ pos first)
 held_below held centre first i down row place is =

@@ -1,4 +1,4 @@
--- Cells spread over stretches.
+-- Cells repeated over the columns of stretches.
 use Rattle.std.proofs.Common.{◌≡◌, ◌<◌, ◌≤◌, ◌+◌, ◌-◌, ℕ, zero, suc, List, [], ◌∷◌, ◌++◌, length, take, drop, get_or}
 use Rattle.std.proofs.Common.{refl, sym, ap, ◌∙◌, arith, append_assoc, append-nil, None, Bool, true, false}
 use Rattle.std.specs.Prelude.{All, nat_lt, if◌then◌else◌, replicate}
@@ -11,7 +11,7 @@ use Rattle.cell_calc.specs.Window.{Window}
 use Rattle.cell_calc.specs.CommonStretches.{centre_row, total, spread, start_cells, GoesBy, AreShort}
 use Rattle.cell_calc.specs.parts.Columns.{owner, IsLikeStart}
 
--- one more stretch at the end
+-- one more stretch repeats its cell at the end
 pub spread-push : (xs : List CellValue) (ws : List ℕ) (x : CellValue) (w : ℕ) → length xs ≡ length ws
     → spread (xs ++ x ∷ []) (ws ++ w ∷ []) ≡ spread xs ws ++ replicate w x
 spread-push [] [] x w e = append-nil (replicate w x)
@@ -32,7 +32,7 @@ pub total-push : (ws : List ℕ) (w : ℕ) → total (ws ++ w ∷ []) ≡ total 
 total-push [] w = omega arith
 total-push (v ∷ ws) w = omega (arith, total-push ws w)
 
--- one more stretch of a list of widths
+-- one more width adds the cell at the start of its stretch
 pub starts_next : (row : List CellValue) (ws : List ℕ) (i d : ℕ) → i < length ws
     → start_cells row (take (i + 1) ws) ≡ start_cells row (take i ws) ++ at row (total (take i ws)) ∷ []
 starts_next row ws i d lt = ap (λ l. start_cells row l) (take_more ws i d lt)
@@ -50,7 +50,7 @@ pub length-starts : (row : List CellValue) (ws : List ℕ) → length (start_cel
 length-starts row [] = refl
 length-starts row (w ∷ ws) = ap suc (length-starts (drop w row) ws)
 
--- cells that are alike
+-- n equal cells are n copies of one cell
 alike_taken : (xs : List CellValue) (n : ℕ) (x : CellValue) → n ≤ length xs → ((k : ℕ) → k < n → at xs k ≡ x)
     → take n xs ≡ replicate n x
 alike_taken xs zero x le alike = refl
@@ -59,7 +59,7 @@ alike_taken (y ∷ xs) (suc n) x le alike =
     ap (λ l. y ∷ l) (alike_taken xs n x (omega (arith, le)) (λ k lt. alike (suc k) (omega (arith, lt))))
     ∙ ap (λ v. v ∷ replicate n x) (alike zero (omega arith))
 
--- a row that goes by stretches up to a column, and by one more
+-- a row that consists of stretches up to a column can be extended by one more stretch
 pub goes_more : (row : List CellValue) (ws : List ℕ) (from width : ℕ) → total ws ≡ from → from + width ≤ length row
     → spread (start_cells row ws) ws ≡ take from row → ((k : ℕ) → k < width → at row (from + k) ≡ at row from)
     → spread (start_cells row (ws ++ width ∷ [])) (ws ++ width ∷ []) ≡ take (from + width) row
@@ -74,7 +74,7 @@ goes_more row ws from width all le so_far alike =
     ∙ ap (λ l. take from row ++ l) (sym next)
     ∙ sym (take-add from width row)
 
--- the cell of a column is the cell of its stretch
+-- the cell of a column is the cell of the stretch that contains the column
 pub spread-at : (xs : List CellValue) (ws : List ℕ) (c : ℕ) → length xs ≡ length ws → c < total ws
     → at (spread xs ws) c ≡ at xs (owner ws c)
 spread-at [] [] c e lt = absurd (let no : ⊥ = omega (arith, lt) in no)
@@ -106,14 +106,14 @@ owner-within (w ∷ ws) c lt = by_case (λ more. owner-within ws (c - w) more) (
         let above : w ≤ c = grind arith in
         omega (arith, after (omega (arith, lt, above)))
 
--- at a column the rows have the cells where its stretch begins
+-- at each column, the rows have the same cells as at the start of its stretch
 pub like_start : (windows : List Window) (ws : List ℕ) (c : ℕ) → All (GoesBy ws) windows → c < total ws
     → IsLikeStart ws windows (owner ws c) c
 like_start windows ws c go lt = λ i d within.
     let row = centre_row (get_or windows i d) in
     sym (spread-at (start_cells row ws) ws c (length-starts row ws) lt) ∙ ap (λ l. at l c) (go i d within)
 
--- there are as many windows over the cells where stretches begin
+-- shortening windows to the starts of stretches keeps the number of windows
 pub same_count : (windows short : List Window) (ws : List ℕ) → AreShort ws windows short → length short ≡ length windows
 same_count windows short ws is =
     sym (length-map short centre_row) ∙ ap (λ l. length l) is ∙ length-map windows (λ w. start_cells (centre_row w) ws)

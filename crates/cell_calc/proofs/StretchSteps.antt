@@ -1,4 +1,4 @@
--- Values at the start of a stretch, and at each of its columns.
+-- The value at the start of a stretch is the value at each of its columns.
 use Rattle.std.proofs.Common.{◌≡◌, ◌<◌, ◌+◌, ℕ, zero, suc, pos, List, [], ◌∷◌, length, get_or, refl, ap, ◌∙◌, arith}
 use Rattle.std.proofs.Common.{false}
 use Rattle.std.specs.Prelude.{All, slice_get}
@@ -23,7 +23,7 @@ use Rattle.cell_calc.proofs.Ready.{within}
 use Rattle.cell_calc.proofs.StretchCells.{same_count}
 use Rattle.cell_calc.proofs.Values.{after_same}
 
--- windows over the cells where stretches begin, and those that they were made of
+-- a shortened window has the cell of the window that it was made from
 short_at : (windows short : List Window) (ws : List ℕ) (i k c : ℕ) → AreShort ws windows short
     → IsLikeStart ws windows k c → i < length windows
     → at (row_below (pos 0) (slice_get short i)) k ≡ at (row_below (pos 0) (slice_get windows i)) c
@@ -61,11 +61,11 @@ pub ready_all : (windows short : List Window) (ws : List ℕ) (steps : List (Ste
 ready_all windows short ws steps is place ready = λ i d lt.
     ready_short windows short (get_or steps i d) (same_count windows short ws is) (place i d lt) (ready i d lt)
 
--- a column of a row
+-- the position at a column of a row
 abbrev pub column_of : (rows cols row col : ℕ) → GridPosition
 column_of rows cols row col = record { rows = rows; cols = cols; row = row; col = col }
 
--- what a step makes of the same cells at two columns
+-- a step that does not ask for the column gives the same result at two columns with the same cells
 call_same : (f : Function) (rows cols row k c : ℕ) (xs : List CellValue) → asks_column f ≡ false
     → call_result f (column_of rows cols row k) xs ≡ call_result f (column_of rows cols row c) xs
 call_same function.Column rows cols row k c xs not = absurd (let no : ⊥ = cc in no)
@@ -83,7 +83,7 @@ step_same windows short ws rows cols row k c (step.Call f n) is like place ready
     call_same f rows cols row k c xs place
 step_same windows short ws rows cols row k c _ is like place ready xs = refl
 
--- the value at the start of a stretch is that at each of its columns
+-- the value at the start of a stretch is the value at each of its columns
 pub stretch_value : (windows short : List Window) (ws : List ℕ) (rows cols row k c : ℕ) (steps : List (Step ℕ))
     → AreShort ws windows short
     → IsLikeStart ws windows k c → All IsInPlace steps → All (IsReadyStep windows) steps

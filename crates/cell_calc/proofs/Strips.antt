@@ -9,7 +9,7 @@ use Rattle.cell_calc_binding.specs.Applied.{operator_value}
 use Rattle.cell_calc_binding.specs.Offsets.{item_at}
 use Rattle.cell_calc.specs.RowValues.{at}
 
--- what holds of each cell of a row and of each of those after it
+-- a property of each cell at the start of a row and of each cell after it holds of all cells
 after_front : (P : ℕ → CellValue → Type 0) (a : ℕ) (front ys : List CellValue) → length front ≡ a
     → ((c : ℕ) → c < a → P c (at front c)) → ((c : ℕ) → c < length ys → P (a + c) (at ys c))
     → (c : ℕ) → c < a + length ys → (b : Bool) → nat_lt c a ≡ b → P c (at (front ++ ys) c)
@@ -22,14 +22,14 @@ after_front P a front ys count before there c lt false h =
     let place : a + (c - a) ≡ c = omega arith in
     rw (get_or-append_right front ys a c None count above) (rw place at (there (c - a) (omega arith)))
 
--- the part of a row that is right columns to the right of a strip
+-- a part of a row, moved by an offset, has the cells at that offset from the strip
 pub part_at : (source part : List CellValue) (first width from c : ℕ) (right : ℤ) → part ≡ take width (drop first source)
     → pos first ≡ pos from +ℤ right → c < width → at part c ≡ item_at None source (pos (from + c) +ℤ right)
 part_at source part first width from c right is place lt =
     let there : pos (from + c) +ℤ right ≡ pos (first + c) = omega (arith, ints, place) in
     rw there (ap (λ l. get_or l c None) is ∙ get_or-take width (drop first source) c None lt ∙ get_or-drop first source c None)
 
--- a row of three parts
+-- a property of the cells of three parts holds of the row that they form
 pub three_parts : (P : ℕ → CellValue → Type 0) (a b : ℕ) (l m r : List CellValue) → length l ≡ a → length m ≡ b
     → ((c : ℕ) → c < a → P c (at l c)) → ((c : ℕ) → c < b → P (a + c) (at m c)) → ((c : ℕ) → c < length r → P (a + (b + c)) (at r c))
     → (c : ℕ) → c < a + (b + length r) → P c (at (l ++ (m ++ r)) c)
@@ -39,7 +39,7 @@ three_parts P a b l m r left middle before there after c lt =
     (λ i li. after_front (λ k v. P (a + k) v) b m r middle there after i (omega (arith, rest, li)) (nat_lt i b) refl)
     c (omega (arith, rest, lt)) (nat_lt c a) refl
 
--- nothing to the left of a row, and nothing to the right
+-- a row has no cells left of its start or right of its end
 pub left_of : (xs : List CellValue) (z : ℤ) → z <ℤ pos 0 → item_at None xs z ≡ None
 left_of xs (pos n) lt = absurd (let no : ⊥ = omega (arith, ints, lt) in no)
 left_of xs (negsuc n) lt = refl
@@ -48,7 +48,7 @@ pub right_of : (xs : List CellValue) (z : ℤ) → pos (length xs) ≤ℤ z → 
 right_of xs (pos n) le = get_or_past xs n None (omega (arith, ints, le))
 right_of xs (negsuc n) le = refl
 
--- the values of an operator over a strip, of which a part lies over another row
+-- the values of an operator over a strip whose cells lie partly outside the other row
 pub beside : (op : Operator) (old others source lo mo ro l m r part : List CellValue) (from before first count : ℕ) (right : ℤ) (blank gap : CellValue)
     → blank ≡ None → gap ≡ None → lo ≡ take before old → others ≡ drop before old → mo ≡ take count others → ro ≡ drop count others
     → length lo ≡ before → length others + before ≡ length old → length mo ≡ count → length ro + count ≡ length others

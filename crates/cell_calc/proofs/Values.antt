@@ -1,4 +1,4 @@
--- What the steps of an expression make of the rows that windows hold is its value.
+-- The steps of an expression, applied to the rows that windows hold, give the expression's value.
 use Rattle.std.proofs.Common.{◌≡◌, ◌<◌, ◌≤◌, ◌-◌, ℕ, ℤ, pos, negsuc, ◌+ℤ◌, ◌-ℤ◌, ◌<ℤ◌, List, [], ◌∷◌, ◌++◌, length, map, get_or, take, drop, refl, sym, ap, ◌∙◌, arith, append-nil, Option, Some, None, Bool, true, false}
 use Rattle.std.specs.Prelude.{All, slice_get, slice_index_or, ◌==◌, if◌then◌else◌}
 use Rattle.std.proofs.lemmas.Int.{ints}
@@ -22,7 +22,7 @@ use Rattle.cell_calc_grammar.proofs.PostfixLemmas.{listed, IsMeaning, after_post
 use Rattle.cell_calc.proofs.Rings.{held_row}
 use Rattle.cell_calc_binding.proofs.Steps.{proper_steps, below_greatest, top-postfix, up-postfix, down-postfix}
 
--- what a step makes of cells over maps
+-- the result of a step over maps, from the values of its operands
 abbrev pub over_maps : List Grid → GridPosition → Step ℕ → List CellValue → CellValue
 over_maps maps s (step.Number n) xs = Some (pos n)
 over_maps maps s (step.Map i down right) xs = cell_in (slice_get maps i) (pos s.row +ℤ down) (pos s.col +ℤ right)
@@ -35,7 +35,7 @@ values-listed : (maps : List Grid) (s : GridPosition) (xs : Formulas) → map (�
 values-listed maps s NoTrees = refl
 values-listed maps s (Then a xs) = ap (λ l. value a maps s ∷ l) (values-listed maps s xs)
 
--- the steps of an expression make its value
+-- the steps of an expression give its value
 pub value_after : (maps : List Grid) (s : GridPosition) (f : Formula) → values_after (over_maps maps s) (postfix f) [] ≡ value f maps s ∷ []
 value_after maps s f =
     let is : IsMeaning ℕ CellValue (over_maps maps s) (λ a. value a maps s) =
@@ -49,12 +49,12 @@ value_after maps s f =
     } in
     ap (λ l. values_after (over_maps maps s) l []) (sym (append-nil (postfix f))) ∙ after_postfix (over_maps maps s) (λ a. value a maps s) is f [] []
 
--- no row of a map is above its first one
+-- a map has no row above its first row
 none_above : {A : Type 0} (xs : List (List A)) (z : ℤ) → z <ℤ pos 0 → [] ≡ item_at [] xs z
 none_above xs (pos n) lt = absurd (let no : ⊥ = omega (arith, ints, lt) in no)
 none_above xs (negsuc n) lt = refl
 
--- the row that a window holds so far below its centre is the map's
+-- a row of a window within its reach is the row of the map
 window_row : (w : Window) (m : Grid) (down : ℤ) → IsWindowOf w m → Reaches w down → row_below down (Some w) ≡ row_of m (pos w.centre +ℤ down)
 window_row w m down over reaches = by_case ((pos w.centre +ℤ down) -ℤ pos (w.centre - w.above)) refl
   where
@@ -62,7 +62,7 @@ window_row w m down over reaches = by_case ((pos w.centre +ℤ down) -ℤ pos (w
     by_case (pos i) e = held_row w m down i (get_or w.held i []) over reaches (omega (arith, ints, e)) refl
     by_case (negsuc n) e = none_above m.rows (pos w.centre +ℤ down) (omega (arith, ints, e, reaches.up))
 
--- what is asked of a window for a step
+-- a window that has the rows for a step reaches the step's offset
 reaches_offset : (down : ℤ) (row : ℕ) (w : Window) → HasReach row (up_by down) (down_by down) (Some w) → Reaches w down
 reaches_offset (pos n) row w h = record { up = omega (arith, ints); down = omega (arith, ints, h.1.1) }
 reaches_offset (negsuc n) row w h = record { up = omega (arith, ints, h.1.0); down = omega (arith, ints) }
@@ -78,7 +78,7 @@ at_place i n = by_case (i == i) refl
     by_case true e = refl
     by_case false e = grind arith
 
--- the window of a place that a step of an expression reads
+-- the window that a step of an expression reads has the rows for the step
 has_reach : (f : Formula) (row : ℕ) (windows : List Window) → ((i : ℕ) → i < top_of f → HasReach row (up_of i f) (down_of i f) (slice_get windows i))
     → (k : ℕ) (d : Step ℕ) → k < length (postfix f) → (i : ℕ) (down right : ℤ) → get_or (postfix f) k d ≡ step.Map i down right
     → (i < top_of f) × HasReach row (up_by down) (down_by down) (slice_get windows i)
@@ -88,7 +88,7 @@ has_reach f row windows h k d lt i down right is =
     let below : down_by down ≤ down_of i f = omega (arith, rw (is, at_place i (down_by down)) at (below_greatest (down_at i) (postfix f) k d lt), down-postfix i f) in
     (top, weaken row (up_by down) (up_of i f) (down_by down) (down_of i f) (slice_get windows i) up below (h i top))
 
--- the windows are ready for each step
+-- the windows are ready for each step of an expression
 in_reach : (down : ℤ) (row : ℕ) (o : Option Window) → HasReach row (up_by down) (down_by down) o → IsInReach down o
 in_reach down row None h = h
 in_reach down row (Some w) h = reaches_offset down row w h
@@ -104,7 +104,7 @@ pub ready_steps : (f : Formula) (row : ℕ) (windows : List Window) → IsProper
 ready_steps f row windows proper h = λ k d lt.
     ready_step windows row (get_or (postfix f) k d) (proper_steps f proper k d lt) (λ i down right is. (has_reach f row windows h k d lt i down right is).1)
 
--- a cell of a row that a window holds is the map's
+-- a cell of a row that a window holds is the cell of the map
 over_window : (row c : ℕ) (down right : ℤ) (o : Option Window) (m : Option Grid) → IsOver o m → HasReach row (up_by down) (down_by down) o
     → item_at None (row_below down o) (pos c +ℤ right) ≡ cell_in m (pos row +ℤ down) (pos c +ℤ right)
 over_window row c down right (Some w) (Some m) over h =
@@ -119,7 +119,7 @@ same_step windows maps s (step.Map i down right) reach xs =
     over_window s.row s.col down right (slice_get windows i) (slice_get maps i) there.0 there.1
 same_step windows maps s _ reach xs = refl
 
--- steps that make the same of operands
+-- two ways to apply steps that agree on every step agree on all of them
 pub after_same : {X : Type 0} (g h : Step ℕ → List X → X) (steps : List (Step ℕ)) → All (λ s. (xs : List X) → g s xs ≡ h s xs) steps
     → (xs : List X) → values_after g steps xs ≡ values_after h steps xs
 after_same g h [] all xs = refl
@@ -128,7 +128,7 @@ after_same {X} g h (s ∷ steps) all xs =
     after_same g h steps (All-tail (λ s. (xs : List X) → g s xs ≡ h s xs) s steps all) (take n xs ++ g s (drop n xs) ∷ [])
     ∙ ap (λ v. values_after h steps (take n xs ++ v ∷ [])) (All-head (λ s. (xs : List X) → g s xs ≡ h s xs) s steps all (drop n xs))
 
--- the value of an expression from windows that are of the maps
+-- the value of an expression over windows is its value over their maps
 pub value_seen : (f : Formula) (windows : List Window) (maps : List Grid) (s : GridPosition)
     → ((i : ℕ) → i < top_of f → HasReach s.row (up_of i f) (down_of i f) (slice_get windows i))
     → ((i : ℕ) → i < top_of f → IsOver (slice_get windows i) (slice_get maps i)) → values_after (seen_cell windows s) (postfix f) [] ≡ value f maps s ∷ []
@@ -138,6 +138,6 @@ value_seen f windows maps s h over =
     (λ i down right is. let there = has_reach f s.row windows h k d lt i down right is in (over i there.0, there.1)) xs) []
     ∙ value_after maps s f
 
--- the one value of a list
+-- two lists of one value are equal only if the values are
 pub only_value : (v w : CellValue) → v ∷ [] ≡ w ∷ [] → v ≡ w
 only_value v w e = cc

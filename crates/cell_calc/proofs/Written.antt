@@ -4,11 +4,11 @@ use Rattle.cell_core.specs.Grid.{CellValue}
 use Rattle.cell_calc.specs.RowValues.{at}
 use Rattle.cell_calc.proofs.Rings.{written}
 
--- a cell of a row after a slice of all of it was written
+-- a cell of a row that was written through a slice of the full row is the new cell
 pub at_written : (n : ℕ) (new old : List CellValue) (k : ℕ) → n ≡ length old → length new ≡ length old → at (take n (new ++ drop (length new) old)) k ≡ at new k
 at_written n new old k all same = ap (λ l. at l k) (written n new old all same)
 
--- a row whose cells were changed through a slice
+-- a row whose cells were changed through a slice keeps its width
 pub changed_width : (n w : ℕ) (row slice new : List CellValue) → n ≡ length row → slice ≡ row → length new ≡ length slice → length row ≡ w
     → length (take n (new ++ drop (length new) row)) ≡ w
 changed_width n w row slice new all is same width =

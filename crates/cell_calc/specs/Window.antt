@@ -2,7 +2,7 @@
 use Rattle.std.specs.Prelude.{◌≡◌, ◌≤◌, ℕ, ℤ, pos, ◌+◌, ◌-◌, ◌≤ℤ◌, neg_ℤ, List, take, drop, Option, Some, None}
 use Rattle.cell_core.specs.Grid.{Grid, CellValue}
 
--- a window: how many rows it reaches up and down, its centre, the size of its map, and the rows that it holds
+-- a window: the numbers of rows above and below its centre, the centre, the size of its map, and the rows that it holds
 pub record Window : Type 0 where
   pub above : ℕ
   pub below : ℕ

@@ -5,11 +5,11 @@ use Rattle.cell_calc.specs.RowValues.{at, column}
 use Rattle.cell_calc_modes.proofs.Columns.{item_width}
 use Rattle.cell_calc.proofs.calls.choose_call.Goals as goal
 
--- an index is in range if others follow it
+-- an index with further items after it is in range
 within : (i more n : ℕ) → i + 1 + more ≤ n → i < n
 within i more n le = omega arith
 
--- a column before the end of a row is before the end of a row as long
+-- a column within a row is within each row of the same length
 below_same : (k : ℕ) (new old : List CellValue) → length new ≡ length old → k < length old → k < length new
 below_same k new old e lt = rw e lt
 

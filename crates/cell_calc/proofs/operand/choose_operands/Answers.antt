@@ -7,7 +7,7 @@ use Rattle.cell_calc.specs.RowValues.{at}
 use Rattle.cell_calc.proofs.Operands.{on_ok}
 use Rattle.cell_calc.proofs.operand.choose_operands.Goals as goal
 
--- a column of a strip is one of a row as wide
+-- a column of a strip is within a row of the same width
 in_row : (k n width : ℕ) → n ≡ width → k < width → k < n
 in_row k n width e lt = rw e lt
 

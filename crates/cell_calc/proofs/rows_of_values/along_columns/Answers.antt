@@ -10,14 +10,14 @@ use Rattle.cell_calc.specs.RowValues.{at}
 use Rattle.cell_calc.specs.parts.Operands.{seen_cell}
 use Rattle.cell_calc.proofs.rows_of_values.along_columns.Goals as goal
 
--- a strip lies within the row, and the next one begins further on
+-- a strip lies within the row
 within : (from width cols : ℕ) → from ≤ cols → width ≡ min 1024 (cols - from) → from + width ≤ cols
 within from width cols le is = omega arith
 
 further : (from width cols : ℕ) → from < cols → width ≡ min 1024 (cols - from) → cols - (from + width) < cols - from
 further from width cols lt is = omega arith
 
--- at the end, the row has as many columns as were asked for
+-- after the loop, the row has the requested number of columns
 ended : (n from cols : ℕ) → n ≡ from → from ≤ cols → cols ≤ from → n ≡ cols
 ended n from cols width within over = omega arith
 
@@ -33,11 +33,11 @@ none_below k lt = omega arith
 least : (n : ℕ) → 0 ≤ n
 least n = omega arith
 
--- the first strip begins with the row
+-- the first strip begins at the start of the row
 from_start : (k : ℕ) → 0 + k ≡ k
 from_start k = omega arith
 
--- a row with the cells of one more strip
+-- a row extended by the cells of one more strip
 module _ (old strip values new : List CellValue) (from width : ℕ) (is : new ≡ old ++ strip) (same : strip ≡ values)
     (count : length old ≡ from) (wide : length values ≡ width) where
   longer : length new ≡ from + width

@@ -4,7 +4,7 @@ use Rattle.cell_calc.proofs.Waiting.{of_front, no_front, as_many, as_many_seen, 
 use Rattle.cell_calc.proofs.Waiting.{one_last, next_row, no_more}
 use Rattle.cell_calc.proofs.window_rows.WindowRows.take_in.Goals as goal
 
--- below a number, and not below it
+-- a row below one of two equal numbers is below the other
 below : (row n m : ℕ) → n ≡ m → row < n → row < m
 below row n m e lt = rw (← e) lt
 
