@@ -3,7 +3,7 @@ use Rattle.std.proofs.Common.{◌≡◌, ◌<◌, ◌≤◌, ◌+◌, ℕ, zero,
 use Rattle.std.specs.Prelude.{◌==◌, if◌then◌else◌, slice_get}
 use Rattle.cell_calc_binding.specs.parts.TreeSteps.{index_in}
 
--- the first index of a place in a list
+-- the first index at which a list contains a place is the place's index
 pub index_first : (places : List ℕ) (k i : ℕ) → k < length places → get_or places k 0 ≡ i
     → ((j : ℕ) → j < k → get_or places j 0 ≡ i → ⊥) → k ≡ index_in places i
 index_first [] k i lt is before = absurd (let no : ⊥ = omega arith in no)
@@ -18,7 +18,7 @@ index_first (p ∷ places) (suc k) i lt is before = by_case (p == i) refl (index
     by_case true h e = absurd (before 0 (omega arith) (grind arith))
     by_case false h e = omega (arith, e)
 
--- the place is not in the list
+-- the index of a place that is not in the list is the list's length
 pub index_none : (places : List ℕ) (i : ℕ) → ((j : ℕ) → j < length places → get_or places j 0 ≡ i → ⊥) → length places ≡ index_in places i
 index_none [] i none = refl
 index_none (p ∷ places) i none = by_case (p == i) refl (index_none places i (λ j lj e. none (suc j) (omega (arith, lj)) e))
@@ -35,7 +35,7 @@ index_within (p ∷ places) i = by_case (p == i) (index_within places i)
     by_case true h = omega arith
     by_case false h = omega (arith, h)
 
--- a place that is in a list
+-- a place whose index is within the list is the item at that index
 pub index_there : (places : List ℕ) (i : ℕ) → index_in places i < length places → slice_get places (index_in places i) ≡ Some i
 index_there [] i lt = absurd (let no : ⊥ = omega arith in no)
 index_there (p ∷ places) i lt = by_case (p == i) refl (λ l. index_there places i l) lt
@@ -45,7 +45,7 @@ index_there (p ∷ places) i lt = by_case (p == i) refl (λ l. index_there place
     by_case true h others l = ap (λ n. Some n) (grind arith)
     by_case false h others l = let e : index_in places i + 1 ≡ suc (index_in places i) = omega arith in rw e (others (omega (arith, l)))
 
--- it keeps its place if others are put after it
+-- a place keeps its index when others are appended
 pub index_kept : (places others : List ℕ) (i : ℕ) → index_in places i < length places → index_in (places ++ others) i ≡ index_in places i
 index_kept [] others i lt = absurd (let no : ⊥ = omega arith in no)
 index_kept (p ∷ places) others i lt = by_case (p == i) (λ l. index_kept places others i l) lt
@@ -55,7 +55,7 @@ index_kept (p ∷ places) others i lt = by_case (p == i) (λ l. index_kept place
     by_case true h l = refl
     by_case false h l = ap (λ n. n + 1) (h (omega (arith, l)))
 
--- a place that was not in the list, put last
+-- a new place, once appended, has the last index
 pub index_last : (places : List ℕ) (i : ℕ) → length places ≤ index_in places i → index_in (places ++ i ∷ []) i ≡ length places
 index_last [] i le = by_case (i == i) refl
   where

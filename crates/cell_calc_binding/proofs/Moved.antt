@@ -1,4 +1,4 @@
--- Expressions over other places.
+-- Expressions whose leaves are replaced by other places.
 use Rattle.std.proofs.Common.{◌≡◌, ◌<◌, ◌≤◌, ◌+◌, ℕ, pos, ◌+ℤ◌, List, [], ◌∷◌, ◌++◌, length, take, drop, get_or, map, refl, sym, ap, ◌∙◌, arith}
 use Rattle.std.specs.Prelude.{All}
 use Rattle.std.proofs.Math.Seq.{take-append_seam, drop-append_seam}
@@ -17,7 +17,7 @@ use Rattle.cell_calc_grammar.specs.Tree.{with_leaves, with_leaves_all}
 use Rattle.cell_calc_binding.specs.parts.TreeSteps.{index_in, IsListed}
 use Rattle.cell_calc_binding.proofs.Index.{index_there}
 
--- what holds of the steps of two lists
+-- a property of the steps of a list holds of the steps of each of its two parts
 front : (P : Step ℕ → Type 0) (xs ys : List (Step ℕ)) → All P (xs ++ ys) → All P xs
 front P xs ys all = All-same P xs (take (length xs) (xs ++ ys)) (sym (take-append_seam xs ys)) (All-take P (length xs) (xs ++ ys) all)
 
@@ -25,7 +25,7 @@ back : (P : Step ℕ → Type 0) (xs ys : List (Step ℕ)) → All P (xs ++ ys) 
 back P xs ys all = All-same P ys (drop (length xs) (xs ++ ys)) (sym (drop-append_seam xs ys)) (All-drop P (length xs) (xs ++ ys) all)
 
 mutual
-  -- an expression over just the places of a list has the same values over the maps that they pick
+  -- an expression over the listed places has the same values over the maps that they select
   pub value-moved : (places : List ℕ) (maps picked : List Grid) → ArePicked places maps picked → (s : GridPosition) (f : Formula)
       → All (IsListed places) (postfix f) → value (with_leaves (index_in places) f) picked s ≡ value f maps s
   value-moved places maps picked are s (Number n) all = refl
@@ -54,7 +54,7 @@ mutual
       let others = values-moved places maps picked are s xs (back (IsListed places) (postfix a) (postfix_all xs) all) in
       ap (λ v. v ∷ argument_values (with_leaves_all (index_in places) xs) picked s) first ∙ ap (λ vs. value a maps s ∷ vs) others
 
--- steps over the places of a list, after others were put there
+-- steps over listed places are unchanged when more places are appended
 pub same-moved : (places more : List ℕ) → ((i : ℕ) → index_in places i < length places → index_in more i ≡ index_in places i)
     → (steps : List (Step ℕ)) → All (IsListed places) steps → map (step_over (index_in more)) steps ≡ map (step_over (index_in places)) steps
 same-moved places more kept [] all = refl
@@ -66,7 +66,7 @@ same-moved places more kept (s ∷ steps) all =
     one (step.Map i down right) h = ap (λ k. step.Map k down right) (kept i h)
     one _ h = refl
 
--- one more step over the places of a list
+-- one more step extends the steps over listed places
 pub moved_more : (places more : List ℕ) (steps : List (Step ℕ)) (i : ℕ) (d : Step ℕ) (others : List (Step ℕ)) (other : Step ℕ) → i < length steps
     → ((i : ℕ) → index_in places i < length places → index_in more i ≡ index_in places i) → All (IsListed places) (take i steps)
     → others ≡ map (step_over (index_in places)) (take i steps) → other ≡ step_over (index_in more) (get_or steps i d)
@@ -76,7 +76,7 @@ moved_more places more steps i d others other lt kept listed is here =
     ∙ ap (λ s. map (step_over (index_in more)) (take i steps) ++ s ∷ []) here
     ∙ sym (map_more (step_over (index_in more)) steps i d lt)
 
--- a step whose place is in a list, after others were put there
+-- a step over a listed place is still over a listed place when others are appended
 pub still_listed : (places more : List ℕ) → ((i : ℕ) → index_in places i < length places → index_in more i ≡ index_in places i)
     → length places ≤ length more → (s : Step ℕ) → IsListed places s → IsListed more s
 still_listed places more kept longer (step.Map i down right) h = rw (kept i h) (omega (arith, longer, h))

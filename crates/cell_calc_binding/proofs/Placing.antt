@@ -1,4 +1,4 @@
--- Expressions over other leaves keep what the language allows.
+-- Expressions with replaced leaves are still allowed by the language.
 use Rattle.std.proofs.Common.{◌≡◌, ◌<◌, ◌≤◌, ◌+◌, ◌^◌, ℕ, List, [], ◌∷◌, length, max, arith, Bool, true, false, Some}
 use Rattle.std.specs.Option.{unwrap_or}
 use Rattle.std.specs.Prelude.{cond}
@@ -40,15 +40,15 @@ mutual
   top-over_all to most few NoTrees = omega arith
   top-over_all to most few (Then a xs) = omega (arith, top-over to most few a, top-over_all to most few xs)
 
--- an expression over places that are few
+-- an expression over few places is allowed by the language
 pub proper-over : {L : Type 0} (to : L → ℕ) (most : ℕ) → most < 2 ^ 64 → ((l : L) → to l + 1 ≤ most) → (f : Tree L) → IsGrammatical f → IsProper (with_leaves to f)
 proper-over to most small few f h = (grammatical-over to f h, omega (arith, small, top-over to most few f))
 
--- the steps of an expression that the language allows
+-- the steps of an allowed expression are bound
 pub bound_by : (steps : List (Step ℕ)) (f : Formula) → steps ≡ postfix f → IsProper f → AreBound steps
 bound_by steps f is proper = let b = are_of_tree f steps is in record { postfix = b.1; proper = rw (b.0) proper }
 
--- a place is one of the list
+-- the place that is found for a leaf is within the list, or 0 if there is none
 found_within : {K : Type 0} (is : K → Bool) (i : ℕ) (xs : List K) → unwrap_or (position_from is i xs) 0 + 1 ≤ max 1 (i + length xs)
 found_within is i [] = omega arith
 found_within is i (x ∷ xs) = by_case (is x) (found_within is (i + 1) xs)

@@ -1,4 +1,4 @@
--- What the steps of an expression say of it.
+-- Facts about an expression that follow from its steps.
 use Rattle.std.proofs.Common.{◌≡◌, ◌<◌, ◌≤◌, ◌+◌, ◌^◌, ℕ, ℤ, List, [], ◌∷◌, ◌++◌, length, take, get_or, max, sym, ap, ◌∙◌, arith, inl, inr}
 use Rattle.std.specs.Prelude.{All}
 use Rattle.std.proofs.lemmas.List.{take_more}
@@ -13,11 +13,11 @@ use Rattle.cell_calc_binding.specs.Formula.{Formula, Number, Map, Negated, Not, 
 use Rattle.cell_calc_binding.specs.Reach.{top_at, up_at, down_at, top_of, top_of_all, up_of, down_of, IsProper}
 use Rattle.cell_calc_binding.specs.parts.TreeSteps.{IsProperStep, ReadsPlace}
 
--- the larger of two joins
+-- the maximum is a join
 pub greatest : IsJoin ℕ 0 max
 greatest = record { left = λ n. omega arith; right = λ n. omega arith; both = λ k m n. omega arith }
 
--- one more step
+-- one more step updates the maximum
 pub greatest_more : (at : ℕ → ℤ → ℤ → ℕ) (xs : List (Step ℕ)) (i : ℕ) (d : Step ℕ) (was next new : ℕ) → i < length xs
     → was ≡ fold_steps at 0 max (take i xs) → next ≡ at_step at 0 (get_or xs i d) → new ≡ max was next → new ≡ fold_steps at 0 max (take (i + 1) xs)
 greatest_more at xs i d was next new lt before here is =
@@ -34,14 +34,14 @@ up-postfix i f = fold-postfix (up_at i) 0 max greatest f
 pub down-postfix : (i : ℕ) (f : Formula) → fold_steps (down_at i) 0 max (postfix f) ≡ down_of i f
 down-postfix i f = fold-postfix (down_at i) 0 max greatest f
 
--- no step has more than the largest number
+-- no step exceeds the maximum
 pub below_greatest : (at : ℕ → ℤ → ℤ → ℕ) (xs : List (Step ℕ)) → All (λ s. at_step at 0 s ≤ fold_steps at 0 max xs) xs
 below_greatest at [] = All-nil (λ s. at_step at 0 s ≤ fold_steps at 0 max [])
 below_greatest at (x ∷ xs) =
     All-cons (λ s. at_step at 0 s ≤ fold_steps at 0 max (x ∷ xs)) x xs (omega arith)
     (All-weaker (λ s. at_step at 0 s ≤ fold_steps at 0 max xs) (λ s. at_step at 0 s ≤ fold_steps at 0 max (x ∷ xs)) (λ s h. omega (arith, h)) xs (below_greatest at xs))
 
--- what holds of the steps before the last one, and of that one
+-- a property of all steps before the last one and of the last one holds of all steps
 with_last : (P : Step ℕ → Type 0) (xs : List (Step ℕ)) (s : Step ℕ) → All P xs → P s → All P (xs ++ s ∷ [])
 with_last P xs s all last = All-append P xs (s ∷ []) all (All-cons P s [] last (All-nil P))
 
@@ -63,7 +63,7 @@ mutual
 pub proper_steps : (f : Formula) → IsProper f → All IsProperStep (postfix f)
 proper_steps f h = few_steps f h.0 h.1
 
--- an expression reads what its steps read
+-- the property P holds of each place that a step reads
 abbrev pub AreReads : (ℕ → Type 0) → Step ℕ → Type 0
 AreReads P s = (i : ℕ) → ReadsPlace i s → P i
 

@@ -1,4 +1,4 @@
--- Worked rows, computed by the definition of value.
+-- Worked rows, computed with the definition of an expression's value.
 use Rattle.std.proofs.Common.{◌≡◌, pos, negsuc, [], Some, None, refl}
 use Rattle.cell_core.specs.Grid.{CellValue}
 use Rattle.cell_calc_grammar.specs.declared.function.Function.TheVariants as function

@@ -20,7 +20,7 @@ pub record GridPosition : Type 0 where
 abbrev pub grid_position : RegionValue → (row col : ℕ) → GridPosition
 grid_position region row col = record { rows = region.rows; cols = region.cols; row = row; col = col }
 
--- the negation of a cell; 1 if it is 0, otherwise 0; its absolute value
+-- the negation of a cell; its logical negation: 1 if the cell is 0, otherwise 0; its absolute value
 abbrev pub negated_cell : CellValue → CellValue
 negated_cell a = of_one (λ x. fit (neg_ℤ x)) a
 

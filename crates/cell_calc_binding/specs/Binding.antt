@@ -18,7 +18,7 @@ place_in names m = unwrap_or (place_of m.name names) 0
 abbrev pub with_places : List (List ℕ) → Term → Formula
 with_places names e = with_leaves (place_in names) e
 
--- the error of an expression with an unknown map name, or of running out of memory
+-- the error is an unknown map name in the expression, or memory ran out
 abbrev pub IsBindingFault : List (List ℕ) → Term → CalcFault → Type 0
 IsBindingFault names e fault =
     (fault ≡ record { kind = Memory; column = 0 }) ⊎ ((fault.kind ≡ UnknownMap) × (first_unknown names e ≡ Some fault.column))

@@ -77,7 +77,7 @@ greatest_cell (a ∷ xs) = fold greater a xs
 abbrev pub known_cells : List CellValue → List CellValue
 known_cells xs = filter (λ a. not (is_null a)) xs
 
--- how often a cell occurs in a list
+-- the number of times that a cell occurs in a list
 abbrev pub occurrences : CellValue → List CellValue → ℕ
 occurrences v xs = count_by (cell_eq v) xs
 

@@ -1,5 +1,5 @@
 -- Operators and functions of r.mapcalc on cells. Expressions of r.mapcalc over indices of maps: their names and
--- indices, their values at cells, and which maps they read and how far.
+-- indices, their values at cells, and the maps and rows that they read.
 pub mod Applied
 pub mod CellOperators
 pub mod Joins

@@ -1,4 +1,4 @@
--- Which maps an expression reads, and how many rows above and below a cell.
+-- The maps that an expression reads, and the number of rows that it reads above and below a cell.
 use Rattle.std.specs.Prelude.{◌<◌, ◌^◌, ℕ, ℤ, ◌+◌, max, ◌==◌, if◌then◌else◌}
 use Rattle.cell_calc_grammar.specs.Tree.{fold_maps, fold_all}
 use Rattle.cell_calc_binding.specs.Formula.{Formula, Formulas}

@@ -119,7 +119,8 @@ impl Bound {
         top(self.steps.as_slice())
     }
 
-    /// Returns how many rows above and below a cell the expression reads in the map at index `i`. Does not allocate.
+    /// Returns the numbers of rows above and below a cell that the expression reads in the map at index `i`. Does not
+    /// allocate.
     pub fn reach(&self, i: usize) -> (u32, u32)
         requires { i < top_of self.now }
         ensures up { result.0 ≡ up_of i self.now }
