@@ -14,12 +14,12 @@ use Rattle.cell_calc_categories.specs.declared.span.CategorySpan.{CategorySpan}
 use Rattle.cell_calc_categories.specs.parts.CategorySpans.{IsSpan, IsInSpan, IsAt, IsSize}
 use Rattle.cell_calc_categories.specs.parts.ValueTables.{IsValueTable, IsByteTable}
 
--- the place of a cell lies in a table
+-- the index of a cell of the span lies within the table
 pub in_table : (s : CategorySpan) (p n : ℕ) (x : CellValue) → IsSize s n → IsInSpan s x → IsAt s p x → p < n
 in_table s p n None size within place = omega (arith, ints, size, place)
 in_table s p n (Some v) size within place = omega (arith, ints, size, place, within.0, within.1)
 
--- a place has one cell
+-- two cells at the same index of a span are equal
 pub one_cell : (s : CategorySpan) (p : ℕ) (x y : CellValue) → IsInSpan s x → IsInSpan s y → IsAt s p x
     → IsAt s p y → x ≡ y
 one_cell s p None None wx wy ax ay = refl
@@ -27,7 +27,7 @@ one_cell s p None (Some v) wx wy ax ay = absurd (let no : ⊥ = omega (arith, in
 one_cell s p (Some v) None wx wy ax ay = absurd (let no : ⊥ = omega (arith, ints, ax, ay, wx.1) in no)
 one_cell s p (Some v) (Some w) wx wy ax ay = ap (λ z. Some z) (omega (arith, ints, ax, ay))
 
--- each byte stands for a cell of a span
+-- each byte stands for a cell within the span
 pub byte_within : (s : CategorySpan) → IsSpan s → (b : ℕ) → b < 256 → IsInSpan s (byte_cell b)
 byte_within s is b lt = by_case (b == 255) refl
   where
@@ -37,7 +37,7 @@ byte_within s is b lt = by_case (b == 255) refl
         let below : b < 255 = grind arith in
         (omega (arith, ints, is.zero), omega (arith, ints, is.bytes))
 
--- the same of bytes that were looked up
+-- a byte table gives the function's value at each looked-up byte
 pub bytes_of_each : (f : CellValue → CellValue) (table values bytes : List ℕ) → length values ≡ length bytes
     → IsByteTable f table
     → ((i : ℕ) → get_or bytes i 0 < 256)
@@ -52,7 +52,7 @@ bytes_of_each f table (v ∷ vs) (b ∷ bs) e is few each =
     ∙ ap (λ l. f (byte_cell b) ∷ l) (bytes_of_each f table vs bs (omega (arith, e)) is (λ i. few (suc i))
     (λ c lt. each (suc c) (omega (arith, lt))))
 
--- one more item at the end
+-- a property of each item also holds after one more item that has it
 pub item_pushed : {A : Type 0} (d : A) (P : ℕ → A → Type 0) (old : List A) (x : A) (n : ℕ) → length old ≡ n
     → ((k : ℕ) → k < n → P k (get_or old k d)) → P n x → (k : ℕ) → k < n + 1 → P k (get_or (old ++ x ∷ []) k d)
 item_pushed d P old x n count done here =
@@ -61,12 +61,12 @@ item_pushed d P old x n count done here =
     (x ∷ []) d k lt)) (done k below))
     (subst (P n) (sym (get_or_at old x [] d n count)) here)
 
--- one more cell
+-- a property of each cell also holds after one more cell that has it
 pub one_pushed : (P : ℕ → CellValue → Type 0) (old : List CellValue) (x : CellValue) (n : ℕ) → length old ≡ n
     → ((k : ℕ) → k < n → P k (at old k)) → P n x → (k : ℕ) → k < n + 1 → P k (at (old ++ x ∷ []) k)
 one_pushed = item_pushed None
 
--- the values of more places at the end of a table
+-- appending the values of more cells extends a table
 pub table_more : (f : CellValue → CellValue) (s : CategorySpan) (old new cells : List CellValue)
     (from width : ℕ) → new ≡ old ++ map f cells
     → length old ≡ from → length cells ≡ width
@@ -93,7 +93,7 @@ table_more f s old new cells from width is count wide before places withins x p 
         ∙ get_or-map f cells (p - from) None None here
         ∙ ap f (one_cell s p (at cells (p - from)) x (withins (p - from) lt') within found place)
 
--- the cell of a first stretch
+-- the cell of the first stretch is within the span
 pub first_within : (s : CategorySpan) (cell : CellValue) (n : ℕ) (old rest : List RunValue)
     → old ≡ (cell, n) ∷ rest → 0 < n
     → All (IsInSpan s) (written_out old) → IsInSpan s cell
@@ -101,7 +101,7 @@ first_within s cell zero old rest next some all = absurd (let no : ⊥ = omega (
 first_within s cell (suc n) old rest next some all =
     (rw next at all) zero None (omega arith)
 
--- the cells of the stretches after the first
+-- the cells of the stretches after the first are within the span
 pub rest_within : (s : CategorySpan) (cell : CellValue) (n : ℕ) (old rest : List RunValue) → old ≡ (cell, n) ∷ rest
     → All (IsInSpan s) (written_out old) → All (IsInSpan s) (written_out rest)
 rest_within s cell n old rest next all = λ i d lt.
@@ -122,7 +122,7 @@ map-replicate : (f : CellValue → CellValue) (n : ℕ) (x : CellValue) → map 
 map-replicate f zero x = refl
 map-replicate f (suc n) x = ap (λ l. f x ∷ l) (map-replicate f n x)
 
--- one more stretch of a row
+-- a row extended by one more stretch
 module _ (row new : List CellValue) (from n : ℕ) (cell x : CellValue) (old rest : List RunValue) (next : old ≡
     (cell, n) ∷ rest)
     (within : from + length (written_out old) ≡ length row) where

@@ -1,4 +1,4 @@
--- Maps of values by category.
+-- Maps of values that depend only on categories.
 use Rattle.std.proofs.Common.{◌≡◌, ◌<◌, ℕ, List, [], length, map, get_or, ap, ◌∙◌, arith, Option, Some, None}
 use Rattle.std.specs.Prelude.{IfSome, slice_get}
 use Rattle.std.proofs.lemmas.List.{get_or-map}
@@ -10,7 +10,7 @@ use Rattle.cell_calc.proofs.CategoryValues.{value_by_category}
 use Rattle.cell_calc_categories.specs.MapValues.{HasValues}
 use Rattle.cell_calc_categories.specs.parts.ValueTables.{changed_rows}
 
--- a map whose cells are changed by a function
+-- a cell of a changed map is the function of the old cell
 changed_at : (f : CellValue → CellValue) (m made : Grid) (r c : ℕ) → IsFilled m.region m.rows
     → made.rows ≡ changed_rows f m.rows
     → r < m.region.rows → c < m.region.cols → cell_at made r c ≡ f (cell_at m r c)
@@ -32,7 +32,7 @@ values_of_map f m made filled region labels rows is maps first = record {
       ∙ value_by_category f m.region m maps r c first is;
 }
 
--- what follows of the value in a Some
+-- an implication carries over to the value in a Some
 pub if_some : {X : Type 0} (P Q : X → Type 0) (o : Option X) → ((x : X) → P x → Q x) → IfSome o P → IfSome o Q
 if_some P Q None then h = h
 if_some P Q (Some x) then h = then x h

@@ -3,7 +3,7 @@ use Rattle.std.specs.Prelude.{◌≡◌, ℕ, pos, negsuc, ◌+ℤ◌, ◌-ℤ�
 use Rattle.cell_core.specs.Grid.{CellValue}
 use Rattle.cell_calc_categories.specs.declared.span.CategorySpan.{CategorySpan}
 
--- a span within the range of categories that contains all cells that bytes stand for
+-- the span is within the range of categories and contains all cells that bytes stand for
 pub record IsSpan (s : CategorySpan) : Type 0 where
   pub below : negsuc 2147483646 ≤ℤ s.least
   pub zero : s.least ≤ℤ pos 0
