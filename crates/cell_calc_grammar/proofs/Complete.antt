@@ -1,4 +1,4 @@
--- What stands for an expression is read so, and reading has one outcome.
+-- Tokens that stand for an expression are read as that expression, and reading has one outcome.
 use Rattle.std.proofs.Common.{◌≡◌, ℕ, zero, suc, ◌≤◌, ℤ, List, [], ◌∷◌, ◌++◌, Option, Some, None, Ok, true, refl, sym, ap, ◌∙◌, subst, arith, append_assoc, append-nil}
 use Rattle.std.specs.Prelude.{nat_le}
 use Rattle.std.proofs.lemmas.Bool.Decides.{nat_tests}
@@ -16,14 +16,14 @@ use Rattle.cell_calc_grammar.specs.Term.{Term, Number, Terms}
 use Rattle.cell_calc_grammar.specs.Token.{name_at, sign_at, head}
 use Rattle.cell_calc_grammar.proofs.Walk.{operator_alone}
 
--- what is there once
+-- if an option is both Some a and Some b, a equals b
 same_some : {A : Type 0} (x : Option A) (a b : A) → x ≡ Some a → x ≡ Some b → a ≡ b
 same_some x a b e e' = cc
 
 no_some : {A B : Type 0} (x : Option A) (a : A) → x ≡ None → x ≡ Some a → B
 no_some x a e e' = let h : ⊥ = cc in absurd h
 
--- reading has one outcome
+-- reading a state has only one outcome
 pub one_outcome : {s : State} {o p : ReadOutcome} → GrammarReads s o → GrammarReads s p → o ≡ p
 one_outcome (reading.map n) reading.moved = absurd (n.1 refl)
 one_outcome (reading.map n) (reading.unknown e) = absurd (n.0 refl)
@@ -80,7 +80,7 @@ below_down : (k : ℕ) (x : Option Operator) → below_level (suc k) x ≡ None 
 below_down k None e = refl
 below_down k (Some op) e = grind (arith, nat_tests)
 
--- at a level above, reading continues
+-- an outcome that continues at one level continues at the level above
 widen_more : {k : ℕ} {o o' p : ReadOutcome} {a : Term} {rest : List Placed} → GrammarReads (More k o) o' → o' ≡ Got a rest → GrammarReads (More (suc k) (Got a rest)) p → GrammarReads (More (suc k) o) p
 widen_more stopped w m = absurd (let h : ⊥ = cc in h)
 widen_more {k = k} {p = p} (done e) w m = subst (λ o. GrammarReads (More (suc k) o) p) (sym w) m
@@ -89,16 +89,16 @@ widen_more {k = k} (more {s = s} op e r n) w m = more op (below_up k (operator_o
 widen : {k : ℕ} {ts : List Placed} {o' p : ReadOutcome} {a : Term} {rest : List Placed} → GrammarReads (Whole k ts) o' → o' ≡ Got a rest → GrammarReads (More (suc k) (Got a rest)) p → GrammarReads (Whole (suc k) ts) p
 widen (whole r n) w m = whole r (widen_more n w m)
 
--- what follows does not continue with an expression of the level, nor with a name
+-- the tokens that follow continue neither an expression of the level nor a name
 abbrev pub Follows : ℕ → List Placed → Type 0
 Follows k rest = (next k rest ≡ None) × IsAlone (head rest)
 
--- if the tokens of an expression are read, the machine then continues from the expression
+-- after the tokens of an expression are read, the machine continues from that expression
 abbrev pub IsRead : ℕ → List Placed → Term → Type 0
 IsRead zero ts a = (rest : List Placed) → IsAlone (head rest) → GrammarReads (Operand (ts ++ rest)) (Got a rest)
 IsRead (suc k) ts a = (rest : List Placed) (o : ReadOutcome) → Follows k rest → GrammarReads (More (suc k) (Got a rest)) o → GrammarReads (Whole (suc k) (ts ++ rest)) o
 
--- an expression is read if what follows does not continue with it
+-- an expression is read if the tokens that follow do not continue it
 abbrev IsAllRead : List Placed → Term → Type 0
 IsAllRead ts a = (rest : List Placed) → Follows top rest → IsNot Question (head rest) → GrammarReads (Expression (ts ++ rest)) (Got a rest)
 
@@ -112,7 +112,7 @@ next_lower : (k : ℕ) (rest : List Placed) → next (suc k) rest ≡ None → n
 next_lower k [] e = refl
 next_lower k (s ∷ rest) e = below_down k (operator_of s.token) e
 
--- all of it is read if what follows does not continue with it
+-- an expression of a level is read in full if the tokens that follow do not continue it
 read_whole : (k : ℕ) (ts : List Placed) (a : Term) → IsRead k ts a → (rest : List Placed) → Follows k rest → GrammarReads (Whole k (ts ++ rest)) (Got a rest)
 read_whole zero ts a h rest e = whole (h rest e.1) (done e.0)
 read_whole (suc k) ts a h rest e = h rest (Got a rest) (next_lower k rest e.0, e.1) (done e.0)
@@ -127,7 +127,7 @@ at_level op k e =
     let up : below_level (suc k) (Some op) ≡ Some op = grind (arith, nat_tests) in
     (down, up)
 
--- no argument begins with the closing parenthesis
+-- no argument list begins with a closing parenthesis
 close_first : (ts rest : List Placed) (xs : Terms) → GrammarReads (Arguments ts) (GotAll xs rest) → IsNot CloseParenthesis (head ts)
 close_first [] rest xs r = λ e. cc
 close_first (s ∷ ts) rest xs r = λ e.
@@ -190,7 +190,7 @@ mutual
       rw append_assoc
       (arguments (is_all_read s (sign_at Comma c ∷ (us ++ rest)) (refl, (λ e. cc, λ e. cc)) (λ e. cc)) (reading.another (are_read q rest)))
 
--- what stands for an expression is read as that
+-- tokens that stand for an expression are read as that expression
 pub read_all : (ts : List Placed) (a : Term) → IsExpression ts a → GrammarReads (Expression ts) (Got a [])
 read_all ts a s = subst (λ l. GrammarReads (Expression l) (Got a [])) (append-nil ts) (is_all_read s [] (refl, (λ e. cc, λ e. cc)) (λ e. cc))
 
@@ -198,6 +198,6 @@ abbrev term_of : ReadOutcome → Term
 term_of (Got a rest) = a
 term_of _ = Number 0
 
--- a list stands for no second expression
+-- a list of tokens stands for at most one expression
 pub one_expression : (ts : List Placed) (a b : Term) → IsExpression ts a → IsExpression ts b → a ≡ b
 one_expression ts a b s t = ap term_of (one_outcome (read_all ts a s) (read_all ts b t))

@@ -19,7 +19,7 @@ pub not_true : (a : Bool) → not a ≡ true → a ≡ false
 not_true true h = cc
 not_true false h = refl
 
--- it holds of each
+-- P holds of each list
 abbrev AllOf : (List ℕ → Type 0) → List (List ℕ) → Type 0
 AllOf P [] = Unit {0}
 AllOf P (x ∷ xs) = P x × AllOf P xs
@@ -32,11 +32,11 @@ list_all-AllOf : (q : List ℕ → Bool) (xs : List (List ℕ)) → list_all q x
 list_all-AllOf q [] h = tt
 list_all-AllOf q (x ∷ xs) h = let each = both_true (q x) (list_all q xs) h in (each.0, list_all-AllOf q xs each.1)
 
--- each is no longer than that
+-- each list has at most n items
 abbrev no_longer : ℕ → List (List ℕ) → Bool
 no_longer n xs = list_all (λ y. nat_le (length y) n) xs
 
--- each is no longer than those before it
+-- the lists are in order of descending length
 abbrev descend : List (List ℕ) → Bool
 descend [] = true
 descend (x ∷ xs) = no_longer (length x) xs && descend xs
@@ -50,7 +50,7 @@ AllOf-no_longer q m n (x ∷ xs) le h =
     let each = both_true (nat_le (length x) m) (no_longer m xs) h in
     ((λ e. low (length x) m n le each.0), AllOf-no_longer q m n xs le each.1)
 
--- the first that passes is a longest one
+-- in descending order, the first list that passes a test is a longest one that does
 longest-found : (q : List ℕ → Bool) (xs : List (List ℕ)) → descend xs ≡ true → AllOf (λ y. q y ≡ true → length y ≤ option_map_or length (find q xs) 1) xs
 longest-found q [] h = tt
 longest-found q (x ∷ xs) h =
@@ -62,7 +62,7 @@ longest-found q (x ∷ xs) h =
     go true is all others = ((λ e. omega arith), AllOf-no_longer q (length x) (length x) xs (omega arith) all)
     go false is all others = ((λ e. absurd (let n : ⊥ = cc in n)), others)
 
--- what holds of the spelling of each sign holds of these bytes
+-- a property of the spellings of all signs holds of a spelling that was found
 found-all : (P : List ℕ → Type 0) (xs : List (List ℕ × Sign)) (bytes : List ℕ) (s : Sign) → AllOf P (map (λ x. x.0) xs)
     → option_map (λ x. x.1) (find (λ x. bytes_eq x.0 bytes) xs) ≡ Some s → P bytes
 found-all P [] bytes s all h = absurd (let n : ⊥ = cc in n)
@@ -73,7 +73,7 @@ found-all P (x ∷ xs) bytes s all h = go (bytes_eq x.0 bytes) refl h (found-all
     go true is at later = subst P ((bytes_eq-Decides x.0 bytes).0 is) all.0
     go false is at later = later at
 
--- what is reported of the spelling of each sign by a test
+-- a test that all spellings of signs pass also passes for a spelling that was found
 pub sign-passes : (q : List ℕ → Bool) (bytes : List ℕ) (s : Sign) → list_all q (map (λ x. x.0) signs) ≡ true → sign_of bytes ≡ Some s → q bytes ≡ true
 sign-passes q bytes s all is = found-all (λ x. q x ≡ true) signs bytes s (list_all-AllOf q (map (λ x. x.0) signs) all) is
 
@@ -89,7 +89,7 @@ found-length : (text s : List ℕ) (r : Option (List ℕ)) (b : Bool) → starts
 found-length text s r true starts some others = (some, starts_with-length text s starts)
 found-length text s r false starts some others = others
 
--- none of them is empty
+-- no list is empty
 abbrev AreSome : List (List ℕ) → Type 0
 AreSome [] = Unit {0}
 AreSome (s ∷ all) = (0 < length s) × AreSome all
@@ -120,7 +120,7 @@ piece_length-mark : (text : List ℕ) → prefix_len is_name_byte text ≡ 0 →
 unfolding piece_length
 piece_length-mark text h = grind (arith, nat_tests)
 
--- a sign that a text begins with is no longer than its mark
+-- a sign at the start of a text is no longer than the text's first mark
 sign-mark_length : (text bytes : List ℕ) (s : Sign) → 0 < length text → sign_of bytes ≡ Some s → starts_with nat_eq text bytes ≡ true → length bytes ≤ mark_length text
 unfolding mark_length
 sign-mark_length text bytes s some is starts =
@@ -138,7 +138,7 @@ run-append (b ∷ bs) rest h =
     let first : prefix_len is_name_byte (b ∷ (bs ++ rest)) ≡ 1 + prefix_len is_name_byte (bs ++ rest) = rw each.0 refl in
     first ∙ omega (arith, after)
 
--- a first byte that no word has
+-- the list begins with a byte that occurs in no word
 abbrev pub begins_mark : List ℕ → Bool
 begins_mark [] = false
 begins_mark (b ∷ bs) = not (is_name_byte b)
@@ -167,7 +167,7 @@ word-piece_length bytes rest some word =
     let run = run-append bytes rest word in
     piece_length-run (bytes ++ rest) (omega (arith, run, some)) ∙ run
 
--- a word or a sign that a text begins with is no longer than its first piece
+-- a word or a sign at the start of a text is no longer than the text's first piece
 piece-least : (bytes rest : List ℕ) → 0 < length bytes → is_piece bytes ≡ true → length bytes ≤ piece_length (bytes ++ rest)
 piece-least bytes rest some is = go (list_all is_name_byte bytes) (sign_of bytes) refl refl is
   where
@@ -180,7 +180,7 @@ false_of : (b : Bool) → (b ≡ true → ⊥) → b ≡ false
 false_of true h = absurd (h refl)
 false_of false h = refl
 
--- the first piece of a text is longest
+-- the first piece of a text is the longest token at its start
 pub piece-longest : (bytes text : List ℕ) → piece_length (bytes ++ text) ≡ length bytes → IsLongestToken bytes text
 piece-longest bytes text cut = λ more rest e some. false_of (is_piece (bytes ++ more)) (λ is. too_long more rest e some is)
   where
@@ -212,7 +212,7 @@ word-ends bytes (b ∷ bs) word longest = go (is_name_byte b) refl
         let yes : is_piece (bytes ++ b ∷ []) ≡ true = rw whole refl in
         absurd (let n : ⊥ = cc in n)
 
--- two ways to cut one list: the longer start continues from the shorter one
+-- of two cuts of one list, the longer start continues the shorter one
 longer-front : (xs ys zs ws : List ℕ) → xs ++ ys ≡ zs ++ ws → length xs < length zs → (more : List ℕ) × (zs ≡ xs ++ more) × (ys ≡ more ++ ws) × (0 < length more)
 longer-front [] ys zs ws e l = (zs, refl, e, l)
 longer-front (x ∷ xs) ys [] ws e l = absurd (omega arith)
@@ -229,7 +229,7 @@ no_sign : (a b : Bool) → (a || b) ≡ false → b ≡ true → ⊥
 no_sign true b h g = cc
 no_sign false b h g = cc
 
--- a spelling of a sign that the text begins with is no longer than the longest one
+-- a spelling of a sign at the start of the text is no longer than the longest token
 found-under : (bytes text : List ℕ) (xs : List (List ℕ)) → 0 < length bytes → IsLongestToken bytes text → list_all (λ x. is_some (sign_of x)) xs ≡ true
     → option_map_or length (find (starts_with nat_eq (bytes ++ text)) xs) 1 ≤ length bytes
 found-under bytes text [] some longest all = some

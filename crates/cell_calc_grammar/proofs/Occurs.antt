@@ -17,13 +17,13 @@ use Rattle.cell_calc_grammar.specs.Token.{token_number_at, name_at, sign_at, hea
 use Rattle.cell_calc_grammar.proofs.Sound.{below_some, Looks, ASign, look, Signed, unsigned, minus, plus, NoOffsets, first, no_comma, second, no_bracket, IsPart, AreBoth, offsets_part, both_parts, sound}
 use Rattle.cell_calc_grammar.proofs.Splits.{Stays, in_first, in_second, stays, not_nothing}
 
--- what is left of the tokens
+-- the tokens that an outcome leaves unread
 abbrev pub left : ReadOutcome → List Placed
 left (Got a rest) = rest
 left (GotAll xs rest) = rest
 left (Stops kind rest) = rest
 
--- the tokens of a state
+-- the tokens that a state has still to read
 abbrev pub tokens : State → List Placed
 tokens (Operand ts) = ts
 tokens (Whole k ts) = ts
@@ -35,13 +35,13 @@ tokens (Called ts) = ts
 tokens (Arguments ts) = ts
 tokens (Onward o) = left o
 
--- the tokens are read as an operand, and if that stops, so does the outcome
+-- the tokens are read as an operand, and if reading the operand stops, so does the outcome
 abbrev pub Found : List Placed → ReadOutcome → Type 0
 Found us o =
     (q : ReadOutcome) × GrammarReads (Operand us) q
     × ((kind : CalcKind) (rest : List Placed) → q ≡ Stops kind rest → o ≡ Stops kind rest)
 
--- so it is with each name before what is left
+-- each name before the unread tokens is read as an operand
 abbrev FindsNames : (before rest : List Placed) → ReadOutcome → Type 0
 FindsNames before rest o =
     (b mid : List Placed) (name : List ℕ) (c : ℕ) → before ≡ b ++ name_at name c ∷ mid
@@ -78,7 +78,7 @@ finds_next : (s : Placed) {ts rest : List Placed} {o : ReadOutcome} → IsNoName
 finds_next s {rest = rest} {o = o} n w =
     record { before = s ∷ w.before; all = ap (λ l. s ∷ l) w.all; finds = finds_after s w.before rest o n w.finds }
 
--- an outcome that is not a stop says nothing about the names
+-- the names found before an outcome that is not a stop are found for any outcome
 finds_any : {ts rest : List Placed} (o : ReadOutcome) {p : ReadOutcome} → IsNoStop o → Finds ts rest o → Finds ts rest p
 finds_any o n f = record {
   before = f.before;
@@ -102,7 +102,7 @@ finds_then {rest = rest} {o = o} f g = record {
         (f.finds b m name c e)
     go b mid name c (in_second m e h) = g.finds m mid name c e
 
--- the first of the tokens is a name, which the outcome is read of
+-- if an operand begins with a name, that name is found
 finds_self : (s : Placed) {ts rest : List Placed} {o : ReadOutcome} → GrammarReads (Operand (s ∷ ts)) o
     → Finds ts rest o
     → Finds (s ∷ ts) rest o
@@ -119,7 +119,7 @@ finds_self s {ts = ts} {rest = rest} {o = o} r w =
         let others : w.before ≡ b ++ name_at name c ∷ mid = cc in
         w.finds b mid name c others
 
--- no name among the tokens
+-- the tokens include no names
 abbrev AreNoNames : List Placed → Type 0
 AreNoNames [] = Unit {0}
 AreNoNames (s ∷ ts) = IsNoName s.token × AreNoNames ts

@@ -1,4 +1,4 @@
--- A text spells no other tokens than its list.
+-- A text spells only the tokens of its list.
 use Rattle.std.proofs.Common.{◌≡◌, ℕ, zero, ◌+◌, ◌<◌, ◌≤◌, Bool, true, false, ◌&&◌, nat_le, List, [], ◌∷◌, ◌++◌, length, refl, ap, sym, ◌∙◌, arith, subst, Some, Ok}
 use Rattle.std.proofs.lemmas.Bool.Decides.{nat_tests}
 use Rattle.std.proofs.Math.Seq.{take-append_seam, drop-append_seam}
@@ -17,7 +17,7 @@ use Rattle.cell_calc_grammar.specs.declared.token.Sign.{Sign}
 use Rattle.cell_calc_grammar.specs.declared.token.Token.{Token}
 use Rattle.cell_calc_grammar.specs.declared.token.Token.TheVariants as token
 
--- bytes that begin with no blank
+-- the bytes do not begin with a blank
 abbrev begins_piece : List ℕ → Bool
 begins_piece [] = false
 begins_piece (b ∷ bs) = not (is_blank b)
@@ -34,7 +34,7 @@ digit-is_blank b h = grind (arith, nat_tests)
 start-is_blank : (b : ℕ) → is_name_start b ≡ true → is_blank b ≡ false
 start-is_blank b h = grind (arith, nat_tests)
 
--- spelled like a sign, and no word
+-- the bytes begin like a sign and are not a word
 abbrev is_mark : List ℕ → Bool
 is_mark bytes = begins_piece bytes && not (list_all is_name_byte bytes)
 
@@ -54,7 +54,7 @@ sign-is_name_bytes bytes s h =
 sign-begins : (bytes : List ℕ) (s : Sign) → sign_of bytes ≡ Some s → begins_piece bytes ≡ true
 sign-begins bytes s h = (both_true (begins_piece bytes) (not (list_all is_name_byte bytes)) (sign-is_mark bytes s h)).0
 
--- the bytes of a token begin with no blank
+-- the bytes of a token do not begin with a blank
 spells-begins : (bytes : List ℕ) (t : Token) → SpellsToken bytes t → begins_piece bytes ≡ true
 spells-begins [] (token.Number n) is = absurd (omega (arith, is.0))
 spells-begins (b ∷ bs) (token.Number n) is =
@@ -89,7 +89,7 @@ begun : (bytes text : List ℕ) → begins_piece bytes ≡ true →
 begun [] text h = cc
 begun (b ∷ bs) text h = (b, bs ++ text, refl, not_true (is_blank b) h, omega arith)
 
--- the bytes of a token that are longest are the first piece
+-- if no longer token begins a text, the bytes of its first token are its first piece
 spells-longest : (bytes text : List ℕ) (t : Token) → SpellsToken bytes t → IsLongestToken bytes text → piece_length (bytes ++ text) ≡ length bytes
 spells-longest bytes text (token.Number n) is longest = word-longest bytes text is.0 (digits-are_name_bytes bytes is.1) longest
 spells-longest bytes text (token.Name name) is longest =
@@ -105,7 +105,7 @@ next_token-at count c bytes t low is =
     let below : nat_lt count 1000 ≡ true = grind (arith, nat_tests) in
     rw (below, is) refl
 
--- tokens that are spelled from a column on are the tokens of the pieces from there on
+-- tokens that are spelled from a column on are the tokens of the text's pieces from that column on
 spelled-only : {c : ℕ} {text : List ℕ} {ts : List Placed} → AreSpelled c text ts → (count : ℕ) → count + length ts ≤ 1000 →
     tokens_of count (pieces zero c text) ≡ Ok ts
 unfolding pieces tokens_of
@@ -122,7 +122,7 @@ spelled-only (spelling.token {column = c} {text = text} {tokens = ts} t bytes is
     let others = spelled-only rest (count + 1) (omega arith) in
     ap (tokens_of count) first ∙ (tokens_of-cons count p (pieces zero (c + length bytes) text) ∙ rw (next, others) refl)
 
--- the tokens that a text spells are its list
+-- the tokens that a text spells are the tokens of its list
 pub is_list : (text : List ℕ) (ts : List Placed) → AreSpelled 1 text ts → length ts ≤ 1000 → token_list text ≡ Ok ts
 unfolding token_list
 is_list text ts is few = spelled-only is 0 (omega arith)

@@ -1,11 +1,11 @@
--- How the pieces of a text follow from its start, and its tokens from the tokens before.
+-- The pieces of a text in terms of its start, and its tokens in terms of the tokens before.
 use Rattle.std.proofs.Common.{◌≡◌, ℕ, zero, suc, ◌+◌, ◌-◌, true, false, List, [], ◌∷◌, ◌++◌, length, take, drop, refl, ap, sym, ◌∙◌, arith, append_assoc, append-nil, Result, Ok, Err, inl, inr, ◌<◌}
 use Rattle.cell_core_values.specs.Blanks.{is_blank}
 use Rattle.cell_calc_grammar.specs.Tokens.{Piece, pieces, piece_length, tokens_of, next_token, before, token_list, IsTokenFault}
 use Rattle.cell_calc_grammar.specs.declared.calc_fault.CalcFault.{CalcFault}
 use Rattle.cell_calc_grammar.specs.declared.token.Placed.{Placed}
 
--- tokens put before the tokens of what follows
+-- tokens added before the tokens that follow
 abbrev pub prefixed : List Placed → Result (List Placed) CalcFault → Result (List Placed) CalcFault
 prefixed ts (Ok us) = Ok (ts ++ us)
 prefixed ts (Err f) = Err f
@@ -37,7 +37,7 @@ pieces-piece c b bs n h e =
     pieces-begun n (c + 1) bs ∙ ap (λ m. pieces zero m (drop n bs)) (omega arith) in
     pieces-opened c b bs n h e ∙ ap (λ ps. record { column = c; bytes = take (suc n) (b ∷ bs) } ∷ ps) after
 
--- what is left to read gives the same list after a blank
+-- skipping a blank does not change the list of tokens
 pub after_blank : (found : List Placed) (n c b : ℕ) (rest others : List ℕ) (w : Result (List Placed) CalcFault) →
     rest ≡ b ∷ others → is_blank b ≡ true → prefixed found (tokens_of n (pieces zero c rest)) ≡ w →
     prefixed found (tokens_of n (pieces zero (c + 1) others)) ≡ w
@@ -63,7 +63,7 @@ pub tokens_of-cons : (count : ℕ) (p : Piece) (ps : List Piece) → tokens_of c
 unfolding tokens_of
 tokens_of-cons count p ps = refl
 
--- the list by its next token and what follows it
+-- the list of tokens begins with the next token and continues with the tokens after it
 next_first : (found : List Placed) (count c b n : ℕ) (rest others piece after : List ℕ) (w : Result (List Placed) CalcFault) →
     rest ≡ b ∷ others → is_blank b ≡ false → piece_length rest ≡ n → 0 < n → piece ≡ take n rest → after ≡ drop n rest →
     prefixed found (tokens_of count (pieces zero c rest)) ≡ w →
@@ -73,7 +73,7 @@ next_first found count c b n rest others piece after w split word length some fr
     rw (front, back) (pieces-first c b rest others n split word length some) in
     sym (ap (prefixed found) (ap (tokens_of count) first ∙ tokens_of-cons count (record { column = c; bytes = piece }) (pieces zero (c + n) after))) ∙ kept
 
--- what is left to read gives the same list after a token
+-- reading a token does not change the list of tokens
 pub after_token : (found : List Placed) (t : Placed) (count c b n : ℕ) (rest others piece after : List ℕ) (w : Result (List Placed) CalcFault) →
     rest ≡ b ∷ others → is_blank b ≡ false → piece_length rest ≡ n → 0 < n → piece ≡ take n rest → after ≡ drop n rest →
     next_token count (record { column = c; bytes = piece }) ≡ Ok t →
@@ -83,7 +83,7 @@ after_token found t count c b n rest others piece after w split word length some
     let first = next_first found count c b n rest others piece after w split word length some front back kept in
     prefixed-before found t (tokens_of (count + 1) (pieces zero (c + n) after)) ∙ rw is at first
 
--- an error of the next token is the text's
+-- an error of the next token is the error of the text
 pub at_fault : (found : List Placed) (reported : CalcFault) (count c b n : ℕ) (rest others piece : List ℕ) (w : Result (List Placed) CalcFault) →
     rest ≡ b ∷ others → is_blank b ≡ false → piece_length rest ≡ n → 0 < n → piece ≡ take n rest →
     prefixed found (tokens_of count (pieces zero c rest)) ≡ w →
@@ -93,14 +93,14 @@ at_fault found reported count c b n rest others piece w split word length some f
     let first = next_first found count c b n rest others piece (drop n rest) w split word length some front refl kept in
     inr (sym (rw is at first))
 
--- at the end of the text the tokens found are its list
+-- at the end of the text, the tokens found so far are its list
 pub at_end : (found : List Placed) (count c : ℕ) (rest : List ℕ) (w : Result (List Placed) CalcFault) →
     length rest ≡ 0 → prefixed found (tokens_of count (pieces zero c rest)) ≡ w → w ≡ Ok found
 unfolding tokens_of pieces
 at_end found count c [] w ends kept = sym kept ∙ ap Ok (append-nil found)
 at_end found count c (b ∷ bs) w ends kept = absurd (omega (arith, ends))
 
--- nothing is found before the text is read
+-- before the text is read, no tokens are found
 pub at_start : (text : List ℕ) (found : List Placed) (count : ℕ) → found ≡ [] → count ≡ 0 →
     prefixed found (tokens_of count (pieces zero 1 text)) ≡ token_list text
 unfolding token_list

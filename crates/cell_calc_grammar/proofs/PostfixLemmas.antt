@@ -1,4 +1,4 @@
--- What steps make of operands, and the expressions that they are of.
+-- The results of steps on operands, and the expressions that have these steps.
 use Rattle.std.proofs.Common.{◌≡◌, ◌+◌, ◌-◌, ℕ, ℤ, suc, List, [], ◌∷◌, ◌++◌, length, map, refl, sym, ap, ◌∙◌, arith, append_assoc, append-nil, length-append}
 use Rattle.std.specs.Prelude.{slice_index_or}
 use Rattle.std.proofs.Math.Seq.{take-append_seam, drop-append_seam}
@@ -19,7 +19,7 @@ pub length-listed : {L : Type 0} (xs : Trees L) → length (listed xs) ≡ count
 length-listed NoTrees = refl
 length-listed (Then a xs) = ap suc (length-listed xs)
 
--- what steps make of operands is what an expression means
+-- applying a step to operands gives the meaning of the expression that they form
 pub record IsMeaning (L X : Type 0) (made : Step L → List X → X) (m : Tree L → X) : Type 0 where
   pub number : (n : ℕ) → made (step.Number n) [] ≡ m (Number n)
   pub leaf : (l : L) (down right : ℤ) → made (step.Map l down right) [] ≡ m (Map l down right)
@@ -28,20 +28,20 @@ pub record IsMeaning (L X : Type 0) (made : Step L → List X → X) (m : Tree L
   pub binary : (op : Operator) (a b : Tree L) → made (step.Binary op) (m a ∷ m b ∷ []) ≡ m (Binary op a b)
   pub call : (f : Function) (xs : Trees L) → made (step.Call f (count xs)) (map m (listed xs)) ≡ m (Call f xs)
 
--- a step takes its operands from the end
+-- a step removes its operands from the end of the list
 pub one_step : {L X : Type 0} (made : Step L → List X → X) (s : Step L) (rest : List (Step L)) (xs ys : List X) → length ys ≡ arity s
     → values_after made (s ∷ rest) (xs ++ ys) ≡ values_after made rest (xs ++ made s ys ∷ [])
 one_step made s rest xs ys count =
     let e : length (xs ++ ys) - arity s ≡ length xs = omega (arith, length-append xs ys) in
     rw (e, take-append_seam xs ys, drop-append_seam xs ys) refl
 
--- a step that takes none
+-- a step without operands only adds its result
 no_operands : {L X : Type 0} (made : Step L → List X → X) (s : Step L) (rest : List (Step L)) (xs : List X) → 0 ≡ arity s
     → values_after made (s ∷ rest) xs ≡ values_after made rest (xs ++ made s [] ∷ [])
 no_operands made s rest xs none = ap (λ l. values_after made (s ∷ rest) l) (sym (append-nil xs)) ∙ one_step made s rest xs [] none
 
 mutual
-  -- the steps of an expression put what it means at the end
+  -- the steps of an expression add the meaning of the expression at the end
   pub after_postfix : {L X : Type 0} (made : Step L → List X → X) (m : Tree L → X) → IsMeaning L X made m
       → (f : Tree L) (rest : List (Step L)) (xs : List X) → values_after made (postfix f ++ rest) xs ≡ values_after made rest (xs ++ m f ∷ [])
   after_postfix made m is (Number n) rest xs =
@@ -77,7 +77,7 @@ arguments-listed : {L : Type 0} (xs : Trees L) → arguments (map (λ a. a) (lis
 arguments-listed NoTrees = refl
 arguments-listed (Then a xs) = ap (λ l. Then a l) (arguments-listed xs)
 
--- an expression is built by its steps
+-- the steps of an expression build that expression
 pub tree-postfix : {L : Type 0} (f : Tree L) → tree_of (postfix f) ≡ f
 tree-postfix {L = L} f =
     let is : IsMeaning L (Tree L) tree_of_step (λ a. a) =
@@ -91,13 +91,13 @@ tree-postfix {L = L} f =
     } in
     ap (λ l. tree_of l) (sym (append-nil (postfix f))) ∙ ap (λ l. slice_index_or l 0 (Number 0)) (after_postfix tree_of_step (λ a. a) is f [] [])
 
--- the steps of an expression are the steps of the one that they build
+-- the steps of an expression are the steps of the expression that they build
 pub are_of_tree : {L : Type 0} (f : Tree L) (steps : List (Step L)) → steps ≡ postfix f → (tree_of steps ≡ f) × (steps ≡ postfix (tree_of steps))
 are_of_tree f steps e =
     let b : tree_of steps ≡ f = ap (λ l. tree_of l) e ∙ tree-postfix f in
     (b, e ∙ ap (λ g. postfix g) (sym b))
 
--- a step that has its operands
+-- a step and the steps after it have enough operands if the later steps have enough with the step's result
 taking : {L : Type 0} (s : Step L) (rest : List (Step L)) (n : ℕ) → AreEnough rest (n + 1) → AreEnough (s ∷ rest) (n + arity s)
 taking s rest n h = (omega arith, let e : (n + arity s) - arity s + 1 ≡ n + 1 = omega arith in rw e h)
 
@@ -130,7 +130,7 @@ count-over to NoTrees = refl
 count-over to (Then a xs) = ap suc (count-over to xs)
 
 mutual
-  -- the steps of an expression over other leaves
+  -- the steps of an expression with replaced leaves are its steps with replaced leaves
   pub postfix-over : {L M : Type 0} (to : L → M) (f : Tree L) → map (step_over to) (postfix f) ≡ postfix (with_leaves to f)
   postfix-over to (Number n) = refl
   postfix-over to (Map l down right) = refl
@@ -150,7 +150,7 @@ mutual
   postfix-over_all to NoTrees = refl
   postfix-over_all to (Then a xs) = rw (map-append (step_over to) (postfix a) (postfix_all xs), postfix-over to a, postfix-over_all to xs) refl
 
--- joining has a unit, and goes from either side
+-- joining is associative and has a unit on both sides
 pub record IsJoin (X : Type 0) (none : X) (join : X → X → X) : Type 0 where
   pub left : (x : X) → join none x ≡ x
   pub right : (x : X) → join x none ≡ x
@@ -162,14 +162,14 @@ module _ {L X : Type 0} (at : L → ℤ → ℤ → X) (none : X) (join : X → 
   fold-append (s ∷ xs) ys =
       ap (λ x. join (at_step at none s) x) (fold-append xs ys) ∙ is.both (at_step at none s) (fold_steps at none join xs) (fold_steps at none join ys)
 
-  -- a last step that reads no map
+  -- a last step that reads no map does not change the result
   last_none : (xs : List (Step L)) (s : Step L) → at_step at none s ≡ none → fold_steps at none join (xs ++ s ∷ []) ≡ fold_steps at none join xs
   last_none xs s e =
       fold-append xs (s ∷ []) ∙ ap (λ x. join (fold_steps at none join xs) (join x none)) e ∙ ap (λ x. join (fold_steps at none join xs) x) (is.left none)
       ∙ is.right (fold_steps at none join xs)
 
   mutual
-    -- what the maps of an expression come to, by its steps
+    -- folding an expression's steps gives the same result as folding its maps
     pub fold-postfix : (f : Tree L) → fold_steps at none join (postfix f) ≡ fold_maps at none join f
     fold-postfix (Number n) = is.left none
     fold-postfix (Map l down right) = is.right (at l down right)

@@ -1,4 +1,4 @@
--- If more is expected, the walk of the tokens by their shape ends too.
+-- If more is expected after some tokens, the walk of their shapes cannot continue with the next token.
 use Rattle.std.proofs.Common.{◌≡◌, ℕ, ℤ, List, [], ◌∷◌, ◌++◌, Option, Some, None, Ok, Err, Bool, true, false, refl, sym, ap, ◌∙◌, subst}
 use Rattle.cell_calc_grammar.specs.declared.calc_fault.CalcKind.{CalcKind}
 use Rattle.cell_calc_grammar.specs.declared.calc_fault.CalcKind.TheVariants.{Expected}
@@ -20,22 +20,22 @@ use Rattle.cell_calc_grammar.proofs.Sound.{below_some, Looks, ASign, look, unsig
 use Rattle.cell_calc_grammar.proofs.Walk as place
 use Rattle.cell_calc_grammar.proofs.Walk.{Frame, Parenthesis, Argument, Choosing, Place, Offset, Signed, Between, Opened, Named, After, operand_step, ends_step, asks_step, joins_step, after_step, step, step_on, walk, walk_both, operator_shape, operator_after, named_alone, opened_walk, offset_makes, comma_makes, offsets_make}
 
--- the place is one after an operand, for this next token
+-- for this next token, the place is a place after an operand
 abbrev pub GoesAs : List Frame → Option Token → Option Place → Type 0
 GoesAs st None p = Unit {0}
 GoesAs st (Some t) p = step_on p (shape_of t) ≡ after_step st (shape_of t)
 
--- this next token cannot come at the place
+-- the next token cannot come at the place
 abbrev pub Refuses : Option Token → Option Place → Type 0
 Refuses None p = Unit {0}
 Refuses (Some t) p = step_on p (shape_of t) ≡ None
 
--- the next token neither joins nor asks
+-- the next token is neither an operator nor a question mark
 abbrev pub IsQuiet : Option Token → Type 0
 IsQuiet None = Unit {0}
 IsQuiet (Some t) = (operator_of t ≡ None) × IsNot Question (Some t)
 
--- from the place the tokens up to the rest are walked to one with the property
+-- the tokens up to the rest are walked from the place p to a place with the property Q
 pub record Walks (Q : Option Place → Type 0) (p : Option Place) (ts rest : List Placed) : Type 0 where
   pub before : List Placed
   pub all : ts ≡ before ++ rest
@@ -75,7 +75,7 @@ offset_refused b st (Some (token.Sign Minus)) n q = absurd (q.0 refl)
 offset_refused b st (Some (token.Sign Plus)) n q = absurd (q.1 refl)
 offset_refused b st (Some _) n q = refl
 
--- if an offset stops, the next token cannot come
+-- if reading an offset stops, the next token cannot come
 stop_refused : (b : Bool) (st : List Frame) {front rest : List Placed} → NoOffset Expected front rest
     → Refuses (head rest) (walk (Some (Offset b st)) (shape front))
 stop_refused b st {rest = rest} (f, unsigned, q, none n) = offset_refused b st (head rest) n (q refl)
@@ -91,7 +91,7 @@ bracket_refused st None n = tt
 bracket_refused st (Some (token.Sign CloseBracket)) n = absurd (n refl)
 bracket_refused st (Some _) n = refl
 
--- if offsets stop, the next token cannot come
+-- if reading offsets stops, the next token cannot come
 offsets_refused : (st : List Frame) {front rest : List Placed} → NoOffsets Expected front rest
     → Refuses (head rest) (walk (Some (Offset false st)) (shape front))
 offsets_refused st (first h) = stop_refused false st h
@@ -100,23 +100,23 @@ offsets_refused st (second {mid = mid} c o h) = rw (comma_makes st c mid o) (sto
 offsets_refused st {rest = rest} (no_bracket {mid = mid} c o i n) =
     rw (comma_makes st c mid o, offset_makes true st i) (bracket_refused st (head rest) n)
 
--- what holds of the place that the tokens are walked to, by the outcome
+-- the property of the place to which the tokens of an outcome are walked
 abbrev pub Ends : List Frame → ReadOutcome → Option Place → Type 0
 Ends st (Got a rest) p = GoesAs st (head rest) p
 Ends st (GotAll xs rest) p = p ≡ Some (After st)
 Ends st (Stops kind rest) p = kind ≡ Expected → Refuses (head rest) p
 
--- the next token after an expression neither joins nor asks
+-- the next token after an expression is neither an operator nor a question mark
 abbrev pub EndsQuiet : ReadOutcome → Type 0
 EndsQuiet (Got a rest) = IsQuiet (head rest)
 EndsQuiet _ = Unit {0}
 
--- it does not join
+-- the next token after an expression is not an operator
 abbrev EndsWhole : ReadOutcome → Type 0
 EndsWhole (Got a rest) = next top rest ≡ None
 EndsWhole _ = Unit {0}
 
--- the tokens that are read are walked, and if more is expected, the next one cannot come
+-- the tokens that are read are walked, and if more is expected, the next token cannot come
 abbrev pub IsWalked : State → ReadOutcome → Type 0
 IsWalked (Operand ts) o = (st : List Frame) → Walks (Ends st o) (Some (place.Operand st)) ts (left o)
 IsWalked (Whole k ts) o = (st : List Frame) → Walks (Ends st o) (Some (place.Operand st)) ts (left o)
@@ -162,7 +162,7 @@ asks_quiet st _ n = refl
 pub quiet_step : (st : List Frame) (t : Token) → IsQuiet (Some t) → after_step st (shape_of t) ≡ ends_step st (shape_of t)
 quiet_step st t q = ap (joins_step st (shape_of t)) (operator_shape t ∙ q.0) ∙ asks_quiet st t q.1
 
--- a quiet token that does not end what is open
+-- a token cannot come at a place if it is quiet and does not end any open part
 quiet_refused : (st : List Frame) (t : Option Token) (p : Option Place) → IsQuiet t → GoesAs st t p → ((s : Token) → t ≡ Some s → ends_step st (shape_of s) ≡ None) → Refuses t p
 quiet_refused st None p q g e = tt
 quiet_refused st (Some t) p q g e = g ∙ quiet_step st t q ∙ e t refl

@@ -1,4 +1,4 @@
--- What is read stands for its expression.
+-- The tokens that are read as an expression stand for it.
 use Rattle.std.proofs.Common.{◌≡◌, ℕ, zero, suc, pred, ◌<◌, ◌≤◌, ℤ, pos, neg_ℤ, List, [], ◌∷◌, ◌++◌, Option, Some, None, Ok, Err, Bool, true, false, refl, sym, ap, ◌∙◌, subst, arith, append_assoc, append-nil, ◌⊎◌, inl, inr}
 use Rattle.std.specs.Prelude.{nat_le, if◌then◌else◌}
 use Rattle.std.proofs.lemmas.Bool.Decides.{nat_tests}
@@ -19,7 +19,7 @@ use Rattle.cell_calc_grammar.specs.TokensRead.{PartOfExpression, tail, read_then
 use Rattle.cell_calc_grammar.specs.Term.{Term, Binary, count}
 use Rattle.cell_calc_grammar.specs.Token.{token_number_at, name_at, sign_at, head}
 
--- one of a level is one of each level above
+-- an expression of one level is also an expression of each level above
 pub raise : (j k : ℕ) (ts : List Placed) (a : Term) → j ≤ k → Stands j ts a → Stands k ts a
 raise j zero ts a le s = let e : j ≡ 0 = omega arith in subst (λ n. Stands n ts a) e s
 raise j (suc k) ts a le s =
@@ -41,14 +41,14 @@ next_zero (s ∷ rest) = go (operator_of s.token)
     go None = refl
     go (Some op) = grind (arith, nat_tests)
 
--- the token at the start, as it is there
+-- a list that begins with a token is that token and the tokens after it
 pub front_is : (ts : List Placed) (t : Token) → head ts ≡ Some t → (c : ℕ) × (ts ≡ record { token = t; column = c } ∷ tail ts)
 front_is [] t e = absurd (let h : ⊥ = cc in h)
 front_is (s ∷ ts) t e =
     let same : s.token ≡ t = cc in
     (s.column, ap (λ u. let x : List Placed = record { token = u; column = s.column } ∷ ts in x) same)
 
--- the token at the start, by what it is
+-- a list of tokens, by the kind of its first token
 pub data Looks : List Placed → Type 0 where
   NoToken : Looks []
   ANumber : (n c : ℕ) (ts : List Placed) → Looks (token_number_at n c ∷ ts)
@@ -64,12 +64,12 @@ look (s ∷ ts) = go s.token s.column
     go (token.Name name) c = AName name c ts
     go (token.Sign s) c = ASign s c ts
 
--- two parts one after the other
+-- two parts before a rest are together one part before the rest
 pub both_parts : {ts us : List Placed} (front mid rest : List Placed) → ts ≡ front ++ us → us ≡ mid ++ rest
     → ts ≡ (front ++ mid) ++ rest
 both_parts front mid rest e f = e ∙ ap (λ l. front ++ l) f ∙ sym (append_assoc front mid rest)
 
--- the sign before the number of an offset, or none, and what it makes of the number
+-- the sign before the number of an offset, or none, and its effect on the number
 pub data Signed : (ℕ → ℤ) → List Placed → Type 0 where
   unsigned : Signed pos []
   minus : {c : ℕ} → Signed (λ n. neg_ℤ (pos n)) (sign_at Minus c ∷ [])
@@ -79,17 +79,17 @@ abbrev pub IsNoNumber : Option Token → Type 0
 IsNoNumber (Some (token.Number n)) = ⊥
 IsNoNumber _ = Unit {0}
 
--- what is in the place of a number: none, or one that is too far
+-- no number, or one that is too large for an offset
 pub data NoNumber : CalcKind → List Placed → Type 0 where
   none : {ts : List Placed} → IsNoNumber (head ts) → NoNumber Expected ts
   far : {n c : ℕ} {ts : List Placed} → 255 < n → NoNumber BadOffset (token_number_at n c ∷ ts)
 
--- an offset stops after its sign, or before one
+-- reading an offset stops after its sign, or where a sign could be
 abbrev pub NoOffset : CalcKind → List Placed → List Placed → Type 0
 NoOffset kind front rest =
     (f : ℕ → ℤ) × Signed f front × (front ≡ [] → IsNot Minus (head rest) × IsNot Plus (head rest)) × NoNumber kind rest
 
--- offsets stop: what was read of them, and the rest
+-- reading offsets stops, with the tokens read so far and the rest
 pub data NoOffsets : CalcKind → List Placed → List Placed → Type 0 where
   first : {kind : CalcKind} {front rest : List Placed} → NoOffset kind front rest → NoOffsets kind front rest
   no_comma : {front rest : List Placed} {down : ℤ} → IsOffset front down → IsNot Comma (head rest)
@@ -100,7 +100,7 @@ pub data NoOffsets : CalcKind → List Placed → List Placed → Type 0 where
   no_bracket : {front mid rest : List Placed} {down right : ℤ} (c : ℕ) → IsOffset front down → IsOffset mid right
       → IsNot CloseBracket (head rest) → NoOffsets Expected (front ++ sign_at Comma c ∷ mid) rest
 
--- of a part that is read the tokens before the rest have the property, or it stops after them so
+-- the tokens of a part that is read satisfy P, and if reading stops, the tokens satisfy E
 abbrev pub IsPart : {A : Type 0} → (List Placed → A → Type 0) → (CalcKind → List Placed → List Placed → Type 0)
     → List Placed → PartOfExpression A → Type 0
 IsPart P E ts (Ok x) = (front : List Placed) × (ts ≡ front ++ x.1) × P front x.0
@@ -115,7 +115,7 @@ offset_of unsigned n c le = IsOffset.plain le
 offset_of minus n c le = grammar.minus le
 offset_of plus n c le = grammar.plus le
 
--- a number after its sign
+-- reading a number after its sign gives an offset, or stops
 signed_part : {f : ℕ → ℤ} {l us : List Placed} → Signed f l → (ts : List Placed) → ts ≡ l ++ us
     → (IsNoNumber (head us) → l ≡ [] → IsNot Minus (head us) × IsNot Plus (head us)) → Looks us
     → IsPart IsOffset NoOffset ts (offset_signed f (distance us))
@@ -169,7 +169,7 @@ offsets_part ts = one (offset ts) (offset_part ts)
     one (Ok (down, us)) (l, e, o) = comma l down e o (look us)
     one (Err x) (l, e, h) = (l, e, first h)
 
--- the start of the tokens stands for the expression, and does not continue
+-- the first tokens stand for the expression, and the rest does not continue it
 abbrev Fronts : ℕ → List Placed → Term → List Placed → Type 0
 Fronts k ts a rest = (front : List Placed) × (ts ≡ front ++ rest) × Stands k front a × (next k rest ≡ None)
 
@@ -188,7 +188,7 @@ IsSound (Arguments ts) (GotAll xs rest) = (front : List Placed) × (ts ≡ front
 IsSound (Onward (Got a ts)) (GotAll xs rest) = (front : List Placed) → IsExpression front a → (mid : List Placed) × (ts ≡ mid ++ rest) × AreArguments (front ++ mid) xs
 IsSound s o = ⊥
 
--- an operand that an operator continues with, and what follows it
+-- two operands joined by an operator are an expression of the operator's level, which is at most k
 pub goes_joined : (j k : ℕ) (s : Placed) (ts : List Placed) (op : Operator) {front us : List Placed} {a b : Term}
     → next k (s ∷ ts) ≡ Some op
     → next (pred j) (s ∷ ts) ≡ None → Stands j front a → Stands (level_of op) us b
@@ -284,7 +284,7 @@ sound (reading.another {c = c} {o = GotAll xs rest} r) = λ front st.
     (sign_at Comma c ∷ h.0, ap (λ l. sign_at Comma c ∷ l) h.1, grammar.another c st h.2)
 sound _ = tt
 
--- what is read to the end stands for its expression
+-- tokens that are read to the end as an expression stand for it
 pub sound_all : (ts : List Placed) (a : Term) → GrammarReads (Expression ts) (Got a []) → IsExpression ts a
 sound_all ts a r =
     let h = sound r in

@@ -1,4 +1,4 @@
--- The tokens of a text are spelled in it, and are at most 1000.
+-- The tokens of a text are spelled in it, and there are at most 1000.
 use Rattle.std.proofs.Common.{◌≡◌, ℕ, zero, suc, ◌+◌, ◌<◌, ◌≤◌, Bool, true, false, nat_le, List, [], ◌∷◌, ◌++◌, length, take, drop, refl, ap, sym, ◌∙◌, arith, subst, Option, Some, None, Result, Ok, Err, inl, inr, length-take-le, take-append-drop, ◌⊎◌}
 use Rattle.std.specs.List.{list_all}
 use Rattle.std.specs.Prelude.{nat_lt, if◌then◌else◌}
@@ -19,14 +19,14 @@ use Rattle.cell_calc_grammar.specs.declared.token.Sign.{Sign}
 use Rattle.cell_calc_grammar.specs.declared.token.Token.{Token}
 use Rattle.cell_calc_grammar.specs.declared.token.Token.TheVariants as token
 
--- a list that begins with a token comes from its two parts
+-- a list that begins with a token comes from a valid token and a valid list
 before-ok : (r : Result Placed CalcFault) (s : Result (List Placed) CalcFault) (ts : List Placed) → before r s ≡ Ok ts →
     (t : Placed) × (us : List Placed) × (r ≡ Ok t) × (s ≡ Ok us) × (ts ≡ t ∷ us)
 before-ok (Ok t) (Ok us) ts h = (t, us, refl, refl, cc)
 before-ok (Ok t) (Err f) ts h = cc
 before-ok (Err f) s ts h = cc
 
--- which branch gave a token
+-- a token comes from the branch that the condition chose
 chosen : {T : Type 0} (b : Bool) (r s : Result T CalcFault) (t : T) → (if b then r else s) ≡ Ok t →
     ((b ≡ true) × (r ≡ Ok t)) ⊎ ((b ≡ false) × (s ≡ Ok t))
 chosen true r s t h = inl (refl, h)
@@ -77,14 +77,14 @@ token-spells c bytes t some is =
       | inr h ↦ sign-spells c bytes (sign_of bytes) t refl h.1
     ]
 
--- a token keeps the column of its piece
+-- a token has the column of its piece
 placed-ok : (c : ℕ) (r : Result Token CalcFault) (t : Placed) → token_at c r ≡ Ok t → (r ≡ Ok t.token) × (t.column ≡ c)
 placed-ok c (Ok u) t h =
     let e : record { token = u; column = c } ≡ t = cc in
     (ap (λ (p : Placed). Ok p.token) e, sym (ap (λ (p : Placed). p.column) e))
 placed-ok c (Err f) t h = cc
 
--- a token is read below the limit alone, from the bytes of its piece
+-- a token is read only below the limit, from the bytes of its piece
 next-ok : (count : ℕ) (p : Piece) (t : Placed) → next_token count p ≡ Ok t →
     (count < 1000) × (token_of p.column p.bytes ≡ Ok t.token) × (t.column ≡ p.column)
 next-ok count p t is =
@@ -95,7 +95,7 @@ next-ok count p t is =
       | inr h ↦ cc
     ]
 
--- a token before what is spelled after it
+-- a token, followed by spelled tokens, is spelled
 spelled-token : (c n : ℕ) (bs : List ℕ) (t : Placed) (us : List Placed) →
     n ≤ length bs →
     piece_length bs ≡ n →
@@ -114,7 +114,7 @@ spelled-token c n bs t us within cut is at others =
     subst (λ xs. AreSpelled c xs (record { token = t.token; column = c } ∷ us)) (take-append-drop n bs) whole in
     subst (λ k. AreSpelled c bs (record { token = t.token; column = k } ∷ us)) (sym at) text
 
--- what a text's tokens are from any place of it on
+-- the tokens of a text are spelled from each position on
 abbrev IsSpelledOn : List ℕ → Type 0
 IsSpelledOn bs = (k c count : ℕ) (ts : List Placed) → tokens_of count (pieces k c bs) ≡ Ok ts → AreSpelled (c + k) (drop k bs) ts
 

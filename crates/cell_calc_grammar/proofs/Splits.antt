@@ -1,13 +1,13 @@
--- Two cuts of one list.
+-- Two cuts of the same list.
 use Rattle.std.proofs.Common.{◌≡◌, List, [], ◌∷◌, ◌++◌, length, refl, sym, ap, ◌∙◌, arith, length-append, append-nil}
 
--- the cuts are at one place, or the first is before the second, or after it
+-- two cuts are at the same index, or the first is before the second, or after it
 pub data Cuts {A : Type 0} (b : List A) (x : A) (r : List A) (b' : List A) (x' : A) (r' : List A) : Type 0 where
   same : b ≡ b' → x ≡ x' → r ≡ r' → Cuts b x r b' x' r'
   before : (m : List A) → b' ≡ b ++ x ∷ m → r ≡ m ++ x' ∷ r' → Cuts b x r b' x' r'
   behind : (m : List A) → b ≡ b' ++ x' ∷ m → r' ≡ m ++ x ∷ r → Cuts b x r b' x' r'
 
--- one is in the first part, or in the second
+-- the item is in the first part or in the second
 pub data Stays {A : Type 0} (l k b : List A) (x : A) (r : List A) : Type 0 where
   in_first : (m : List A) → l ≡ b ++ x ∷ m → r ≡ m ++ k → Stays l k b x r
   in_second : (m : List A) → k ≡ m ++ x ∷ r → b ≡ l ++ m → Stays l k b x r
@@ -40,7 +40,7 @@ pub not_nothing : {A : Type 0} (b : List A) (x : A) (r : List A) → [] ≡ b ++
 not_nothing [] x r e = cc
 not_nothing (y ∷ b) x r e = cc
 
--- what is last, and what is before it
+-- if two lists are equal, so are their last items and the items before them
 pub same_ends : {A : Type 0} (b : List A) (x : A) (b' : List A) (x' : A) → b ++ x ∷ [] ≡ b' ++ x' ∷ [] → (b ≡ b') × (x ≡ x')
 same_ends b x b' x' e =
     elim (cuts b x [] b' x' [] e) [

@@ -1,4 +1,4 @@
--- What is read before an error can continue, by its shape.
+-- The tokens that are read before an error have a shape that can be continued.
 use Rattle.std.proofs.Common.{◌≡◌, ℕ, zero, suc, pred, ◌<◌, ◌≤◌, ℤ, pos, List, [], ◌∷◌, ◌++◌, Some, None, Ok, Err, Bool, true, false, refl, sym, ap, ◌∙◌, subst, arith, append_assoc, append-nil, ◌⊎◌, inl, inr}
 use Rattle.std.specs.Prelude.{nat_le, codes}
 use Rattle.std.proofs.lemmas.Bool.Decides.{nat_tests}
@@ -21,13 +21,13 @@ use Rattle.cell_calc_grammar.specs.Token.{token_number_at, name_at, sign_at, hea
 use Rattle.cell_calc_grammar.proofs.Sound.{raise, next_zero, Looks, ASign, look, offset_of, NoNumber, none, far, NoOffsets, first, no_comma, second, no_bracket, IsPart, AreBoth, offsets_part, goes_joined, IsSound, sound}
 use Rattle.cell_calc_grammar.proofs.Walk.{shape_append}
 
--- after the opening bracket of a map, where an offset stops at a number
+-- the tokens end after the opening bracket of a map, where an offset is expected
 abbrev pub IsOpen : List Placed → Type 0
 IsOpen before =
     (front inner rest : List Placed) × (name : List ℕ) × (c d : ℕ)
     × (before ≡ front ++ name_at name c ∷ sign_at OpenBracket d ∷ inner) × NoOffsets BadOffset inner rest
 
--- the tokens from the place of an error to the one that shows it, if that one belongs to them
+-- the tokens from the place of an error up to the token that shows it
 abbrev pub IsSegment : CalcKind → (before seg : List Placed) → Type 0
 IsSegment Expected before seg = seg ≡ []
 IsSegment UnknownFunction before seg =
@@ -39,7 +39,7 @@ IsSegment BadArguments before seg =
 IsSegment BadOffset before seg = (n c : ℕ) × (seg ≡ token_number_at n c ∷ []) × (255 < n) × IsOpen before
 IsSegment _ before seg = ⊥
 
--- the tokens up to the one that shows the error can continue to what has the property, with other names and numbers
+-- with other names and numbers, the tokens up to the one that shows the error can continue to tokens with property P
 pub record Viable (P : List Placed → Type 0) (ts : List Placed) (kind : CalcKind) (rest : List Placed) : Type 0 where
   pub before : List Placed
   pub seg : List Placed
@@ -59,7 +59,7 @@ segment_after BadOffset f before seg (n, c, e, over, (front, inner, rest, name, 
     (n, c, e, over, (f ++ front, inner, rest, name, d, d', ap (λ l. f ++ l) all ∙ sym (append_assoc f front opens), stop))
 segment_after _ f before seg t = t
 
--- between other tokens
+-- tokens that can continue also can between other tokens
 viable_between : (P Q : List Placed → Type 0) (f g ends : List Placed) {ts : List Placed} {kind : CalcKind} {rest : List Placed}
     → shape g ≡ shape f → ((l : List Placed) → P l → Q (g ++ (l ++ ends))) → Viable P ts kind rest
     → Viable Q (f ++ ts) kind rest
@@ -77,13 +77,13 @@ viable_between P Q f g ends {kind = kind} {rest = rest} e w v = record {
   goes = simp append_assoc (simp append_assoc at (w (v.us ++ v.after) v.goes));
 }
 
--- after other tokens
+-- tokens that can continue also can after other tokens
 viable_after : (P Q : List Placed → Type 0) (f g : List Placed) {ts : List Placed} {kind : CalcKind}
     {rest : List Placed}
     → shape g ≡ shape f → ((l : List Placed) → P l → Q (g ++ l)) → Viable P ts kind rest → Viable Q (f ++ ts) kind rest
 viable_after P Q f g e w v = viable_between P Q f g [] e (λ l x. rw append-nil (w l x)) v
 
--- other names and numbers of one shape, and what follows them
+-- tokens of the same shape with other names and numbers can continue with the tokens after them
 viable_made : (P : List Placed → Type 0) (before seg rest us after : List Placed) {ts : List Placed} {kind : CalcKind}
     → ts ≡ before ++ (seg ++ rest) → IsSegment kind before seg → shape us ≡ shape (before ++ seg) → P (us ++ after)
     → Viable P ts kind (seg ++ rest)
@@ -100,12 +100,12 @@ viable_made P before seg rest us after e reported same h = record {
   goes = h;
 }
 
--- more is expected after what was read
+-- if more is expected after the tokens that were read, they can continue
 viable_front : (P : List Placed → Type 0) (f after : List Placed) {ts rest : List Placed}
     → ts ≡ f ++ rest → P (f ++ after) → Viable P ts Expected rest
 viable_front P f after {rest = rest} e h = viable_made P f [] rest f after e refl (ap shape (sym (append-nil f))) h
 
--- what was read, and then more
+-- tokens that were read can continue if the tokens after them can
 viable_past : (Q : List Placed → Type 0) (f : List Placed) {ts us : List Placed} {kind : CalcKind} {rest : List Placed}
     → ts ≡ f ++ us → Viable (λ l. Q (f ++ l)) us kind rest → Viable Q ts kind rest
 viable_past Q f {kind = kind} {rest = rest} e v =
@@ -118,7 +118,7 @@ pub zero_expression : IsExpression (token_number_at 0 0 ∷ []) (Tree.Number 0)
 zero_expression =
     grammar.IsExpression.plain (raise zero top (token_number_at 0 0 ∷ []) (Tree.Number 0) (omega arith) grammar.number)
 
--- a number makes what is read continue
+-- a number continues the tokens that were read
 viable_number : (P : List Placed → Type 0) (front l : List Placed) {ts : List Placed} {kind : CalcKind}
     {rest : List Placed}
     → NoNumber kind rest → (kind ≡ BadOffset → IsOpen front) → ts ≡ front ++ rest
@@ -140,7 +140,7 @@ SomeExpression l = (a : Term) × IsExpression l a
 abbrev SomeArguments : List Placed → Type 0
 SomeArguments l = (xs : Terms) × AreArguments l xs
 
--- what can be read of the state can continue
+-- the tokens that are read from a state can continue
 abbrev pub IsViable : State → ReadOutcome → Type 0
 IsViable s (Got a rest) = Unit {0}
 IsViable s (GotAll xs rest) = Unit {0}
@@ -160,7 +160,7 @@ IsViable s o = Unit {0}
 abbrev SomeOffsets : List Placed → Type 0
 SomeOffsets l = (down right : ℤ) × AreOffsets l down right
 
--- a number continues if offsets stop, or else another sign if that is expected
+-- if reading offsets stops, a number continues the tokens, or other tokens do if more is expected
 offsets_go_on : {kind : CalcKind} {front rest : List Placed} → NoOffsets kind front rest
     → ((l : List Placed) × SomeOffsets ((front ++ token_number_at 0 0 ∷ []) ++ l) × NoNumber kind rest)
     ⊎ ((kind ≡ Expected) × (l : List Placed) × SomeOffsets (front ++ l))
@@ -213,13 +213,13 @@ eval_takes (grammar.another {xs = xs} c s q) = go (count xs)
 call_of : (c d : ℕ) (l : List Placed) → SomeArguments l → SomeOf zero (name_at (codes "eval") c ∷ sign_at OpenParenthesis d ∷ l)
 call_of c d l (xs, h) = (Tree.Call Eval xs, grammar.called Eval refl (eval_takes h) (grammar.some h))
 
--- with another name
+-- some function can be called with the arguments
 renamed : (c d : ℕ) (l : List Placed) (xs : Terms) → AreCalled l xs
     → (name : List ℕ) × SomeOf zero (name_at name c ∷ sign_at OpenParenthesis d ∷ l)
 renamed c d l xs grammar.none = (codes "null", (Tree.Call Null NoTrees, grammar.called Null refl refl grammar.none))
 renamed c d l xs (grammar.some h) = (codes "eval", call_of c d l (xs, h))
 
--- in parentheses
+-- an expression in parentheses is an operand
 closing : (c d : ℕ) (l : List Placed) → SomeExpression l
     → SomeOf zero (sign_at OpenParenthesis c ∷ (l ++ sign_at CloseParenthesis d ∷ []))
 closing c d l h = (h.0, grammar.inside d h.1)

@@ -1,4 +1,4 @@
--- Where a list of tokens is after each of them, by their shape alone.
+-- The place that a list of tokens leads to, which depends only on their shapes.
 use Rattle.std.proofs.Common.{◌≡◌, ℕ, ℤ, List, [], ◌∷◌, ◌++◌, Option, Some, None, Bool, true, false, refl, sym, ap, ◌∙◌, subst, ◌⊎◌, inl, inr}
 use Rattle.std.proofs.lemmas.List.{map-append}
 use Rattle.cell_calc_grammar.specs.declared.operator.Operator.{Operator}
@@ -14,13 +14,13 @@ use Rattle.cell_calc_grammar.specs.Shape.{shape_of, shape}
 use Rattle.cell_calc_grammar.specs.Term.{Term, Terms}
 use Rattle.cell_calc_grammar.specs.Token.{sign_at}
 
--- what is open around the place
+-- an open part around the place
 pub data Frame : Type 0 where
   Parenthesis : Frame
   Argument : Frame
   Choosing : Frame
 
--- what may come next, and what is open
+-- the tokens that may come next, and the open parts
 pub data Place : Type 0 where
   Start : Place
   Target : Place
@@ -32,7 +32,7 @@ pub data Place : Type 0 where
   Signed : (second : Bool) (st : List Frame) → Place
   Between : (second : Bool) (st : List Frame) → Place
 
--- where an operand may begin
+-- the place after a token where an operand may begin
 abbrev pub operand_step : List Frame → Token → Option Place
 operand_step st (token.Number n) = Some (After st)
 operand_step st (token.Name n) = Some (Named st)
@@ -41,7 +41,7 @@ operand_step st (token.Sign Exclamation) = Some (Operand st)
 operand_step st (token.Sign OpenParenthesis) = Some (Operand (Parenthesis ∷ st))
 operand_step st _ = None
 
--- what an expression ends with, by what is open
+-- the place after a token that ends an expression, given the open parts
 abbrev pub ends_step : List Frame → Token → Option Place
 ends_step (Parenthesis ∷ st) (token.Sign CloseParenthesis) = Some (After st)
 ends_step (Argument ∷ st) (token.Sign CloseParenthesis) = Some (After st)
@@ -57,7 +57,7 @@ abbrev pub joins_step : List Frame → Token → Option Operator → Option Plac
 joins_step st t (Some op) = Some (Operand st)
 joins_step st t None = asks_step st t
 
--- after an operand
+-- the place after a token that follows an operand
 abbrev pub after_step : List Frame → Token → Option Place
 after_step st t = joins_step st t (operator_of t)
 
@@ -84,7 +84,7 @@ abbrev pub step_on : Option Place → Token → Option Place
 step_on None t = None
 step_on (Some p) t = step p t
 
--- the place after tokens
+-- the place after some tokens
 abbrev pub walk : Option Place → List Token → Option Place
 walk p [] = p
 walk p (t ∷ ts) = walk (step_on p t) ts
@@ -100,11 +100,11 @@ walk_none (t ∷ ts) = walk_none ts
 pub shape_append : (ts us : List Placed) → shape (ts ++ us) ≡ shape ts ++ shape us
 shape_append ts us = map-append (λ s. shape_of s.token) ts us
 
--- the place after tokens and others
+-- the place after two lists of tokens is reached by one list and then the other
 pub walk_both : (p : Option Place) (ts us : List Placed) → walk p (shape (ts ++ us)) ≡ walk (walk p (shape ts)) (shape us)
 walk_both p ts us = ap (walk p) (shape_append ts us) ∙ walk_append p (shape ts) (shape us)
 
--- an operand has ended there
+-- an operand has ended at the place
 abbrev pub Lands : List Frame → Option Place → Type 0
 Lands st p = (p ≡ Some (After st)) ⊎ (p ≡ Some (Named st))
 
@@ -113,12 +113,12 @@ named_alone st (token.Sign OpenParenthesis) n = absurd (n.0 refl)
 named_alone st (token.Sign OpenBracket) n = absurd (n.1 refl)
 named_alone st _ n = refl
 
--- a token continues after it, which opens nothing
+-- after an operand, a token that opens nothing leads on
 pub landed : (st : List Frame) (p : Option Place) (t : Token) → Lands st p → IsAlone (Some t) → step_on p t ≡ after_step st t
 landed st p t (inl e) n = ap (λ q. step_on q t) e
 landed st p t (inr e) n = ap (λ q. step_on q t) e ∙ named_alone st t n
 
--- the tokens make an operand, or more, wherever one is to come
+-- wherever an operand may begin, the tokens form an operand or more
 abbrev pub Makes : List Placed → Type 0
 Makes ts = (st : List Frame) → Lands st (walk (Some (Operand st)) (shape ts))
 
@@ -126,7 +126,7 @@ pub offset_makes : {ts : List Placed} {z : ℤ} (second : Bool) (st : List Frame
 offset_makes second st (grammar.IsOffset.plain h) = refl
 offset_makes second st _ = refl
 
--- the first offset and the comma
+-- the first offset and the comma lead to the second offset
 pub comma_makes : {ts : List Placed} {z : ℤ} (st : List Frame) (c : ℕ) (us : List Placed) → IsOffset ts z
     → walk (Some (Offset false st)) (shape (ts ++ sign_at Comma c ∷ us)) ≡ walk (Some (Offset true st)) (shape us)
 comma_makes {ts = ts} st c us h =
@@ -140,13 +140,13 @@ offsets_make st (grammar.offsets {ts = ts} {us = us} c d h g) =
     ∙ walk_both (Some (Offset true st)) us (sign_at CloseBracket d ∷ [])
     ∙ ap (λ p. walk p (shape (sign_at CloseBracket d ∷ []))) (offset_makes true st g)
 
--- tokens, and another that continues after them
+-- after tokens that form an operand, another token continues
 pub then_walk : (st : List Frame) (p : Option Place) (ts us : List Placed) (s : Placed) (q : Option Place) → Lands st (walk p (shape ts)) → IsAlone (Some (shape_of s.token)) → after_step st (shape_of s.token) ≡ q
     → walk p (shape (ts ++ s ∷ us)) ≡ walk q (shape us)
 then_walk st p ts us s q l n e =
     walk_both p ts (s ∷ us) ∙ ap (λ x. walk x (shape us)) (landed st (walk p (shape ts)) (shape_of s.token) l n ∙ e)
 
--- an operator has no other shape
+-- the shape of a token is the same operator as the token
 pub operator_shape : (t : Token) → operator_of (shape_of t) ≡ operator_of t
 operator_shape (token.Number n) = refl
 operator_shape _ = refl
@@ -154,13 +154,13 @@ operator_shape _ = refl
 pub operator_after : (st : List Frame) (t : Token) (op : Operator) → operator_of t ≡ Some op → after_step st (shape_of t) ≡ Some (Operand st)
 operator_after st t op e = ap (joins_step st (shape_of t)) (operator_shape t ∙ e)
 
--- an operator opens nothing
+-- an operator opens no part
 pub operator_alone : (t : Token) (op : Operator) → operator_of t ≡ Some op → IsAlone (Some t)
 operator_alone (token.Sign OpenParenthesis) op e = absurd (let h : ⊥ = cc in h)
 operator_alone (token.Sign OpenBracket) op e = absurd (let h : ⊥ = cc in h)
 operator_alone _ op e = (λ h. cc, λ h. cc)
 
--- no argument begins with the closing parenthesis
+-- arguments that are walked from the first argument on are also walked from the opening parenthesis
 pub opened_walk : (st : List Frame) (ts : List Token) → walk (Some (Operand (Argument ∷ st))) ts ≡ Some (After st) → walk (Some (Opened st)) ts ≡ Some (After st)
 opened_walk st [] e = absurd (let h : ⊥ = cc in h)
 opened_walk st (token.Sign CloseParenthesis ∷ ts) e =

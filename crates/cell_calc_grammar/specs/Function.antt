@@ -1,4 +1,4 @@
--- The functions of expressions, and how many arguments they accept (r.mapcalc manual, "Functions").
+-- The functions of expressions, and the numbers of arguments that they accept (r.mapcalc manual, "Functions").
 use Rattle.std.specs.Prelude.{ℕ, Bool, ◌&&◌, ◌==◌, nat_le, List, [], ◌∷◌, Option, Some, None, codes, bytes_eq, cond}
 use Rattle.cell_calc_grammar.specs.declared.function.Function.{Function}
 use Rattle.cell_calc_grammar.specs.declared.function.Function.TheVariants.{If, IsNull, Null, Abs, Min, Max, Mode, Row, Column, RowCount, ColumnCount, Eval, KnownMin, KnownMax, KnownMode}

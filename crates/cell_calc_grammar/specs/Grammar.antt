@@ -1,5 +1,5 @@
--- Which lists of tokens stand for which expressions and assignments (r.mapcalc manual; the order of `?` and `:` is our
--- own choice).
+-- The lists of tokens that stand for expressions and assignments (r.mapcalc manual; the order of `?` and `:` is our own
+-- choice).
 use Rattle.std.specs.Prelude.{◌≡◌, ◌≤◌, ℕ, zero, suc, ℤ, pos, List, [], ◌∷◌, ◌++◌, Some, true}
 use Rattle.std.proofs.Common.{neg_ℤ}
 use Rattle.cell_calc_grammar.specs.declared.function.Function.{Function}

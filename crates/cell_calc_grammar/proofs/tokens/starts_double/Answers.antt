@@ -7,7 +7,7 @@ use Rattle.cell_calc_grammar.specs.Tokens.{double_signs, sign_of, signs}
 use Rattle.cell_calc_grammar.specs.declared.token.Sign.{Sign}
 use Rattle.cell_calc_grammar.proofs.tokens.starts_double.Goals as goal
 
--- fewer than two bytes spell no sign of two
+-- a text of fewer than two bytes begins with no sign of two bytes
 few_bytes : (text : List ℕ) → length text < 2 → false ≡ list_any (λ s. starts_with nat_eq text s.0) double_signs
 few_bytes [] short = refl
 few_bytes (a ∷ []) short = simp and-false
