@@ -1,4 +1,4 @@
--- Tokens of which one shows an error, though they can continue: what is read of them stops.
+-- Tokens of which one shows an error although they can continue: reading them stops.
 use Rattle.std.proofs.Common.{◌≡◌, ℕ, ◌<◌, List, [], ◌∷◌, ◌++◌, Some, Err, false, refl, sym, ap, ◌∙◌, subst, arith, append_assoc, append-nil, ◌⊎◌, inl, inr}
 use Rattle.std.specs.Prelude.{nat_le}
 use Rattle.std.proofs.lemmas.Bool.Decides.{nat_tests}
@@ -27,7 +27,7 @@ use Rattle.cell_calc_grammar.proofs.Occurs.{left, find}
 use Rattle.cell_calc_grammar.proofs.Splits.{in_first, in_second, Stays, stays, not_longer, not_nothing}
 use Rattle.cell_calc_grammar.proofs.Walk.{shape_append}
 
--- the shape of a first part
+-- a list whose shape has two parts has two parts with these shapes
 split_shape : (ts : List Token) (us : List Token) (vs : List Placed) → shape vs ≡ ts ++ us → (ws xs : List Placed) × (vs ≡ ws ++ xs) × (shape ws ≡ ts)
 split_shape [] us vs e = ([], vs, refl, refl)
 split_shape (t ∷ ts) us [] e = absurd (let h : ⊥ = cc in h)
@@ -37,13 +37,13 @@ split_shape (t ∷ ts) us (v ∷ vs) e =
     let h = split_shape ts us vs g in
     (v ∷ h.0, h.1, ap (λ l. v ∷ l) h.2, ap (λ x. x ∷ shape h.0) f ∙ ap (λ l. t ∷ l) h.3)
 
--- what begins so can continue
+-- if tokens can continue, so can the tokens at their start
 pub can_before : (ts us : List Placed) → CanGoOn (ts ++ us) → CanGoOn ts
 can_before ts us (vs, after, a, same, h) =
     let s = split_shape (shape ts) (shape us) vs (same ∙ shape_append ts us) in
     (s.0, s.1 ++ after, a, s.3, subst (λ l. IsAssignment l a) (ap (λ l. l ++ after) s.2 ∙ append_assoc s.0 s.1 after) h)
 
--- where what is read of the name stops: at the name, or at a number that is too far
+-- reading stops at the name, or at a number that is too large for an offset
 abbrev StopsAs : CalcKind → (from : List Placed) → (more rest : List Placed) → Type 0
 StopsAs kind from more rest = (rest ≡ from) ⊎ ((kind ≡ BadOffset) × ((x : Placed) × (y : List Placed) × (rest ≡ x ∷ (y ++ more))))
 
@@ -79,7 +79,7 @@ miscounted_read name c d inside f xs e h a more =
 pub not_assigned : OpenParenthesis ≡ Assign → ⊥
 not_assigned e = cc
 
--- a call that is miscounted
+-- a call with a wrong number of arguments
 abbrev pub bad_call : (ts front inside : List Placed) (name : List ℕ) (c d : ℕ) (f : Function) (xs : Terms) → ts ≡ front ++ name_at name c ∷ sign_at OpenParenthesis d ∷ inside → function_of name ≡ Some f → AreCalled inside xs
     → accepts f (count xs) ≡ false → Bad BadArguments ts
 bad_call ts front inside name c d f xs e u h a = record {
@@ -124,11 +124,11 @@ bad_of BadOffset column b n k ((before, m, e, far, (front, inner, name, c, d, e'
 }
 bad_of _ column b n k t = absurd t
 
--- none ends in such an error among the tokens
+-- no list at the start of the tokens ends in such an error
 abbrev pub HasNoBad : List Placed → Type 0
 HasNoBad l = (kind : CalcKind) (ts : List Placed) (bad : Bad kind ts) (m mid : List Placed) → l ≡ m ++ name_at bad.name bad.column ∷ (bad.ends ++ mid) → ⊥
 
--- tokens that can continue, none of which ends in such an error, show none
+-- tokens that can continue show no error if no list at their start ends in one
 pub reports_none : (l : List Placed) → CanGoOn l → HasNoBad l → ReportsNone l
 reports_none l can free = λ before rest next kind column e t. go before rest next kind column e t
   where
@@ -146,7 +146,7 @@ reports_none l can free = λ before rest next kind column e t. go before rest ne
 pub none_in_nothing : HasNoBad []
 none_in_nothing kind ts bad m mid e = not_nothing m (name_at bad.name bad.column) (bad.ends ++ mid) e
 
--- one token alone
+-- a single token does not end in such an error
 pub none_in_one : (s : Placed) → HasNoBad (s ∷ [])
 none_in_one s kind ts bad [] mid e =
     let f : [] ≡ bad.ends ++ mid = cc in
@@ -157,7 +157,7 @@ none_in_one s kind ts bad (x ∷ m) mid e =
     let f : [] ≡ m ++ name_at bad.name bad.column ∷ (bad.ends ++ mid) = cc in
     not_nothing m (name_at bad.name bad.column) (bad.ends ++ mid) f
 
--- none ends in what is read before the outcome, if this continues with more
+-- no such error ends within the tokens read before an outcome that continues
 none_before : {s : State} {o : ReadOutcome} (r : GrammarReads s o) (extra more : List Placed) → left o ≡ extra ++ more → ((rest : List Placed) → o ≡ Stops BadOffset rest → extra ≡ [])
     → (kind : CalcKind) (ts : List Placed) (bad : Bad kind ts) (front m mid : List Placed) → (find r).before ≡ front ++ name_at bad.name bad.column ∷ m → bad.ends ++ mid ≡ m ++ extra → ⊥
 none_before {s = s} {o = o} r extra more e far kind ts bad front m mid f g =
@@ -177,7 +177,7 @@ none_before {s = s} {o = o} r extra more e far kind ts bad front m mid f g =
         let all : left o ≡ more = e ∙ ap (λ l. l ++ more) none in
         not_longer x (y ++ mid) (left o) (ap left is ∙ h ∙ ap (λ l. x ∷ (y ++ (mid ++ l))) (sym all) ∙ ap (λ l. x ∷ l) (sym (append_assoc y mid (left o))))
 
--- after a name and the sign of assignment, with more after what is read
+-- no such error ends after a name and the assignment sign if reading the expression continues
 pub none_in_assignment : {s : State} {o : ReadOutcome} (name : List ℕ) (c d : ℕ) (r : GrammarReads s o) (extra more : List Placed) → left o ≡ extra ++ more → ((rest : List Placed) → o ≡ Stops BadOffset rest → extra ≡ []) → HasNoBad extra
     → HasNoBad (name_at name c ∷ sign_at Assign d ∷ ((find r).before ++ extra))
 none_in_assignment name c d r extra more e far free kind ts bad [] mid f =
@@ -200,7 +200,7 @@ none_in_assignment name c d r extra more e far free kind ts bad (x ∷ y ∷ m) 
     go (in_first l h i) = none_before r extra more e far kind ts bad m l mid h i
     go (in_second l h i) = free kind ts bad l mid h
 
--- a call ends with its closing parenthesis
+-- the arguments of a call end with its closing parenthesis
 pub arguments_end : {ts : List Placed} {xs : Terms} → AreArguments ts xs → (front : List Placed) × (d : ℕ) × (ts ≡ front ++ sign_at CloseParenthesis d ∷ [])
 arguments_end (grammar.last {ts = ts} c s) = (ts, c, refl)
 arguments_end (grammar.another {ts = ts} c s q) =
@@ -211,7 +211,7 @@ pub called_end : {ts : List Placed} {xs : Terms} → AreCalled ts xs → (front 
 called_end (grammar.none {c = c}) = ([], c, refl)
 called_end (grammar.some h) = arguments_end h
 
--- none ends within what is called
+-- no such error ends within the arguments of a call
 pub none_inside : (inside : List Placed) (xs : Terms) → AreCalled inside xs → HasNoBad inside
 none_inside inside xs h kind ts bad m mid e =
     let r = is_called_read h [] in
@@ -219,7 +219,7 @@ none_inside inside xs h kind ts bad m mid e =
     let same : w.before ≡ inside = append_cancel_right w.before inside [] (sym w.all) in
     none_before r [] [] refl (λ rest k. cc) kind ts bad m (bad.ends ++ mid) mid (same ∙ e) (sym (append-nil (bad.ends ++ mid)))
 
--- nor in a call without its closing parenthesis
+-- no such error ends in a call without its closing parenthesis
 pub none_in_call : (name : List ℕ) (c d : ℕ) (init : List Placed) (last : Placed) (f : Function) (xs : Terms) → function_of name ≡ Some f → AreCalled (init ++ last ∷ []) xs → accepts f (count xs) ≡ false
     → HasNoBad (name_at name c ∷ sign_at OpenParenthesis d ∷ init)
 none_in_call name c d init last f xs u h a kind ts bad [] mid e =

@@ -1,4 +1,4 @@
--- If reading ends too early, that is the first error that the tokens show.
+-- If reading ends too early, its error is the first error that the tokens show.
 use Rattle.std.proofs.Common.{◌≡◌, ℕ, ℤ, List, [], ◌∷◌, ◌++◌, Option, Some, None, refl, sym, ap, ◌∙◌, subst, append_assoc, append-nil, inl, inr, arith}
 use Rattle.std.specs.Prelude.{◌+◌, length, Result, Ok, Err, IfErr, MatchResult}
 use Rattle.std.proofs.lemmas.List.{append_cancel_right}
@@ -79,11 +79,11 @@ name_goes_on name c =
 nothing_goes_on : CanGoOn []
 nothing_goes_on = can_before [] (name_at [] 0 ∷ []) (name_goes_on [] 0)
 
--- no token shows an error
+-- tokens that can continue and show no error end where more is expected
 expected_at_end : (end : ℕ) (ts : List Placed) → CanGoOn ts → HasNoBad ts → IsNone ts → IsGrammarFault end ts (token_fault Expected end)
 expected_at_end end ts can free none = (inr (refl, can, reports_none ts can free), none)
 
--- a token that cannot come there
+-- a token that cannot come after tokens that can continue is an error
 unexpected : (end : ℕ) (before rest : List Placed) (next : Placed) → CanGoOn before → HasNoBad before → (CanGoOn (before ++ next ∷ []) → ⊥) → IsNone (before ++ next ∷ rest) → IsGrammarFault end (before ++ next ∷ rest) (token_fault Expected next.column)
 unexpected end before rest next can free not none = (inl (before, rest, next, refl, (refl, can, not), reports_none before can free), none)
 
@@ -103,22 +103,22 @@ no_assign end name c (t ∷ rest) n =
     refused (token.Sign Assign) n = absurd (n refl)
     refused _ n = refl
 
--- reading did not end with an expression at the end
+-- reading did not end with an expression that uses all tokens
 abbrev IsNoEnd : ReadOutcome → Type 0
 IsNoEnd o = (a : Term) → o ≡ Got a [] → ⊥
 
 no_expression : (ts : List Placed) (o : ReadOutcome) → GrammarReads (Expression ts) o → IsNoEnd o → (a : Term) → IsExpression ts a → ⊥
 no_expression ts o r n a h = n a (one_outcome r (read_all ts a h))
 
--- the next token cannot come after the tokens of an expression
+-- a token that cannot come after the tokens of an expression cannot continue an assignment
 refused_after : (name : List ℕ) (c d : ℕ) (before : List Placed) (next : Placed) → step_on (walk (Some (place.Operand [])) (shape before)) (shape_of next.token) ≡ None → CanGoOn (name_at name c ∷ sign_at Assign d ∷ (before ++ next ∷ [])) → ⊥
 refused_after name c d before next e = cannot (name_at name c ∷ sign_at Assign d ∷ (before ++ next ∷ [])) (walk_both (Some (place.Operand [])) before (next ∷ []) ∙ e)
 
--- the tokens before are those that the other laws speak of
+-- two starts of a list that leave the same rest are equal
 one_before : (ts before before' rest : List Placed) → ts ≡ before ++ rest → ts ≡ before' ++ rest → before ≡ before'
 one_before ts before before' rest e f = append_cancel_right before before' rest (sym e ∙ f)
 
--- what a stop says, by its kind
+-- a stop of this kind is the first error of the tokens
 abbrev IsFaultAt : (end : ℕ) (ts : List Placed) (kind : CalcKind) (rest : List Placed) → Type 0
 IsFaultAt end ts kind rest = IsGrammarFault end ts (token_fault kind (column_of end rest))
 
@@ -149,7 +149,7 @@ stops_expected end name c d ts rest r can none = go rest refl
         subst (λ l. IsGrammarFault end l (token_fault Expected next.column)) (sym same)
         (unexpected end before more next can free (refused_after name c d (find r).before next refused) (subst IsNone same none))
 
--- the error is reported later, at the last token of a segment
+-- the error is reported at the last token of a segment that begins where reading stopped
 stops_later : (end : ℕ) (name : List ℕ) (c d : ℕ) (ts : List Placed) (kind : CalcKind) (rest : List Placed)
     (r : GrammarReads (Expression ts) (Stops kind rest)) (extra more : List Placed) (next : Placed)
     → rest ≡ (extra ++ next ∷ []) ++ more → ((q : List Placed) → Stops kind rest ≡ Stops BadOffset q → extra ≡ [])
@@ -180,7 +180,7 @@ before_number : {front rest : List Placed} → NoOffsets BadOffset front rest �
 before_number (first h) = grammar_fault.first (offset_sign h.1)
 before_number (second c o h) = grammar_fault.second c o (offset_sign h.1)
 
--- by the segment that shows the error
+-- a stop of reading is the error that its segment shows
 stops_as : (end : ℕ) (name : List ℕ) (c d : ℕ) (ts : List Placed) (kind : CalcKind) (rest : List Placed)
     (r : GrammarReads (Expression ts) (Stops kind rest)) (seg more : List Placed) → rest ≡ seg ++ more
     → IsSegment kind (find r).before seg → CanGoOn (name_at name c ∷ sign_at Assign d ∷ ((find r).before ++ seg))
@@ -249,7 +249,7 @@ goes_on end name c d ts a u rest r =
     let none = none_of_expression (name_at name c) (sign_at Assign d) ts (no_expression ts (Got a (u ∷ rest)) r (λ b e. cc)) in
     subst (λ l. IsGrammarFault end l (token_fault Expected u.column)) (sym all) (unexpected end before rest u can free (refused_after name c d w.before u refused) (subst IsNone all none))
 
--- a name and the sign of assignment, as the code finds them before the expression
+-- a name and the assignment sign, as the code finds them before the expression
 abbrev pub Begins : List ℕ → List Placed → List Placed → Type 0
 Begins name ts us = (s : Placed) × (rest : List Placed) × (ts ≡ s ∷ rest) × (s.token ≡ token.Name name) × FollowsSign Assign rest us
 
@@ -295,7 +295,7 @@ ends name target ts us a left e h f r =
 pub ends_only : (name target : List ℕ) (ts us : List Placed) (a : Term) (left : List Placed) → target ≡ name → Begins name ts us → left ≡ [] → GrammarReads (Expression us) (Got a left) → (b : Assignment) → IsAssignment ts b → b ≡ record { target = target; expr = a }
 ends_only name target ts us a left e h f r = λ b is. one ts b (record { target = target; expr = a }) is (ends name target ts us a left e h f r)
 
--- what is reported of the tokens is reported of the text
+-- an error of the tokens is the error of the text
 text_fault_of : (text : List ℕ) (ts : List Placed) → token_list text ≡ Ok ts → (token_fault : CalcFault) → IsFaultOf (length text + 1) ts token_fault → IsTextFault text token_fault
 text_fault_of text ts e token_fault (inl m) = inl m
 text_fault_of text ts e token_fault (inr g) = inr (subst (λ r. MatchResult r (λ us. IsGrammarFault (length text + 1) us token_fault) (λ first. token_fault ≡ first)) (sym e) g)

@@ -1,4 +1,4 @@
--- What stands for an expression is grammatical.
+-- Tokens that stand for an expression stand for a grammatical one.
 use Rattle.std.proofs.Common.{◌≡◌, ◌≤◌, ℕ, zero, suc, ℤ, pos, neg_ℤ, List, [], ◌∷◌, ◌++◌, refl, subst, arith}
 use Rattle.cell_calc_grammar.specs.declared.token.Placed.{Placed}
 use Rattle.cell_calc_grammar.specs.declared.token.Sign.TheVariants.{Question, Colon, CloseParenthesis, Comma, Assign}
@@ -19,7 +19,7 @@ both : (ts us : List Placed) → AreCategories (ts ++ us) → AreCategories ts �
 both [] us h = (tt, h)
 both (s ∷ ts) us h = let rest = both ts us h.1 in ((h.0, rest.0), rest.1)
 
--- an offset asks for at most 255
+-- an offset moves by at most 255 rows or columns
 abbrev IsNear : ℤ → Type 0
 IsNear z = (up_by z ≤ 255) × (down_by z ≤ 255)
 

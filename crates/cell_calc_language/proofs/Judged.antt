@@ -1,4 +1,4 @@
--- A list of tokens has one first error at most, and stands for an assignment or has one.
+-- A list of tokens has at most one first error, and it has one unless it stands for an assignment.
 use Rattle.std.proofs.Common.{◌≡◌, ℕ, List, [], ◌∷◌, ◌++◌, refl, sym, ap, ◌∙◌, subst, append_assoc, append-nil, ◌⊎◌, inl, inr}
 use Rattle.cell_calc_language.specs.declared.assignment.Assignment.{Assignment}
 use Rattle.cell_calc_grammar.specs.declared.calc_fault.CalcFault.{CalcFault}
@@ -53,7 +53,7 @@ one_unknown c c' read (front, name, d, e, u) (front', name', d', e', u') =
     ∙ sym (append_assoc front' (name_at name' c' ∷ []) (sign_at OpenParenthesis d' ∷ []))) in
     same_column (name_at name c) (name_at name' c') (same_ends front (name_at name c) front' (name_at name' c') last.0).1
 
--- no call that ends there begins within another
+-- no call that ends after its closing parenthesis begins within its own arguments
 not_within : (c d : ℕ) (inside : List Placed) (xs : Terms) → AreCalled inside xs → (ts : List Placed) (bad : Bad BadArguments ts) (m : List Placed) → sign_at OpenParenthesis d ∷ inside ≡ m ++ name_at bad.name bad.column ∷ bad.ends → ⊥
 not_within c d inside xs h ts bad [] e =
     let f : sign_at OpenParenthesis d ≡ name_at bad.name bad.column = cc in
@@ -72,7 +72,7 @@ one_miscounted c c' b n ((front, inside, name, d, f, xs, e, u, h, a), can) ((fro
     go (before m i j) = absurd (not_within c d inside xs h (b ++ n ∷ []) (bad_call (b ++ n ∷ []) front' inside' name' c' d' f' xs' e' u' h' a') m j)
     go (behind m i j) = absurd (not_within c' d' inside' xs' h' (b ++ n ∷ []) (bad_call (b ++ n ∷ []) front inside name c d f xs e u h a) m j)
 
--- the kind that a token shows if all up to it can continue
+-- the kind of error that a token shows if all tokens up to it can continue
 abbrev reported_by : Token → CalcKind
 reported_by (token.Sign OpenParenthesis) = UnknownFunction
 reported_by (token.Sign _) = BadArguments

@@ -1,4 +1,4 @@
--- A list stands for no second assignment.
+-- A list of tokens stands for at most one assignment.
 use Rattle.std.proofs.Common.{◌≡◌, ℕ, List, [], ◌∷◌, sym, ap, ◌∙◌, subst}
 use Rattle.cell_calc_language.specs.declared.assignment.Assignment.{Assignment}
 use Rattle.cell_calc_grammar.specs.declared.token.Placed.{Placed}

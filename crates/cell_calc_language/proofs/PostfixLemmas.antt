@@ -1,4 +1,4 @@
--- The first unknown name of an expression, by its steps.
+-- The first unknown name of an expression, found from its steps.
 use Rattle.std.proofs.Common.{◌≡◌, ℕ, List, Option, Some, None, refl}
 use Rattle.cell_calc_grammar.specs.Term.{Term}
 use Rattle.cell_calc_grammar.specs.Postfix.{postfix, fold_steps}

@@ -1,4 +1,4 @@
--- How an expression is read, step after step, over what waits.
+-- The steps of reading an expression, with the frames that are still open.
 use Rattle.std.proofs.Common.{◌≡◌, ℕ, suc, ◌+◌, ℤ, pos, List, [], ◌∷◌, ◌++◌, Option, Some, None, Ok, Err, Bool, true, false, refl, sym, ap, ◌∙◌, subst, append_assoc, append-nil, add-one, vec_len, Global, arith}
 use Rattle.std.proofs.lemmas.List.{reverse-append, nil_from_length}
 use Rattle.std.specs.Borrow.{Bor}
@@ -33,7 +33,7 @@ use Rattle.cell_calc_language.specs.parts.Waiting.{add_all, Fills, Awaits, IsRea
 use Rattle.cell_calc_grammar.proofs.PostfixLemmas.{are_of_tree}
 use Rattle.cell_calc_grammar.proofs.Sound.{front_is}
 
--- a sign at the start, as it is there
+-- a list that begins with a sign is that sign and the tokens after it
 pub after_is : (s : Sign) (ts us : List Placed) → FollowsSign s ts us → (c : ℕ) × (ts ≡ sign_at s c ∷ us)
 after_is s ts us h =
     let f = front_is ts (token.Sign s) h.0 in
@@ -60,7 +60,7 @@ add_all_stops : (xs : Terms) (kind : CalcKind) (ts : List Placed) → add_all xs
 add_all_stops NoTrees kind ts = refl
 add_all_stops (Then a xs) kind ts = ap (add a) (add_all_stops xs kind ts)
 
--- an error goes through whatever waits
+-- an error ends the reading of all open frames
 stops : (s : State) (fs : List Frame) (steps : List (Step MapName)) (kind : CalcKind) (ts : List Placed) → Fills s fs steps (Stops kind ts) → GrammarReads s (Stops kind ts)
 stops s [] steps kind ts h = h.1
 stops s (frame.Level k ∷ fs) steps kind ts h = stops s fs steps kind ts (h (Stops kind ts) stopped)
@@ -72,7 +72,7 @@ stops s (frame.Call f from n ∷ fs) steps kind ts h =
     stops s fs h.1 kind ts (subst (λ o. Fills s fs h.1 (call f from.now o)) (add_all_stops h.0 kind ts) (h.4 (Stops kind ts) halted))
 stops s (_ ∷ fs) steps kind ts h = stops s fs steps kind ts h
 
--- where an operand or an expression is to be read
+-- reading where an operand or an expression is expected
 module _ (s : State) (fs : List Frame) (steps : List (Step MapName)) (ts : List Placed) where
   stops_at : (kind : CalcKind) (us : List Placed) → Awaits s fs steps (Operand ts) → GrammarReads (Operand ts) (Stops kind us) → GrammarReads s (Stops kind us)
   stops_at kind us h r = stops s fs steps kind us (h (Stops kind us) r)
@@ -103,7 +103,7 @@ module _ (s : State) (fs : List Frame) (steps : List (Step MapName)) (ts : List 
   pub no_operand : (sign : Sign) → Awaits s fs steps (Operand ts) → head ts ≡ Some (token.Sign sign) → (sign ≡ Minus → ⊥) → (sign ≡ Exclamation → ⊥) → (sign ≡ OpenParenthesis → ⊥) → GrammarReads s (Stops Expected ts)
   no_operand sign h e n m o = stops_at Expected ts h (nothing (subst BeginsNone (sym e) (begins_none sign n m o)))
 
--- after a map's name
+-- reading after the name of a map
 module _ (s : State) (fs : List Frame) (steps : List (Step MapName)) (name copy : List ℕ) (c : ℕ) (ts : List Placed) where
   pub map_alone : Awaits s fs steps (Operand (name_at name c ∷ ts)) → copy ≡ name → IsNot OpenParenthesis (head ts) → IsNot OpenBracket (head ts) → IsReadExpression s fs (steps ++ step.Map (map_name copy c) (pos 0) (pos 0) ∷ []) ts
   map_alone h e n m = operand_read s fs steps (name_at name c ∷ ts) (Map (map_name copy c) (pos 0) (pos 0)) ts h (rw e (reading.map (n, m)))
@@ -116,7 +116,7 @@ module _ (s : State) (fs : List Frame) (steps : List (Step MapName)) (name copy 
   map_stops us Memory h a p = tt
   map_stops us (At kind rest) h a p = stops_at s fs steps (name_at name c ∷ ts) kind rest.now h (map_reads name c ts us a (Err (kind, rest.now)) p)
 
--- after a call's name and the opening parenthesis
+-- reading after the name of a call and the opening parenthesis
 module _ (s : State) (fs : List Frame) (steps : List (Step MapName)) (name : List ℕ) (from : Bor (List Placed)) (us : List Placed) (h : Awaits s fs steps (Operand from.now)) (a : IsCallOf name from.now us) where
   pub unknown_call : function_of name ≡ None → GrammarReads s (Stops UnknownFunction from.now)
   unknown_call e = stops_at s fs steps from.now UnknownFunction from.now h (subst (λ l. GrammarReads (Operand l) (Stops UnknownFunction l)) (sym (call_is name from.now us a).2) (reading.unknown e))
@@ -124,7 +124,7 @@ module _ (s : State) (fs : List Frame) (steps : List (Step MapName)) (name : Lis
   call_reads : (f : Function) (o : ReadOutcome) → function_of name ≡ Some f → GrammarReads (Called us) o → GrammarReads (Operand from.now) (call f from.now o)
   call_reads f o e r = subst (λ l. GrammarReads (Operand l) (call f l o)) (sym (call_is name from.now us a).2) (reading.called f e r)
 
-  -- without arguments
+  -- reading a call without arguments checks whether its function accepts 0 arguments
   judged_empty : (f : Function) (rest : List Placed) (b : Bool) → function_of name ≡ Some f → FollowsSign CloseParenthesis us rest → accepts f 0 ≡ b → GrammarReads (Operand from.now) (call_judged b f NoTrees from.now rest)
   judged_empty f rest b e d g =
       subst (λ x. GrammarReads (Operand from.now) (call_judged x f NoTrees from.now rest)) g
@@ -147,7 +147,7 @@ not_closed : (t : Option Token) (a : Term) (ts : List Placed) → IsNot ClosePar
 not_closed (Some (token.Sign CloseParenthesis)) a ts n = absurd (n refl)
 not_closed _ a ts n = refl
 
--- after an operand, or more
+-- reading after an operand
 module _ (s : State) (fs : List Frame) (steps : List (Step MapName)) (ts : List Placed) where
   pub negated : IsReadExpression s (frame.Negated ∷ fs) steps ts → IsReadExpression s fs (steps ++ step.Negated ∷ []) ts
   negated h = (Negated h.0, h.1, ap (λ l. l ++ step.Negated ∷ []) h.2 ∙ append_assoc h.1 (postfix h.0) (step.Negated ∷ []), h.3)
@@ -193,7 +193,7 @@ module _ (s : State) (fs : List Frame) (steps : List (Step MapName)) (ts : List 
   pub unclosed : IsReadExpression s (frame.Parenthesis ∷ fs) steps ts → IsNot CloseParenthesis (head ts) → GrammarReads s (Stops Expected ts)
   unclosed h n = stops s fs h.1 Expected ts (subst (Fills s fs h.1) (not_closed (head ts) h.0 ts n) h.3)
 
--- arguments, and a last one
+-- the arguments, followed by a last one
 with_last : Terms → Term → Terms
 with_last NoTrees b = Then b NoTrees
 with_last (Then a xs) b = Then a (with_last xs b)
@@ -218,7 +218,7 @@ unfolding with_last
 add_all_last NoTrees b us = refl
 add_all_last (Then a xs) b us = ap (add a) (add_all_last xs b us)
 
--- after an argument of a call
+-- reading after an argument of a call
 module _ (s : State) (fs : List Frame) (steps : List (Step MapName)) (ts : List Placed) (f : Function) (from : Bor (List Placed)) (n m : ℕ) (e : m ≡ n + 1) (h : IsReadExpression s (frame.Call f from n ∷ fs) steps ts) where
   all : Terms
   all = with_last h.3.0 h.0
@@ -263,15 +263,15 @@ module _ (s : State) (fs : List Frame) (steps : List (Step MapName)) (ts : List 
     judged_call us true a g,
   )
 
--- at the beginning nothing waits
+-- at the beginning, no frame is open
 pub begins : (fs : List Frame) (steps : List (Step MapName)) (ts : List Placed) → fs ≡ [] → steps ≡ [] → Awaits (Expression ts) (latest_first fs) steps (Expression ts)
 begins fs steps ts e g = λ o r. rw (e, g) (refl, r)
 
--- the latest of the frames continues
+-- after an operand, the latest frame continues
 pub resumes : (s : State) (fs gs : List Frame) (f : Frame) (steps : List (Step MapName)) (ts : List Placed) → fs ≡ gs ++ f ∷ [] → IsReadExpression s (latest_first fs) steps ts → IsReadExpression s (f ∷ latest_first gs) steps ts
 resumes s fs gs f steps ts e h = subst (λ l. IsReadExpression s l steps ts) (ap latest_first e ∙ reverse-append gs (f ∷ [])) h
 
--- at the end nothing waits
+-- at the end, no frame is open
 pub ends : (s : State) (frames : Vec Frame Global) (steps : List (Step MapName)) (ts : List Placed) → vec_len frames ≡ 0 → IsReadExpression s (latest_first frames.items) steps ts
     → (GrammarReads s (Got (tree_of steps) ts)) × (steps ≡ postfix (tree_of steps))
 ends s frames steps ts e h =

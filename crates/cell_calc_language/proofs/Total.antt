@@ -1,4 +1,4 @@
--- Each list of tokens is read: there is an outcome.
+-- Reading each list of tokens has an outcome.
 use Rattle.std.proofs.Common.{◌≡◌, ℕ, zero, suc, ◌+◌, ◌*◌, ◌<◌, ◌≤◌, List, [], ◌∷◌, ◌++◌, length, Option, Some, None, refl, ap, arith, length-append}
 use Rattle.cell_calc_grammar.specs.declared.function.Function.{Function}
 use Rattle.cell_calc_grammar.specs.declared.operator.Operator.{Operator}
@@ -13,12 +13,12 @@ use Rattle.cell_calc_grammar.specs.Token.{name_at, sign_at}
 use Rattle.cell_calc_grammar.proofs.Occurs.{left, tokens, find}
 use Rattle.cell_calc_grammar.proofs.Sound.{IsSound, sound, Looks, ANumber, AName, ASign, look}
 
--- an expression, or a stop
+-- the outcome is an expression or a stop
 abbrev IsTerm : ReadOutcome → Type 0
 IsTerm (GotAll xs rest) = ⊥
 IsTerm _ = Unit {0}
 
--- what continues continues from an expression, or from a stop
+-- a state that continues an outcome continues an expression or a stop
 abbrev Starts : State → Type 0
 Starts (More k o) = IsTerm o
 Starts (Choice o) = IsTerm o
@@ -29,7 +29,7 @@ Starts _ = Unit {0}
 abbrev Total : State → Type 0
 Total s = (o : ReadOutcome) × GrammarReads s o
 
--- what begins has the tokens of what continues, and comes after it
+-- the order of states that have the same tokens
 abbrev rank : State → ℕ
 rank (Whole k ts) = 1
 rank (Expression ts) = 2
@@ -40,7 +40,7 @@ rank _ = 0
 abbrev size : State → ℕ
 size s = 4 * length (tokens s) + rank s
 
--- smaller states are read
+-- each state smaller than n is read
 abbrev Totals : ℕ → Type 0
 Totals n = (s : State) → Starts s → size s < n → Total s
 
@@ -56,7 +56,7 @@ joined_term op a (Got b rest) i = (tt, refl)
 joined_term op a (GotAll xs rest) i = absurd i
 joined_term op a (Stops kind rest) i = (tt, refl)
 
--- no more is left than there was
+-- reading leaves no more tokens than there were
 not_longer : {s : State} {o : ReadOutcome} → GrammarReads s o → length (left o) ≤ length (tokens s)
 not_longer {s = s} {o = o} r =
     let w = find r in
@@ -146,6 +146,6 @@ totals (suc n) (Onward (Got a ts)) i h = onward_at n (totals n) a (look ts) (ome
 totals (suc n) (Onward (Stops kind us)) i h = (_, halted)
 totals (suc n) _ i h = absurd i
 
--- each list of tokens is read
+-- each list of tokens is read with some outcome
 pub read_somehow : (ts : List Placed) → (o : ReadOutcome) × GrammarReads (Expression ts) o
 read_somehow ts = totals (suc (size (Expression ts))) (Expression ts) tt (omega arith)

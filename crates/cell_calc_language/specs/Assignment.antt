@@ -1,4 +1,4 @@
--- Which lists of tokens stand for which assignments (r.mapcalc manual).
+-- The lists of tokens that stand for assignments (r.mapcalc manual).
 use Rattle.std.specs.Prelude.{◌≡◌, ℕ, List, ◌∷◌, IsOkAnd}
 use Rattle.cell_calc_language.specs.declared.assignment.Assignment.{Assignment}
 use Rattle.cell_calc_grammar.specs.declared.token.Placed.{Placed}

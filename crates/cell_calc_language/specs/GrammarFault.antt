@@ -1,4 +1,4 @@
--- Why a list of tokens does not stand for an assignment, and which error it shows first (profile).
+-- The error that a list of tokens shows first if it does not stand for an assignment (profile).
 use Rattle.std.specs.Prelude.{◌≡◌, ◌<◌, ◌+◌, ℕ, ℤ, List, [], ◌∷◌, ◌++◌, length, Some, None, false, ◌⊎◌, MatchResult}
 use Rattle.cell_calc_language.specs.declared.assignment.Assignment.{Assignment}
 use Rattle.cell_calc_grammar.specs.declared.calc_fault.CalcFault.{CalcFault}
@@ -89,7 +89,7 @@ ReportsNone ts =
     (before rest : List Placed) (next : Placed) (kind : CalcKind) (column : ℕ)
     → ts ≡ before ++ next ∷ rest → Reports kind column before next → ⊥
 
--- a token shows the error, and no earlier token shows any
+-- a token shows the error, and no earlier token shows an error
 abbrev pub IsReportedFirst : List Placed → CalcFault → Type 0
 IsReportedFirst ts token_fault =
     (before rest : List Placed) × (next : Placed) × (ts ≡ before ++ next ∷ rest)
@@ -107,7 +107,7 @@ IsGrammarFault end ts token_fault = (IsReportedFirst ts token_fault ⊎ IsReport
 abbrev pub IsFaultOf : (end : ℕ) → List Placed → CalcFault → Type 0
 IsFaultOf end ts token_fault = (token_fault ≡ no_memory) ⊎ IsGrammarFault end ts token_fault
 
--- the error is the first error in the text's tokens, otherwise an error in the grammar, or memory ran out
+-- the error is the first error in the text's tokens, or an error in the grammar if they have none, or memory ran out
 abbrev pub IsTextFault : (text : List ℕ) → CalcFault → Type 0
 IsTextFault text token_fault =
     (token_fault ≡ no_memory)

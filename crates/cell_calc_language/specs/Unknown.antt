@@ -5,7 +5,7 @@ use Rattle.cell_calc_grammar.specs.declared.map_name.MapName.{MapName}
 use Rattle.cell_calc_grammar.specs.Tree.{fold_maps}
 use Rattle.cell_calc_grammar.specs.Term.{Term}
 
--- the first of two columns, if there is one, otherwise the second
+-- the first column if there is one, otherwise the second column
 abbrev pub first_column : Option ℕ → Option ℕ → Option ℕ
 first_column None b = b
 first_column (Some c) b = Some c
