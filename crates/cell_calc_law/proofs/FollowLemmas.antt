@@ -1,4 +1,4 @@
--- The cells of a map of values, from the combinations of the maps that it is made of.
+-- The cells of a map of values follow from the combinations of the maps that it is computed from.
 use Rattle.std.proofs.Common.{◌≡◌, ℕ, zero, suc, ◌+◌, ◌<◌, List, [], ◌∷◌, ◌++◌, map, cond, refl, ap, sym, ◌∙◌, arith}
 use Rattle.std.specs.Prelude.{count_by}
 use Rattle.std.specs.List.{flat_map, range_with_len}
@@ -16,7 +16,7 @@ use Rattle.cell_calc_law.specs.LocalLaw.{cells_alone, cells_of_shelf, CountsFoll
 use Rattle.cell_calc_law.proofs.TallyLemmas.{table-counts}
 use Rattle.cell_parts.proofs.SumLemmas.{sum-cons}
 
--- ---- combinations of all cells, each by a function of others
+-- ---- combinations of all cells, each a function of other combinations
 
 module _ (g : Combination → Combination) (made given : ℕ → ℕ → Combination) where
   row-mapped : (row a n : ℕ) → ((col : ℕ) → col < a + n → made row col ≡ g (given row col))

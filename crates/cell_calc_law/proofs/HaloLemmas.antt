@@ -1,4 +1,4 @@
--- An expression reads the same cells from a part of maps as from the full maps.
+-- An expression reads the same cells from a part of the maps as from the full maps.
 use Rattle.std.proofs.Common.{◌≡◌, ℕ, zero, suc, ℤ, pos, negsuc, ◌+◌, ◌-◌, ◌<◌, ◌≤◌, ◌+ℤ◌, max, List, [], ◌∷◌, take, drop, length, get_or, Some, None, Bool, true, false, ◌||◌, cond, eqb, eq-eqb, refl, ap, sym, ◌∙◌, arith, inl, inr, ⊎_elim, ◌⊎◌}
 use Rattle.std.specs.Prelude.{All, slice_get}
 use Rattle.std.proofs.Math.IntN.{sub_ℕ}
@@ -19,9 +19,9 @@ use Rattle.cell_parts.specs.Parts.{Rectangle, AreCutOut, cut_out}
 use Rattle.cell_parts.proofs.CutLemmas.{length-take-most, nothing-cut, row-cut, first-or}
 use Rattle.cell_calc_law.specs.HaloParts.{left_of, left_of_all, right_of, right_of_all, calls, call_any, asks_rows, asks_cols, HaloIsEnough, value_seen_from, values_seen_from, ReachIsEnough}
 
--- ---- an item of a stretch of a list, by an offset
+-- ---- an item of a part of a list, at an offset
 
--- by a number from 0
+-- an item of a part is the item of the list, if its index is within the part or the part ends where the list ends
 window : {A : Type 0} (outside : A) (xs : List A) (first height total i : ℕ) → length xs ≤ total → ((total ≤ first + height) ⊎ (i < height)) → get_or (take height (drop first xs)) i outside ≡ get_or xs (first + i) outside
 window outside xs first height total i most (inr within) = get_or-take height (drop first xs) i outside within ∙ get_or-drop first xs i outside
 window outside xs first height total i most (inl ends) =
@@ -65,9 +65,9 @@ module _ {A : Type 0} (outside : A) (xs : List A) (first height total p : ℕ) (
           let same : first + p ≡ p = omega (arith, none_up) in
           none (take height (drop first xs)) lt ∙ sym (none xs lt) ∙ ap (λ i. item_at outside xs (pos i +ℤ negsuc n)) (sym same)
 
--- ---- a cell of a part, by offsets
+-- ---- a cell of a part, at offsets
 
--- the row of a part, by any number
+-- the row of a part at any index is a part of the full row at that index
 row-item : (r : Rectangle) (rows : List (List CellValue)) (z : ℤ) → item_at [] (cut_out r rows) z ≡ take r.cols (drop r.left (item_at [] (take r.rows (drop r.top rows)) z))
 row-item r rows (pos i) = row-cut r rows i
 row-item r rows (negsuc i) = sym (nothing-cut r.cols r.left)
@@ -80,7 +80,7 @@ row-length cols rows wide (pos i) =
     (cases_lt i (length rows))
 row-length cols rows wide (negsuc i) = omega arith
 
--- ---- the conditions, of any part of an expression
+-- ---- the conditions for any part of an expression
 
 record IsHalo (region : RegionValue) (r : Rectangle) (row col : ℕ) (ups downs lefts rights : ℕ → ℕ) (asks_r asks_c : Bool) : Type 0 where
   up : (place : ℕ) → (r.top ≡ 0) ⊎ (ups place ≤ row)
@@ -135,7 +135,7 @@ module _ (region : RegionValue) (r : Rectangle) (row col : ℕ) where
   abbrev there : GridPosition
   there = grid_position region (r.top + row) (r.left + col)
 
-  -- a map of the part has the cells of the full map
+  -- a cell read from a part of a map is the cell of the full map
   cell-cut : (w m : Grid) → IsFilled region w.rows → m.rows ≡ cut_out r w.rows → (down right : ℤ) → (r.top ≡ 0) ⊎ (up_by down ≤ row) → (region.rows ≤ r.top + r.rows) ⊎ (row + down_by down < r.rows) → (r.left ≡ 0) ⊎ (up_by right ≤ col) → (region.cols ≤ r.left + r.cols) ⊎ (col + down_by right < r.cols) → cell_at_offset m (pos row +ℤ down) (pos col +ℤ right) ≡ cell_at_offset w (pos (r.top + row) +ℤ down) (pos (r.left + col) +ℤ right)
   cell-cut w m filled cut down right up_fits down_fits left_fits right_fits =
       let z = pos (r.top + row) +ℤ down in
@@ -208,7 +208,7 @@ module _ (region : RegionValue) (r : Rectangle) (row col : ℕ) where
           let second : HaloOfAll xs = second-halo (λ i. up_of i a) (λ i. down_of i a) (λ i. left_of i a) (λ i. right_of i a) (λ i. up_of_all i xs) (λ i. down_of_all i xs) (λ i. left_of_all i xs) (λ i. right_of_all i xs) (calls asks_rows a) (calls asks_cols a) (call_any asks_rows xs) (call_any asks_cols xs) h in
           ap (λ (x : CellValue). x ∷ argument_values xs part here) (same-value a first) ∙ ap (λ (l : List CellValue). value a whole there ∷ l) (same-values xs second)
 
-    -- and any expression, if it is given the spot in the full map
+    -- any expression has the same value if it is given its position in the full map
     mutual
       same-reported : (f : Formula) → IsHalo region r row col (λ i. up_of i f) (λ i. down_of i f) (λ i. left_of i f) (λ i. right_of i f) false false → value_seen_from f part here there ≡ value f whole there
       same-reported (Number n) h = refl

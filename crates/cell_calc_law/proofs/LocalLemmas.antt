@@ -1,4 +1,4 @@
--- The value of a local expression, from the combination of the maps that it reads.
+-- The value of a local expression depends only on the combination of the maps that it reads.
 use Rattle.std.proofs.Common.{zero, suc, ◌+◌, ◌+ℤ◌, get_or, cond, eqb, refl, ap, sym, ◌∙◌, arith, add-zero, inl, inr}
 use Rattle.std.specs.Prelude.{◌≡◌, ℕ, ℤ, pos, ◌⊎◌, List, [], ◌∷◌, Option, Some, None, Bool, true, false}
 use Rattle.std.specs.List.{Contains, slice_get}
@@ -85,7 +85,7 @@ abbrev mutual
   all_given formula.NoTrees picks k = []
   all_given (formula.Then a xs) picks k = given_by a picks k ∷ all_given xs picks k
 
--- a function that does not ask for its row or column
+-- a function that does not ask for its row or column has the same result at any two positions
 call-anywhere : (f : Function) (s t : GridPosition) (xs : List CellValue) → asks_where f ≡ false
     → call_result f s xs ≡ call_result f t xs
 call-anywhere function.Row s t xs e = cc

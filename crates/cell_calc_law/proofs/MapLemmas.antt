@@ -1,4 +1,4 @@
--- Maps that have one cell everywhere are one map.
+-- Two maps with equal cells everywhere are equal.
 use Rattle.std.proofs.Common.{◌≡◌, ℕ, ◌<◌, List, [], Some, None, length, get_or, pos, refl, ap, sym, ◌∙◌, arith}
 use Rattle.std.specs.Option.{option_map_or}
 use Rattle.std.proofs.lemmas.List.{get_or_default, same_lists}
@@ -12,7 +12,7 @@ use Rattle.cell_calc_binding.specs.Formula.{Formula, Map}
 use Rattle.cell_calc_binding.specs.Value.{value}
 use Rattle.rcell.specs.Making.{AreValues}
 
--- rows of one region, of which each cell is the same, are the same
+-- two lists of rows of one region are equal if their cells are
 module _ (region : RegionValue) (xs ys : List (List CellValue)) (x : IsFilled region xs) (y : IsFilled region ys) where
   pub same_rows :
       ((r c : ℕ) → r < region.rows → c < region.cols
@@ -47,7 +47,7 @@ fills f shelf x are =
       width = λ i d lt. are.filled.width i d lt ∙ cols;
     }
 
--- expressions that have the same value at each cell make the same map
+-- two expressions that have the same value at each cell give the same map
 pub one-map-of-values : (f g : Formula) (shelf : ShelfValue) (x y : Grid) → AreValues f shelf x → AreValues g shelf y
     → ((row col : ℕ) → row < shelf.region.rows → col < shelf.region.cols
     → value f shelf.maps (grid_position shelf.region row col) ≡ value g shelf.maps (grid_position shelf.region row col))

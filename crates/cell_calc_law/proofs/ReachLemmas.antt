@@ -1,4 +1,4 @@
--- A rectangle with as many rows and columns around it as an expression reaches has what it reads.
+-- A rectangle with a halo as wide as an expression's reach contains all cells that the expression reads.
 use Rattle.std.proofs.Common.{◌+◌, ◌-◌, ◌<◌, ◌≤◌, max, min, cond, eqb, ap, sym, ◌∙◌, arith, inl, inr, ⊎_elim}
 use Rattle.std.specs.Prelude.{◌≡◌, ℕ, ◌⊎◌, Bool, true, false, List, All}
 use Rattle.std.proofs.lemmas.Bool.{cases_lt}
@@ -17,7 +17,7 @@ use Rattle.cell_calc_law.specs.ReachParts as reached
 use Rattle.cell_calc_law.specs.ReachParts.{Halo, reach_of, reach_of_all, IsWithinReach, with_halo, IsCellInside}
 use Rattle.cell_calc_law.proofs.HaloLemmas.{halo-is-enough, reach-is-enough}
 
--- a cell of the region, as one of a part of it
+-- the position of a cell of the region within a part of the region
 abbrev pub position_in : Rectangle → (row col : ℕ) → GridPosition
 position_in r row col = record { rows = r.rows; cols = r.cols; row = row - r.top; col = col - r.left }
 
@@ -76,13 +76,13 @@ mutual
 pub maps-are-within-reach : reached.MapsAreWithinReach
 maps-are-within-reach f place = within f place
 
--- ---- along a line: where a stretch with a halo begins, and what is read before and after a cell of it
+-- ---- in one dimension: the start of a stretch with its halo, and the cells read before and after a cell
 
 before : (first up reads i : ℕ) → reads ≤ up → first ≤ i → (first - up ≡ 0) ⊎ (reads ≤ i - (first - up))
 before first up reads i most from =
     ⊎_elim (λ less. inl (omega (arith, less))) (λ le. inr (omega (arith, le, most, from))) (cases_lt first up)
 
--- the length of a stretch with its halo, within total rows or columns
+-- the length of a stretch with its halo, limited to `total` rows or columns
 abbrev length-with : (total first n up down : ℕ) → ℕ
 length-with total first n up down = min total (first + n + down) - (first - up)
 
@@ -127,7 +127,7 @@ module _ (f : Formula) (region : RegionValue) (r : Rectangle) (row col : ℕ) (i
       ap (λ n. grid_position region n (h.left + (col - h.left))) (back r.top (reach_of f).up row is.below)
       ∙ ap (λ n. grid_position region row n) (back r.left (reach_of f).left col is.right)
 
--- with a halo of its reach, an expression that does not ask for rows and columns has the values of the full map in a rectangle
+-- in a rectangle with a halo of its reach, an expression that asks for no rows or columns has the full map's values
 pub its-reach-is-enough : (f : Formula) (whole part : List Grid) (region : RegionValue) (r : Rectangle)
     → All (λ m. IsFilled region m.rows) whole → AreCutOut (with_halo region (reach_of f) r) whole part
     → calls asks_rows f ≡ false → calls asks_cols f ≡ false
@@ -138,7 +138,7 @@ its-reach-is-enough f whole part region r all cut no_rows no_cols row col holds 
     (record { reads = reads f region r row col holds; rows = inl no_rows; cols = inl no_cols })
     ∙ ap (value f whole) (there f region r row col holds)
 
--- and any expression does if row() and its like are reported of the cell in the full map
+-- any expression has the values of the full map if row() and similar functions give the position there
 pub its-reach-is-enough-elsewhere : (f : Formula) (whole part : List Grid) (region : RegionValue) (r : Rectangle)
     → All (λ m. IsFilled region m.rows) whole → AreCutOut (with_halo region (reach_of f) r) whole part
     → (row col : ℕ) → IsCellInside region r row col

@@ -1,4 +1,4 @@
--- Maps at offsets: what they read, and how many cells they have.
+-- Maps at offsets: the cells that they read, and their number of cells.
 use Rattle.std.proofs.Common.{◌≡◌, ℕ, zero, suc, ℤ, pos, negsuc, ◌≤◌, ◌+ℤ◌, List, [], ◌∷◌, ◌++◌, map, length}
 use Rattle.std.proofs.Common.{get_or, Option, Some, None, All, cond, refl, ap, sym, ◌∙◌, arith, inl, inr, ⊎_elim, ◌⊎◌}
 use Rattle.std.specs.Prelude.{slice_get}

@@ -1,4 +1,4 @@
--- Tables of cells that a function is applied to, and the counts of entries for which a test holds.
+-- Tables of the results of a function for each cell, and the counts of entries that pass a test.
 use Rattle.std.proofs.Common.{◌≡◌, ℕ, zero, suc, ◌+◌, ◌<◌, List, [], ◌∷◌, filter, length, get_or, All, Some}
 use Rattle.std.proofs.Common.{Bool, true, false, cond, refl, ap, sym, subst, ◌∙◌, arith, zero-add}
 use Rattle.std.specs.Prelude.{sum_by, count_by}
@@ -26,9 +26,9 @@ whole-tally cells =
     let kept_cells = counts_of-IsTally (kept_cells Nothing cells) in
     subst (λ (l : List Combination). IsTally l (table_of Nothing cells)) (kept-nothing cells) kept_cells
 
--- ---- each cell is counted by one entry
+-- ---- each cell is counted in exactly one entry
 
--- 1 if the entry has the combination
+-- 1 if the entry has the combination, and otherwise 0
 abbrev mark : Combination → Combination × ℕ → ℕ
 mark k e = cond (eq_by_cmp combination_cmp e.0 k) 1 0
 
@@ -46,7 +46,7 @@ mark-none k (e ∷ es) below =
     let first : mark k e ≡ 0 = ap (λ t. cond t 1 0) (eq-swap e.0 k ∙ ap is_eq (is_less _ both.0)) in
     omega (arith, sum-cons (mark k) e es, first, mark-none k es both.1)
 
--- if an entry has a combination, or another entry has it: one has it
+-- if a combination is found among the entries with the count n, exactly one entry has it
 abbrev IsOneIf : Combination → Combination × ℕ → Pairs → ℕ → Bool → Type 0
 IsOneIf k e es n t =
     eq_by_cmp combination_cmp k e.0 ≡ t → cond t (Some e.1) (find combination_cmp k es) ≡ Some n
@@ -69,7 +69,7 @@ mark-one k (e ∷ es) n sorted is =
           omega (arith, sum-cons (mark k) e es, first, mark-one k es n both.1 rest)
     ] refl is
 
--- each cell is counted
+-- each cell is counted at least once
 counts-itself : (cells : List Combination) (i : ℕ) (d : Combination) → i < length cells
     → 0 < count_of (get_or cells i d) cells
 counts-itself [] i d within = absurd (omega (arith, within))
@@ -84,10 +84,10 @@ found-some : (n : ℕ) → 0 < n → found n ≡ Some n
 found-some zero some = absurd (omega (arith, some))
 found-some (suc n) some = refl
 
--- ---- the entries for which a test holds
+-- ---- the entries that pass a test
 
 module _ (h : Combination → Bool) where
-  -- what an entry counts if the test holds
+  -- the count of an entry that passes the test, and otherwise 0
   abbrev counted : (Combination × ℕ → ℕ) → Combination × ℕ → ℕ
   counted f e = cond (h e.0) (f e) 0
 
@@ -168,7 +168,7 @@ module _ (h : Combination → Bool) where
       let others = sum-alike f g es (λ i d within. all (suc i) d (omega (arith, within))) in
       omega (arith, sum-cons f e es, sum-cons g e es, first, others)
 
-  -- the counts of the entries add up to the cells if a test holds
+  -- the counts of the entries that pass a test add up to the number of cells that pass it
   pub table-counts : (cells : List Combination)
       → sum_by (λ e. e.1) (filter (λ e. h e.0) (table_of Nothing cells)) ≡ count_by h cells
   table-counts cells =

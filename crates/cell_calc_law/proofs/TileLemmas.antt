@@ -1,4 +1,4 @@
--- Maps of values, by tiles with their halo.
+-- Maps of values, computed tile by tile with a halo.
 use Rattle.std.proofs.Common.{◌≡◌, ℕ, pos, ◌+◌, ◌-◌, ◌<◌, ◌≤◌, min, List, ◌∷◌, Some, refl, ap, sym, ◌∙◌, arith}
 use Rattle.cell_core_values.specs.Region.{RegionValue}
 use Rattle.cell_core.specs.Grid.{Grid, CellValue, cell_at}
@@ -34,7 +34,7 @@ module _ (f g : Formula) (whole tile : ShelfValue) (r : Rectangle) (is : IsHaloe
   col-in : col < whole.region.cols
   col-in = omega (arith, holds.wide, holds.left)
 
-  -- if the expressions have one value, the maps have one cell
+  -- if two expressions have the same value at a cell, their maps have the same cell
   same-cell : value g tile.maps (position_in h row col) ≡ value f whole.maps (grid_position whole.region row col)
       → cell_at y (row - h.top) (col - h.left) ≡ cell_at x row col
   same-cell same =
@@ -53,7 +53,7 @@ tiles-make-the-map f whole tile r is no_rows no_cols x y are_x are_y row col hol
     same-cell f f whole tile r is x y are_x are_y row col holds
     (its-reach-is-enough f whole.maps tile.maps whole.region r is.filled is.cells no_rows no_cols row col holds)
 
--- ---- an expression that is placed in a region is reported of the cell there
+-- ---- an expression that is placed in a region is given the position of the cell there
 
 module _ (region : RegionValue) (r : Rectangle) (maps : List Grid) (row col : ℕ)
     (below : r.top ≤ row) (right : r.left ≤ col) (rows : row < 2147483647) (cols : col < 2147483647) where

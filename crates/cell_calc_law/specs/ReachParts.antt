@@ -27,7 +27,7 @@ wider h k = record {
 }
 
 abbrev mutual
-  -- how far an expression reaches around a cell, over all its maps
+  -- the halo that an expression reads around a cell, over all its maps
   pub reach_of : Formula → Halo
   reach_of (Number n) = no_halo
   reach_of (Map i down right) =
