@@ -15,25 +15,25 @@ pub column_length : {V : Type 0} (f : V → List CellValue) (xs : List V) (k : �
     → length (column k (map f xs)) ≡ length xs
 column_length f xs k = length-map (map f xs) (λ row. at row k) ∙ length-map xs f
 
--- a cell of a column is one of its row
+-- a cell of a column is a cell of its argument's row
 pub column_item : {V : Type 0} (f : V → List CellValue) (xs : List V) (i k : ℕ) (x : V)
     → i < length xs → x ≡ get_or xs i x → get_or (column k (map f xs)) i None ≡ at (f x) k
 column_item f [] i k x lt is = absurd (let no : ⊥ = omega arith in no)
 column_item f (y ∷ xs) zero k x lt is = ap (λ v. at (f v) k) (sym is)
 column_item f (y ∷ xs) (suc i) k x lt is = column_item f xs i k x (omega arith) is
 
--- a row of cells is as long as each of the arguments
+-- a row of cells has the same width as each argument
 pub item_width : {V : Type 0} (f : V → List CellValue) (xs : List V) (width i : ℕ) (x : V) (row : List CellValue)
     → ((k : ℕ) (d : V) → k < length xs → length (f (get_or xs k d)) ≡ width)
     → i < length xs → x ≡ get_or xs i x → row ≡ f x → length row ≡ width
 item_width f xs width i x row all lt is same = ap (λ l. length l) same ∙ ap (λ v. length (f v)) is ∙ all i x lt
 
--- none if there are no arguments
+-- a list of fewer than one argument is empty
 pub no_items : {V : Type 0} (xs : List V) → length xs < 1 → xs ≡ []
 no_items [] few = refl
 no_items (x ∷ xs) few = absurd (let no : ⊥ = omega arith in no)
 
--- the last argument
+-- the index of the last argument is within the arguments
 pub last_before : (n : ℕ) → 1 ≤ n → n - 1 < n
 last_before n some = omega arith
 
@@ -42,7 +42,7 @@ pub last_item : {V : Type 0} (f : V → List CellValue) (xs : List V) (k : ℕ) 
 last_item f xs k x some is =
     rw (column_length f xs k) (column_item f xs (length xs - 1) k x (last_before (length xs) some) is)
 
--- one more argument in a fold
+-- folding one more argument adds its cell
 pub fold_step : {V S : Type 0} (f : V → List CellValue) (g : S → CellValue → S) (a : S) (xs : List V) (i k : ℕ) (x : V)
     (b new : S) (other : List CellValue)
     → i < length xs → x ≡ get_or xs i x → other ≡ f x → b ≡ fold g a (take i (column k (map f xs)))
@@ -55,14 +55,14 @@ fold_step f g a xs i k x b new other lt is slice was each =
     ∙ ap (λ v. g (fold g a (take i (column k (map f xs)))) v) (sym (column_item f xs i k x lt is))
     ∙ sym (fold_more g a (column k (map f xs)) i None within)
 
--- all arguments in a fold
+-- folding all arguments folds the full column
 pub fold_all : {V : Type 0} (f : V → List CellValue) (g : CellValue → CellValue
     → CellValue) (a : CellValue) (xs : List V) (i k : ℕ) (r : CellValue)
     → length xs ≤ i → r ≡ fold g a (take i (column k (map f xs))) → r ≡ fold g a (column k (map f xs))
 fold_all f g a xs i k r le is = is
     ∙ ap (λ l. fold g a l) (take_all i (column k (map f xs)) (rw (column_length f xs k) le))
 
--- all but the first
+-- all arguments except the first are the rest of the list
 others_are : {V : Type 0} (y : V) (ys : List V) → take (length (y ∷ ys) - 1) (drop 1 (y ∷ ys)) ≡ ys
 others_are y ys = take_all (length (y ∷ ys) - 1) ys (omega arith)
 
@@ -100,7 +100,7 @@ greatest_all f (y ∷ ys) i k first start r some is from le e =
     all ∙ ap (λ l. fold greater (at start k) (column k (map f l))) (others_are y ys)
     ∙ ap (λ s. fold greater (at s k) (column k (map f ys))) (from ∙ ap f is)
 
--- the smallest and the largest of those that are known, one by one
+-- the smallest and the largest known cells are found one cell at a time
 lesser_from : (v : ℤ) (xs : List CellValue) → fold known_lesser (Some v) xs ≡ fold lesser (Some v) (known_cells xs)
 lesser_from v [] = refl
 lesser_from v (None ∷ xs) = lesser_from v xs
@@ -121,7 +121,7 @@ known_greatest_is [] = refl
 known_greatest_is (None ∷ xs) = known_greatest_is xs
 known_greatest_is (Some w ∷ xs) = greater_from w xs
 
--- all of a column
+-- taking at least as many cells as there are arguments gives the full column
 pub whole : {V : Type 0} (f : V → List CellValue) (xs : List V) (i k : ℕ) → length xs ≤ i
     → take i (column k (map f xs)) ≡ column k (map f xs)
 whole f xs i k le = take_all i (column k (map f xs)) (rw (column_length f xs k) le)

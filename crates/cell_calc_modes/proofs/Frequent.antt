@@ -1,4 +1,4 @@
--- The most frequent category, by the longest run of categories in order.
+-- The most frequent category is the one with the longest run in sorted order.
 use Rattle.std.proofs.Common.{◌≡◌, ◌<◌, ◌≤◌, ◌+◌, ◌-◌, ◌<ℤ◌, ◌≤ℤ◌, ◌⊎◌, inl, inr, ℕ, ℤ, List, [], ◌∷◌, ◌++◌, length}
 use Rattle.std.proofs.Common.{take, get_or, refl, sym, ap, subst, ◌∙◌, Some, None, Bool, true, false, true≢false, max}
 use Rattle.std.proofs.Common.{arith, All, IsPermutation, IsSorted, is_lt, int_cmp, Ordering, Less, Equal, Greater}
@@ -25,7 +25,7 @@ use Rattle.cell_calc_modes.specs.parts.Modes.{IsLongestRun, HaveLongest, unless_
 use Rattle.cell_calc_modes.specs.ColumnCells.{at, column}
 use Rattle.cell_calc_modes.proofs.Columns.{column_item, column_length, whole}
 
--- how two categories are ordered
+-- of two categories, one is smaller or they are equal
 pub by_order : {P : Type 0} (w v : ℤ) → (w <ℤ v → P) → (w ≡ v → P) → (v <ℤ w → P) → P
 by_order {P} w v less same greater = go (int_cmp w v) (int_ranks w v)
   where
@@ -50,7 +50,7 @@ less_differ w v less same = <ℤ_irrefl (subst (λ x. x <ℤ v) same less)
 pub greater_differ : (w v : ℤ) → v <ℤ w → w ≡ v → ⊥
 greater_differ w v less same = <ℤ_irrefl (subst (λ x. v <ℤ x) same less)
 
--- one more category at the end
+-- one more category at the end adds 1 to its count
 one_more : (w : ℤ) (cells : List CellValue) (y : CellValue)
     → occurrences (Some w) (cells ++ y ∷ []) ≡ occurrences (Some w) cells + (if cell_eq (Some w) y then 1 else 0)
 one_more w cells y = sum_by_push _ cells y
@@ -66,7 +66,7 @@ other_more w v cells other =
     ∙ ap (λ t. occurrences (Some w) cells + (if t then 1 else 0)) (differ w v other) in
     omega (arith, e)
 
--- how often the next category occurs
+-- the number of times that the next category occurs is the length of its run
 next_run : (cells : List CellValue) (b : ℤ) (most : ℕ) (u : ℤ) (run : ℕ) (v : ℤ) (n : ℕ)
     → IsLongestRun cells b most u run → (v <ℤ u → ⊥) → n ≡ (if cell_eq (Some v) (Some u) then run else 0) + 1
     → occurrences (Some v) (cells ++ Some v ∷ []) ≡ n
@@ -84,7 +84,7 @@ next_run cells b most u run v n is not_less e = by_order v u
     let s = same_more v cells in
     omega (arith, so, r, s))
 
--- if the last run becomes the longest
+-- if the last run is longer than the longest, it becomes the longest
 new_longest : (cells : List CellValue) (b : ℤ) (most : ℕ) (u : ℤ) (run : ℕ) (v : ℤ) (n : ℕ)
     → IsLongestRun cells b most u run → (v <ℤ u → ⊥) → occurrences (Some v) (cells ++ Some v ∷ []) ≡ n → most < n
     → IsLongestRun (cells ++ Some v ∷ []) v n v n
@@ -104,7 +104,7 @@ new_longest cells b most u run v n is not_less counted more = record {
     beyond : (w : ℤ) → v <ℤ w → u <ℤ w
     beyond w h = by_lt_z v u (λ k. absurd (not_less k)) (λ k. omega (arith, ints, k, h))
 
--- if it does not
+-- if the last run is not longer than the longest, the longest stays
 old_longest : (cells : List CellValue) (b : ℤ) (most : ℕ) (u : ℤ) (run : ℕ) (v : ℤ) (n : ℕ)
     → IsLongestRun cells b most u run → (v <ℤ u → ⊥) → occurrences (Some v) (cells ++ Some v ∷ []) ≡ n → n ≤ most
     → IsLongestRun (cells ++ Some v ∷ []) b most v n
@@ -137,7 +137,7 @@ old_longest cells b most u run v n is not_less counted few = record {
         let k = is.same in
         omega (arith, none, some, k)
 
--- what the order says of categories
+-- a category that is not less than another in the cell order is not a smaller number
 not_below : (v u : ℤ) → is_lt (cell_cmp (Some v) (Some u)) ≡ false → v <ℤ u → ⊥
 not_below v u e less = go (int_cmp v u) (int_ranks v u) e
   where
@@ -146,7 +146,7 @@ not_below v u e less = go (int_cmp v u) (int_ranks v u) e
     go Equal h k = less_differ v u less h
     go Greater h k = omega (arith, ints, h, less)
 
--- one more cell
+-- one more cell updates the longest run
 longest_more : (cells : List CellValue) (best : CellValue) (most : ℕ) (last : CellValue) (run : ℕ) (y : CellValue)
     (n : ℕ)
     → HaveLongest cells best most last run → is_null y ≡ false → is_lt (cell_cmp y last) ≡ false
@@ -171,7 +171,7 @@ longest_more cells (Some b) most (Some u) run (Some v) n is known_cells order e 
         let most_is : max most n ≡ most = omega arith in
         rw most_is (old_longest cells b most u run v n is (not_below v u order) counted few)
 
--- the first one
+-- in the first cell alone, the longest run is that cell, of length 1
 pub longest_first : (cells : List CellValue) → 0 < length cells → All (λ cell. is_null cell ≡ false) cells
     → HaveLongest (take 1 cells) (at cells 0) 1 (at cells 0) 1
 longest_first [] some known_cells = absurd (let no : ⊥ = omega arith in no)
@@ -189,7 +189,7 @@ longest_first (Some v ∷ cells) some known_cells = record {
   positive = omega arith;
 }
 
--- one more in a loop
+-- one more cell in the loop updates the longest run
 pub longest_step : (cells : List CellValue) (i : ℕ) (best : CellValue) (most run n : ℕ) (cell last : CellValue)
     → 1 ≤ i → i < length cells → All (λ cell. is_null cell ≡ false) cells → IsSorted cell_cmp cells
     → HaveLongest (take i cells) best most (at cells (i - 1)) run
@@ -206,7 +206,7 @@ longest_step cells i best most run n cell last some within known_cells sorted is
     ∙ ap (λ x. (if cell_eq (at cells i) x then run else 0) + 1) last_is) in
     rw (here, cell_is, take_more cells i None within) more
 
--- the smallest of those that pass a test, by the smallest category that passes it
+-- the smallest category that passes a test is found by folding the cells that pass it
 least_on : (p : CellValue → Bool) (b : ℤ) (cells : List CellValue) (a : ℤ)
     → All (λ cell. is_null cell ≡ false) cells → ((w : ℤ) → w <ℤ b → p (Some w) ≡ false) → p (Some b) ≡ true
     → b ≤ℤ a → (a ≡ b) ⊎ (0 < occurrences (Some b) cells) → fold lesser (Some a) (filter p cells) ≡ Some b
@@ -290,7 +290,7 @@ least_of p b (Some v ∷ cells) all low holds there =
     by_case true e passes fails = passes e
     by_case false e passes fails = fails e
 
--- a test that a category fails which occurs
+-- if a category that occurs fails a test, not all cells pass the test
 fails_one : (q : CellValue → Bool) (b : ℤ) (cells : List CellValue) → q (Some b) ≡ false
     → 0 < occurrences (Some b) cells → list_all q cells ≡ false
 fails_one q b [] fails there = absurd (let no : ⊥ = omega arith in no)
@@ -308,7 +308,7 @@ fails_one q b (y ∷ cells) fails there = by_case (cell_eq (Some b) y) refl (λ 
         ∙ ap (λ t. t && list_all q cells) fails
     by_case false e others = ap (λ t. q y && t) (others e) ∙ and-false (q y)
 
--- the smallest category that occurs most often is the most frequent one
+-- the smallest of the categories that occur most often is the most frequent category
 pub frequent_is : (cells : List CellValue) (b : ℤ) (most : ℕ) → All (λ cell. is_null cell ≡ false) cells
     → ((w : ℤ) → occurrences (Some w) cells ≤ most) → ((w : ℤ) → w <ℤ b → occurrences (Some w) cells < most)
     → occurrences (Some b) cells ≡ most → 0 < most → most_frequent cells ≡ Some b
@@ -330,7 +330,7 @@ frequent_is cells b most all within below same positive =
     passes None h = absurd (true≢false h)
     passes (Some w) h = let few = within w in grind (arith, few, same)
 
--- the best of all cells is the most frequent one of the same cells in any order
+-- the longest run of sorted cells is the most frequent category of the same cells in any order
 pub longest_is : (cells xs : List CellValue) (best : CellValue) (most : ℕ) (last : CellValue) (run : ℕ)
     → HaveLongest cells best most last run → All (λ cell. is_null cell ≡ false) cells → IsPermutation xs cells
     → best ≡ most_frequent xs
@@ -345,7 +345,7 @@ longest_is cells xs (Some b) most (Some u) run is all moved =
     occurs : (w : ℤ) → occurrences (Some w) cells ≡ occurrences (Some w) xs
     occurs w = sum_by-IsPermutation (λ x. if cell_eq (Some w) x then 1 else 0) xs cells moved
 
--- the best of all cells, in a loop
+-- after the loop, the longest run is the most frequent category of all cells
 pub longest_all : (cells xs : List CellValue) (i : ℕ) (best : CellValue) (most run : ℕ)
     → length cells ≤ i → All (λ cell. is_null cell ≡ false) cells
     → HaveLongest (take i cells) best most (at cells (i - 1)) run
@@ -354,7 +354,7 @@ longest_all cells xs i best most run le all is moved =
     longest_is cells xs best most (at cells (i - 1)) run
     (subst (λ l. HaveLongest l best most (at cells (i - 1)) run) (take_all i cells le) is) all moved
 
--- a part that is kept or not is at most the whole
+-- a part that is kept or left out is at most the full number
 pub kept_within : (t : Bool) (whole n : ℕ) → n ≡ (if t then whole else 0) → n ≤ whole
 kept_within true whole n e = omega (arith, e)
 kept_within false whole n e = omega (arith, e)
@@ -363,13 +363,13 @@ pub one_at_most : (t : Bool) (n : ℕ) → n ≡ (if t then 0 else 1) → n ≤ 
 one_at_most true n e = omega (arith, e)
 one_at_most false n e = omega (arith, e)
 
--- of no cells there is none
+-- without cells, there is no most frequent category
 pub none_of : (cells xs : List CellValue) → length cells ≡ 0 → IsPermutation xs cells → None ≡ most_frequent xs
 none_of cells [] empty moved = refl
 none_of cells (x ∷ xs) empty moved = let long = length_permutation (x ∷ xs) cells moved in absurd
     (let no : ⊥ = omega (arith, long, empty) in no)
 
--- one more argument's category is kept, null is not
+-- the category of one more argument is kept, and null is left out
 pub gather_step : {V : Type 0} (f : V
     → List CellValue) (args : List V) (i k count n : ℕ) (x : V) (row : List CellValue) (cell : CellValue)
     (cells : List CellValue)
@@ -397,7 +397,7 @@ gather_step f args i k count n x row cell cells lt is slice cell_is room so_far 
         ap (λ m. take m (set cells count None)) same ∙ take-set cells count None ∙ sym (append-nil (take count cells))
     kept (Some v) e = ap (λ m. take (count + m) (set cells count (Some v))) e ∙ take_more_set cells count (Some v) room
 
--- all categories of a column
+-- after the loop, all categories of a column are kept
 pub gathered : {V : Type 0} (f : V → List CellValue) (args : List V) (i k : ℕ) (cells : List CellValue)
     → length args ≤ i → cells ≡ known_cells (take i (column k (map f args)))
     → cells ≡ known_cells (column k (map f args))
@@ -408,13 +408,13 @@ all_known [] = All-nil (λ cell. is_null cell ≡ false)
 all_known (None ∷ xs) = all_known xs
 all_known (Some v ∷ xs) = All-cons (λ cell. is_null cell ≡ false) (Some v) (known_cells xs) refl (all_known xs)
 
--- if none is null, all are known
+-- if no cell is null, all cells are known
 all_are_known : (xs : List CellValue) → list_any is_null xs ≡ false → known_cells xs ≡ xs
 all_are_known [] h = refl
 all_are_known (None ∷ xs) h = cc
 all_are_known (Some v ∷ xs) h = ap (λ l. Some v ∷ l) (all_are_known xs h)
 
--- null, once for each argument
+-- folding `unless_null` gives null if an argument is null, and otherwise the cell
 one_null : (cell : CellValue) (xs : List CellValue)
     → fold unless_null cell xs ≡ (if list_any is_null xs then None else cell)
 one_null cell [] = refl
@@ -426,7 +426,7 @@ one_null cell (None ∷ xs) = nulls xs
     nulls (Some v ∷ xs) = nulls xs
 one_null cell (Some v ∷ xs) = one_null cell xs
 
--- the mode is the most frequent category, null if one is null
+-- the mode is the most frequent category, or null if a cell is null
 pub mode_is : (xs : List CellValue) → fold unless_null (most_frequent (known_cells xs)) xs ≡ mode xs
 mode_is xs = one_null (most_frequent (known_cells xs)) xs ∙ by (list_any is_null xs) refl
   where

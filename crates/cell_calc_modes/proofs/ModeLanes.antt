@@ -1,4 +1,4 @@
--- The most frequent cells at the lanes of vectors.
+-- The most frequent cells in the lanes of vectors.
 use Rattle.std.proofs.Common.{◌≡◌, ◌≢◌, below_more, get_or-set_same, get_or-set_other, ◌<◌, ◌≤◌, ◌+◌, ◌-◌, ◌%◌, ◌<ℤ◌}
 use Rattle.std.proofs.Common.{◌≤ℤ◌, ◌⊎◌, inl, inr, ℕ, ℤ, List, [], ◌∷◌, ◌++◌, length, take, map, set, get_or, replicate}
 use Rattle.std.proofs.Common.{refl, sym, ap, subst, ◌∙◌, Some, None, Bool, true, false, true≢false, cond, ltb, eqb}
@@ -22,7 +22,7 @@ use Rattle.cell_calc_modes.proofs.Frequent.{by_order, differ, is_self, less_diff
 use Rattle.cell_calc_modes.proofs.Frequent.{other_more, frequent_is, all_known}
 use lib.Lanes.{zip2, top, sel_l}
 
--- the lanes of one vector or another, by a test
+-- in each lane, the value of one vector or of another, chosen with a test
 abbrev chosen : (ℕ → ℕ → Bool) → (xs ys us vs : List ℕ) → List ℕ
 chosen t xs ys us vs = sel_l (map (top 31) (zip2 (λ a b. cond (t a b) 4294967295 0) xs ys)) us vs
 
@@ -76,7 +76,7 @@ counted_at count key other k ec ek eo lt few =
     ∙ ap (λ n. cond (eqb (get_or key k 0) (get_or other k 0)) 1 n) (get_or-replicate 16 k 0 0 lt))
     ∙ small_sum (get_or count k 0) (eqb (get_or key k 0) (get_or other k 0)) few
 
--- the category of a number other than 0
+-- the category of a key other than 0
 abbrev category : ℕ → ℤ
 category key = pos key -ℤ pos 2147483648
 
@@ -86,7 +86,7 @@ is_category key e = ap (λ s. if s then None else Some (category key)) e
 is_nothing : (key : ℕ) → eqb key 0 ≡ true → key_cell key ≡ None
 is_nothing key e = ap (λ s. if s then None else Some (category key)) e
 
--- two numbers are the same exactly if their cells are
+-- two keys are equal exactly if their cells are
 same_key : (a b : ℕ) → cell_eq (key_cell a) (key_cell b) ≡ eqb a b
 same_key a b = by_null (eqb a 0) refl (eqb b 0) refl
   where
@@ -156,7 +156,7 @@ counted_all k i keys key count ek ec lt le counted =
     (counted ∙ ap (λ l. occurrences (key_cell (get_or key k 0)) l + 1)
     (take_all i (lane_cells k keys) (omega (arith, all, le))))
 
--- ---- the number that occurs most often, and how often
+-- ---- the number that occurs most often, and its count
 
 abbrev better_key : (most count key best : ℕ) → ℕ
 better_key most count key best = cond (ltb most count) key (cond (eqb count most) (cond (ltb key best) key best) best)
@@ -288,7 +288,7 @@ known_occurs v (Some w ∷ xs) =
     sum_by-cons _ (Some w) (known_cells xs) in
     f ∙ ap (λ n. (if cell_eq (Some v) (Some w) then 1 else 0) + n) (known_occurs v xs) ∙ sym e
 
--- one more number
+-- one more number updates the most frequent one
 most_more : (xs : List CellValue) (key count best most : ℕ) → HaveMost (known_cells xs) (key_cell best) most
     → count ≡ cond (eqb key 0) 0 (occurrences (key_cell key) xs + 1)
     → HaveMost (known_cells xs ++ known_cells (key_cell key ∷ [])) (key_cell (better_key most count key best))
@@ -317,20 +317,20 @@ most_more xs key count best most is counted = by_key (eqb key 0) refl
         (subst (λ l. HaveMost l (key_cell (better_key most count key best)) (larger_count most count))
         (sym (append-nil cells)) kept)
 
-    -- how often the category of the number occurs with itself
+    -- the count of a number's category includes the number itself
     occurs : eqb key 0 ≡ false → occurrences (Some (category key)) (cells ++ Some (category key) ∷ []) ≡ count
     occurs e =
         same_more (category key) cells ∙ ap (λ n. n + 1) (known_occurs (category key) xs)
         ∙ ap (λ c. occurrences c xs + 1) (sym (is_category key e))
         ∙ sym (counted ∙ ap (λ s. cond s 0 (occurrences (key_cell key) xs + 1)) e)
 
-    -- the number becomes the best
+    -- the new number becomes the most frequent one
     taken : (m : ℕ) → eqb key 0 ≡ false → (better_key most count key best ≡ key) × (larger_count most count ≡ m)
         → IsMostOften (cells ++ Some (category key) ∷ []) (category key) m → Goal
     taken m e now h = moved (cells ++ known_cells (key_cell key ∷ [])) key _ m _ now
         (subst (λ c. HaveMost (cells ++ known_cells (c ∷ [])) c m) (sym (is_category key e)) h)
 
-    -- the best stays
+    -- the most frequent number stays
     stays : eqb key 0 ≡ false → eqb best 0 ≡ false → count ≤ most → (key < best → count < most) → Goal
     stays e f le less =
         let h = kept_most cells (category best) most (category key) count (some f) (occurs e) le
@@ -429,7 +429,7 @@ pub gathered_all : {V : Type 0} (f : V → List CellValue) (args : List V) (i c 
 gathered_all f args i c k keys le same is =
     ap (lane_cells k) (sym (take_all i keys (omega (arith, same, le)))) ∙ is ∙ whole f args i (c + k) le
 
--- the columns of a block are done after those before it
+-- the columns of a block are done after the columns before it
 pub block_done : (P : ℕ → CellValue → Type 0) (old new : List CellValue) (done c : ℕ) → c ≤ done
     → ((k : ℕ) → k < done → P k (at old k)) → ((k : ℕ) → k < c → at new k ≡ at old k)
     → ((k : ℕ) → k < 16 → P (c + k) (at new (c + k)))
@@ -442,7 +442,7 @@ block_done P old new done c le was before each k lt = by (cases_lt k c)
         let here : c + (k - c) ≡ k = omega (arith, more) in
         subst (λ j. P j (at new j)) here (each (k - c) (omega (arith, more, lt)))
 
--- one more number of a block
+-- one more number of a block is the key of its cell
 pub keys_more : (cells : List CellValue) (c k : ℕ) (keys : List ℕ) (key : ℕ) (cell : CellValue) → k < length keys
     → c + k < length cells
     → cell ≡ get_or cells (c + k) cell → key_cell key ≡ cell

@@ -88,7 +88,7 @@ fn count_same(count: u32x16, key: u32x16, other: u32x16) -> u32x16
             .select(u32x16::splat(1), u32x16::splat(0))
 }
 
-// Counts how often each lane's cell occurs up to and including itself; 0 for null.
+// Counts the occurrences of each lane's cell up to and including the cell itself; the count of null is 0.
 #[inline(always)]
 fn occurrences(before: &[u32x16], key: u32x16) -> u32x16
     requires { length before.now < 65536 }

@@ -13,7 +13,7 @@ pub record IsLongestRun (cells : List CellValue) (best : ℤ) (most : ℕ) (last
   pub above : (w : ℤ) → last <ℤ w → occurrences (Some w) cells ≡ 0
   pub positive : 0 < most
 
--- like `IsLongestRun` for cells, neither of which is null
+-- like `IsLongestRun`, for cells; `best` and `last` are not null
 abbrev pub HaveLongest : List CellValue → CellValue → ℕ → CellValue → ℕ → Type 0
 HaveLongest cells None most last run = ⊥
 HaveLongest cells (Some best) most None run = ⊥
