@@ -1,11 +1,11 @@
--- Windows that reach as far as an expression reads, one more.
+-- Windows that reach as far as an expression reads, with one more window.
 use Rattle.std.proofs.Common.{◌≡◌, ◌<◌, ◌+◌, ℕ, zero, suc, List, [], ◌∷◌, ◌++◌, length, refl, arith, Some, below_more}
 use Rattle.std.specs.Prelude.{slice_get}
 use Rattle.cell_calc_binding.specs.Formula.{Formula}
 use Rattle.cell_calc_binding.specs.Reach.{up_of, down_of}
 use Rattle.cell_calc.specs.Window.{Window, HasReach}
 
--- an item before the last, and the last
+-- an item before the appended items keeps its index
 before : {A : Type 0} (xs ys : List A) (i : ℕ) → i < length xs → slice_get (xs ++ ys) i ≡ slice_get xs i
 before [] ys i lt = absurd (let no : ⊥ = omega arith in no)
 before (x ∷ xs) ys zero lt = refl

@@ -48,7 +48,7 @@ fn open(alloc: Global, bound: &Bound, shelf: &Shelf, row: u32) -> Result<Vec<Row
     Ok(windows)
 }
 
-/// Writes the values along a row into a slice, and tries again if memory runs out. Returns `None` if it did not run
+/// Writes the values along a row into a slice, and tries again if memory runs out. Returns `None` if memory did not run
 /// out, otherwise whether the failed call left the slice unchanged.
 ///
 /// # Errors

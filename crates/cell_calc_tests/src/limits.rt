@@ -25,7 +25,7 @@ fn repeated(
     Ok(text)
 }
 
-// Texts before and after a 1 and how often each is repeated, with the column of the first token beyond the limit.
+// Texts before and after a 1, each with its number of repetitions, and the column of the first token beyond the limit.
 const REPEATED: [(&[u8], u32, &[u8], u32, Option<u32>); 7] = [
     (b"-", 1, b" + 1", 498, None),
     (b"-", 2, b" + 1", 498, Some(1999)),
