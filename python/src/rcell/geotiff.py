@@ -186,9 +186,13 @@ def _range_of(grid: Raster) -> tuple[int, int]:
     return min(ends, default=0), max(ends, default=0)
 
 
+def _is_masked(cells: Any) -> bool:
+    return isinstance(cells, np.ma.MaskedArray)
+
+
 def _ends_of(cells: Any) -> tuple[int, ...]:
     """Return the smallest and the largest category in rows, or () if all cells are null."""
-    if isinstance(cells, np.ma.MaskedArray):
+    if _is_masked(cells):
         return (int(cells.min()), int(cells.max())) if np.ma.count(cells) else ()
     smallest = int(cells.min())
     # As 8-bit numbers, null plus 1 is 0, so the largest sum belongs to the largest category.
@@ -213,4 +217,4 @@ def _rows_of(grid: Raster, row: int, end: int) -> Any:
 
 def _filled(cells: Any, dtype: str, nodata: float) -> Any:
     """Convert masked rows to the type and nodata value of the file, and return bytes unchanged."""
-    return cells.filled(nodata).astype(dtype) if isinstance(cells, np.ma.MaskedArray) else cells
+    return cells.filled(nodata).astype(dtype) if _is_masked(cells) else cells
