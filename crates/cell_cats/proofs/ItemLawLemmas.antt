@@ -1,4 +1,4 @@
--- Words read as items, and items written as words.
+-- Words are read as items, and items are written as words.
 use Rattle.std.proofs.Common.{◌≡◌, ℕ, Bool, true, false, cond, List, [], ◌∷◌, ◌++◌, map, Option, Some, None, codes, refl, ap, sym, subst, ◌∙◌}
 use Rattle.std.specs.Prelude.{◌&&◌, not}
 use Rattle.std.specs.List.{flat_map, list_all}
@@ -18,7 +18,7 @@ both-right false b e = cc
 pub both : (a b : Bool) → a ≡ true → b ≡ true → (a && b) ≡ true
 both a b e f = rw (e, f) refl
 
--- a word for a number is not `thru`
+-- a word that stands for a number is not `thru`
 end-not_thru : (w : List ℕ) → is_end w ≡ true → is_thru w ≡ false
 end-not_thru w e = by (is_thru w) (is_star w) e
   where
@@ -26,7 +26,7 @@ end-not_thru w e = by (is_thru w) (is_star w) e
     by true s h = cc
     by false s h = refl
 
--- an item that was read: its ends are good, and the rest was read
+-- the result of reading an item: both its ends are good, and the remaining words were read
 record Read (a b : List ℕ) (rest : Option (List (List ℕ × List ℕ))) (ends : List (List ℕ × List ℕ)) : Type 0 where
   more : List (List ℕ × List ℕ)
   good : (is_end a && is_end b) ≡ true
@@ -42,7 +42,7 @@ with_item-some a b rest ends e = by (is_end a && is_end b) rest refl refl e
     by true None good is h = cc
     by false o good is h = cc
 
--- an item more at the head
+-- adding a good item at the head keeps the words and the ends in step
 pub add : (words : List (List ℕ)) (ends : List (List ℕ × List ℕ)) (item : Item) → is_item item ≡ true
     → AreItems words ends → AreItems (item_words item ++ words) (item_ends item ∷ ends)
 add words ends item good are = record {
@@ -69,7 +69,7 @@ add-range words a t b ends thru rest e =
     subst (λ l. AreItems (a ∷ t ∷ b ∷ words) l) r.whole
     (subst (λ w. AreItems (a ∷ w ∷ b ∷ words) ((a, b) ∷ r.more)) word (add words r.more (a, Some b) r.good (rest r.more r.read)))
 
--- what is read is written so
+-- words that are read as items are the words of those items
 read-written : (words : List (List ℕ)) (ends : List (List ℕ × List ℕ)) → items_of words ≡ Some ends → AreItems words ends
 read-written [] ends e = let same : [] ≡ ends = cc in subst (λ l. AreItems [] l) same none
 read-written (a ∷ []) ends e = add-one [] a ends (read-written []) e
@@ -82,7 +82,7 @@ read-written (a ∷ t ∷ b ∷ words) ends e = by (λ more h. read-written word
     by rest others true is h = add-range words a t b ends is rest h
     by rest others false is h = add-one (t ∷ b ∷ words) a ends others h
 
--- a word before items is an item by itself
+-- a word before the words of items is read as an item of its own
 one-read : (a : List ℕ) (items : List Item) → list_all is_item items ≡ true → items_of (a ∷ flat_map item_words items) ≡ with_item a a (items_of (flat_map item_words items))
 one-read a [] good = refl
 one-read a ((b, None) ∷ []) good = refl
@@ -96,7 +96,7 @@ one-read a ((b, Some d) ∷ items) good =
 with_item-good : (a b : List ℕ) (more : List (List ℕ × List ℕ)) → (is_end a && is_end b) ≡ true → with_item a b (Some more) ≡ Some ((a, b) ∷ more)
 with_item-good a b more e = rw e refl
 
--- what is written so is read
+-- the words of good items are read as these items
 pub written-read : (items : List Item) → list_all is_item items ≡ true
     → items_of (flat_map item_words items) ≡ Some (map item_ends items)
 written-read [] good = refl

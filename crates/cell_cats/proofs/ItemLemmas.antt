@@ -1,4 +1,4 @@
--- Items and ranges, one more at a time.
+-- Items and ranges, one at a time.
 use Rattle.std.proofs.Common.{◌≡◌, cond, Ok, Err, ℕ, ℤ, ◌+◌, ◌-◌, ◌<◌, ◌≤◌, length, take, drop, get_or, arith, take_all, length-drop}
 use Rattle.std.proofs.Common.{drop-drop, Bool, true, false, List, [], ◌∷◌, ◌++◌, Bor, Option, Some, None, refl, ap, sym, ◌∙◌, append_assoc, append-nil}
 use Rattle.std.specs.Prelude.{◌&&◌, ◌==◌}
@@ -9,7 +9,7 @@ use Rattle.cell_cats.specs.RuleReading.{is_end, with_item, items_of, Left, is_lo
 use Rattle.cell_cats.specs.declared.rules.RuleFault.{RuleFault}
 use Rattle.cell_cats.specs.declared.rules.RuleFault.TheVariants.{BadRule}
 
--- what is before, and then
+-- the given items, followed by the optional ones
 abbrev pub after : {X : Type 0} → List X → Option (List X) → Option (List X)
 after xs o = option_map (λ more. xs ++ more) o
 
@@ -24,7 +24,7 @@ after-one xs x (Some ys) = ap Some (sym (append_assoc xs (x ∷ []) ys))
 pub after-all : {X : Type 0} (xs : List X) → after xs (Some []) ≡ Some xs
 after-all xs = ap Some (append-nil xs)
 
--- one more good item
+-- an item with two good ends is put before the other items
 pub with_item-good : (a b : List ℕ) (o : Option (List (List ℕ × List ℕ))) → is_end a ≡ true → is_end b ≡ true → with_item a b o ≡ option_map (λ more. (a, b) ∷ more) o
 with_item-good a b o ea eb = rw (ea, eb) refl
 
@@ -39,7 +39,7 @@ both-right : (a b : Bool) → (a && b) ≡ true → b ≡ true
 both-right true b e = e
 both-right false b e = cc
 
--- one more item of the words
+-- each item that is read is appended to the items so far
 pub items-step : (ws : List (Bor (List ℕ))) (i n : ℕ) (d b : Bor (List ℕ)) (done new : List (Bor (List ℕ) × Bor (List ℕ)))
     → i < length ws → n ≤ length (take (length ws - (i + 1)) (drop (i + 1) ws))
     → items_of ((get_or ws i d).now ∷ item_texts (take (length ws - (i + 1)) (drop (i + 1) ws))) ≡ with_item (get_or ws i d).now b.now (items_of (item_texts (drop n (take (length ws - (i + 1)) (drop (i + 1) ws)))))
@@ -61,7 +61,7 @@ items-step ws i n d b done new h within first good pushed so_far =
       omega (arith, length-drop (i + 1) ws, within-rest),
     )
 
--- words whose next item is none spell none
+-- if an item's ends are not good, the words are not read as items
 pub items-stop : (ws : List (Bor (List ℕ))) (i n : ℕ) (d b : Bor (List ℕ)) (done : List (Bor (List ℕ) × Bor (List ℕ)))
     → i < length ws
     → items_of ((get_or ws i d).now ∷ item_texts (take (length ws - (i + 1)) (drop (i + 1) ws)))
@@ -79,7 +79,7 @@ items-stop ws i n d b done h first bad so_far =
     ∙ with_item-bad a b.now (items_of (item_texts (drop n words))) bad in
     so_far ∙ ap (after (pairs done)) none
 
--- one more range of the items, or none
+-- each step appends one range of the items, or finds an item without a range
 module _ (items : List (Bor (List ℕ) × Bor (List ℕ))) (i : ℕ) (d : Bor (List ℕ) × Bor (List ℕ)) (done : List (ℤ × ℤ)) (h : i < length items) (so_far : ranges_of (pairs items) ≡ after done (ranges_of (pairs (drop i items)))) where
   pub ranges-step : (range : ℤ × ℤ) (new : List (ℤ × ℤ)) → range_of ((get_or items i d).0.now, (get_or items i d).1.now) ≡ Some range → new ≡ done ++ range ∷ []
       → ranges_of (pairs items) ≡ after new (ranges_of (pairs (drop (i + 1) items)))
@@ -93,7 +93,7 @@ module _ (items : List (Bor (List ℕ) × Bor (List ℕ))) (i : ℕ) (d : Bor (L
       let none : ranges_of (pairs (drop i items)) ≡ None = at_drop_more (λ l. ranges_of (pairs l)) items i d h ∙ rw bad refl in
       so_far ∙ ap (after done) none
 
--- a left side that is not a `*` is its items
+-- a left side is read as items unless it is a lone `*`
 module _ (ws : List (Bor (List ℕ))) (lone : false ≡ is_lone_star (item_texts ws)) (some : false ≡ (length ws == 0)) where
   left-items : left_side (item_texts ws) ≡ option_map Some (items_of (item_texts ws))
   left-items = by ws lone some

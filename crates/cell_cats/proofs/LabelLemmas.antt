@@ -1,4 +1,4 @@
--- The labels of rules, one rule more at a time, and category by category.
+-- The labels of rules: added one rule at a time, and looked up by category.
 use Rattle.std.proofs.Common.{◌≡◌, ℕ, ℤ, ◌+◌, ◌<◌, Bool, true, false, cond, List, [], ◌∷◌, ◌++◌, length, take, get_or, Option, Some, None, refl, ap, sym, ◌∙◌}
 use Rattle.std.specs.Prelude.{reverse}
 use Rattle.std.specs.List.{filter_map, cons_option}
@@ -12,7 +12,7 @@ use Rattle.cell_core.specs.Grid.{Grid}
 use Rattle.cell_cats.specs.Rule.{RuleValue, last_such, labelled_category, is_this_category, labels, label_of}
 use Rattle.cell_cats.specs.Reclass.{label_entry, labels_of}
 
--- with one entry more, or none
+-- the map with the entry inserted, if there is one
 abbrev with_entry : Option (ℤ × List ℕ) → FinMap int_cmp (List ℕ) → FinMap int_cmp (List ℕ)
 with_entry None m = m
 with_entry (Some e) m = insert m e.0 e.1
@@ -30,13 +30,13 @@ labels_of-more : (xs : List RuleValue) (i : ℕ) (d r : RuleValue) → i < lengt
 labels_of-more xs i d r h is =
     ap labels_of (take_more xs i d h) ∙ labels_of-push (take i xs) (get_or xs i d) ∙ ap (λ rule. with_entry (label_entry rule) (labels_of (take i xs))) (sym is)
 
--- a rule that labels a category
+-- a rule that labels a category inserts its label
 labels_of-some : (xs : List RuleValue) (i : ℕ) (d r : RuleValue) (k : ℤ) → i < length xs → r ≡ get_or xs i d → Some k ≡ labelled_category r
     → insert (labels_of (take i xs)) k r.label ≡ labels_of (take (i + 1) xs)
 labels_of-some xs i d r k h is e =
     ap (λ o. with_entry (option_map (λ c. (c, r.label)) o) (labels_of (take i xs))) e ∙ sym (labels_of-more xs i d r h is)
 
--- a rule that labels none
+-- a rule that labels no category leaves the labels unchanged
 labels_of-none : (xs : List RuleValue) (i : ℕ) (d r : RuleValue) → i < length xs → r ≡ get_or xs i d
     → None ≡ labelled_category r
     → labels_of (take i xs) ≡ labels_of (take (i + 1) xs)
@@ -44,7 +44,7 @@ labels_of-none xs i d r h is e =
     ap (λ o. with_entry (option_map (λ c. (c, r.label)) o) (labels_of (take i xs))) e ∙ sym (labels_of-more xs i d r h is)
 
 module _ (given : Grid) (xs : List RuleValue) (i : ℕ) (d r : RuleValue) (within : i < length xs) (is : r ≡ get_or xs i d) (old : Grid) (so_far : old ≡ record given { labels = labels_of (take i xs) }) where
-  -- a map with a label more
+  -- inserting the rule's label makes the map's labels the labels of one more rule
   pub labels-some : (k : ℤ) (text : List ℕ) (new : Grid) → Some k ≡ labelled_category r → text ≡ r.label → new ≡ record old { labels = insert old.labels k text }
       → new ≡ record given { labels = labels_of (take (i + 1) xs) }
   labels-some k text new e same set =
@@ -52,11 +52,11 @@ module _ (given : Grid) (xs : List RuleValue) (i : ℕ) (d r : RuleValue) (withi
       ∙ ap (λ (t : List ℕ). record given { labels = insert (labels_of (take i xs)) k t }) same
       ∙ ap (λ ls. record given { labels = ls }) (labels_of-some xs i d r k within is e)
 
-  -- the map as it is
+  -- a rule that labels no category leaves the map unchanged
   pub labels-none : None ≡ labelled_category r → old ≡ record given { labels = labels_of (take (i + 1) xs) }
   labels-none e = so_far ∙ ap (λ ls. record given { labels = ls }) (labels_of-none xs i d r within is e)
 
--- the first of two lists that has the key
+-- a key in two joined lists is found in the first list, or otherwise in the second
 find-append : (k : ℤ) (es fs : List (ℤ × List ℕ)) → find int_cmp k (es ++ fs) ≡ option_or (find int_cmp k es) (find int_cmp k fs)
 find-append k [] fs = refl
 find-append k (e ∷ es) fs = rw (find-append k es fs) (by (eq_by_cmp int_cmp k e.0))
@@ -72,7 +72,7 @@ map-or f (Some a) b = refl
 abbrev label_where : RuleValue → Bool → Option (List ℕ)
 label_where r b = option_map (λ rule. rule.label) (cond b (Some r) None)
 
--- one rule
+-- the entry of a single rule is found exactly if the rule labels the category
 find-one : (k : ℤ) (r : RuleValue) → find int_cmp k (filter_map label_entry (r ∷ [])) ≡ label_where r (labels k r)
 find-one k r = by (labelled_category r)
   where
@@ -84,7 +84,7 @@ find-one k r = by (labelled_category r)
     by None = refl
     by (Some c) = one c (is_this_category k (Some c))
 
--- all rules: the last is first
+-- in the reversed rules, the first entry found is the label of the last rule
 find-reversed : (k : ℤ) (rules : List RuleValue) → find int_cmp k (filter_map label_entry (reverse rules)) ≡ label_of rules k
 find-reversed k [] = refl
 find-reversed k (r ∷ rules) =
@@ -93,6 +93,6 @@ find-reversed k (r ∷ rules) =
     ∙ find-append k (filter_map label_entry (reverse rules)) (filter_map label_entry (r ∷ []))
     ∙ rw (find-reversed k rules, find-one k r) (map-or (λ rule. rule.label) (last_such (labels k) rules) (cond (labels k r) (Some r) None))
 
--- category by category, the labels are the labels of the last rules
+-- the label of a category is the one given by the last rule that labels it
 pub get-labels_of : (rules : List RuleValue) (k : ℤ) → get (labels_of rules) k ≡ label_of rules k
 get-labels_of rules k = get-from_entries int_cmp_total (filter_map label_entry (reverse rules)) k ∙ find-reversed k rules

@@ -1,4 +1,4 @@
--- The text on the left and on the right of the first equals sign.
+-- A line is split at its first equals sign into a left and a right side.
 use Rattle.std.proofs.Common.{◌≡◌, ℕ, suc, ◌+◌, ◌<◌, Bool, true, false, cond, List, [], ◌∷◌, ◌++◌}
 use Rattle.std.proofs.Common.{length, take, drop, get_or, Option, Some, None, codes, refl, ap, sym, ◌∙◌, arith, length-append}
 use Rattle.std.specs.Prelude.{nat_lt, ◌||◌}
@@ -29,7 +29,7 @@ before-free (b ∷ bs) = by (is_equals b) refl (before-free bs)
         ap (λ n. list_any is_equals (take n (b ∷ bs))) count
         ∙ ap (λ t. t || list_any is_equals (before_first is_equals bs)) e ∙ rest
 
--- a line of two sides is its left, the sign and its right
+-- a line read as two sides is its left side, an equals sign and its right side
 pub sides-sound : (line left right : List ℕ) → pair_of line ≡ Some (left, right)
     → (line ≡ left ++ (codes "=" ++ right)) × (list_any is_equals left ≡ false)
 sides-sound line left right e = by (nat_lt (position_or_len is_equals line) (length line)) refl e
@@ -61,7 +61,7 @@ sign-at (b ∷ left) right free =
     let rest = sign-at left right (either-right (is_equals b) (list_any is_equals left) free) in
     rw (other, rest) (omega arith)
 
--- and such a line has these two sides
+-- a line of a left side without an equals sign, the sign and a right side is read as these two sides
 pub sides-complete : (left right : List ℕ) → list_any is_equals left ≡ false
     → pair_of (left ++ (codes "=" ++ right)) ≡ Some (left, right)
 sides-complete left right free =

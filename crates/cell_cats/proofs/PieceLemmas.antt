@@ -1,4 +1,4 @@
--- Pieces of the number line: a beginning put in, a range painted.
+-- Pieces of the number line: how to insert the beginning of a piece, and how to paint a range.
 use Rattle.std.proofs.Common.{◌≡◌, ℕ, ◌+◌, ◌<◌, length, take, get_or, ◌||◌, ℤ, pos, negsuc, ◌+ℤ◌, ◌≤ℤ◌, ◌<ℤ◌, Bool, true, false, List, [], ◌∷◌, Option, Some, None, refl, sym, ap, subst, ◌∙◌, arith, if◌then◌else◌}
 use Rattle.std.proofs.lemmas.Int.{ints, clamps, by_lt_z}
 use Rattle.std.specs.Int.{int_min, int_max}
@@ -41,7 +41,7 @@ none_unless (Some a) h = absurd (h refl)
 moved : {starts : ℤ → Option (Option Output)} {x : ℤ} {a b : Option Output} → a ≡ b → IsOutputAt starts x a → IsOutputAt starts x b
 moved {starts} {x} e p = subst (IsOutputAt starts x) e p
 
--- a place has one output
+-- each place has only one output
 same-output : {starts : ℤ → Option (Option Output)} {x : ℤ} {a b : Option Output} → IsOutputAt starts x a → IsOutputAt starts x b → a ≡ b
 same-output {starts} {x} {a} {b} p q =
     by_lt_z p.start q.start
@@ -52,7 +52,7 @@ same-output {starts} {x} {a} {b} p q =
     let one : starts p.start ≡ Some a = p.begins in
     let two : starts q.start ≡ Some b = q.begins in cc))
 
--- the last beginning that is found is the beginning of the piece
+-- the output at the last beginning found is the output of the place
 pub output-found : (starts : ℤ → Option (Option Output)) (outputs : ℤ → Option Output) (x s : ℤ) (output : Option Output)
     → negsuc 2147483647 ≤ℤ x → s ≤ℤ x → starts s ≡ Some output → ((q : ℤ) → q ≤ℤ x → IsSome (starts q) → q ≤ℤ s)
     → AreOutputs outputs starts → output ≡ outputs x
@@ -65,7 +65,7 @@ output-found starts outputs x s output low before begins last all =
     } in
     same-output found (all x low)
 
--- a piece cut in two
+-- cutting a piece in two changes no output
 pub cut : (old new : ℤ → Option (Option Output)) (outputs : ℤ → Option Output) (p : ℤ) → negsuc 2147483647 ≤ℤ p
     → new p ≡ Some (outputs p) → ((q : ℤ) → (q ≡ p → ⊥) → new q ≡ old q) → AreOutputs outputs old → AreOutputs outputs new
 cut old new outputs p low at others all x above =
@@ -98,7 +98,7 @@ cut old new outputs p low at others all x above =
       last = λ q a b. others q (λ e. omega (arith, ints)) ∙ s.last q (omega (arith, ints)) b;
     }))
 
--- a range painted, after whose last category a piece begins
+-- painting a range sets its outputs, if a piece begins right after its last category
 pub range-painted : (old new : ℤ → Option (Option Output)) (outputs : ℤ → Option Output) (ends : ℤ × ℤ) (output : Output) (from to : ℤ) (after : Option Output)
     → from ≤ℤ to → ((x : ℤ) → from ≤ℤ x → x ≤ℤ to → is_in_ends ends x ≡ true) → ((x : ℤ) → x <ℤ from → is_in_ends ends x ≡ false) → ((x : ℤ) → to <ℤ x → is_in_ends ends x ≡ false)
     → old (to +ℤ pos 1) ≡ Some after → new from ≡ Some (Some output)
@@ -142,7 +142,7 @@ under a b from x e h = grind (arith, ints)
 over : (a b to x : ℤ) → to ≡ int_max a b → to <ℤ x → is_in_ends (a, b) x ≡ false
 over a b to x e h = grind (arith, ints)
 
--- what `Pieces::paint` does: the line is cut after the range, cleared in it, and its beginning put in
+-- `Pieces::paint` cuts the line after the range, clears the range and inserts its beginning
 pub painted-over : (old cut_off cleared new : ℤ → Option (Option Output)) (outputs : ℤ → Option Output) (ends : ℤ × ℤ) (output : Output) (from to next : ℤ)
     → from ≡ int_min ends.0 ends.1 → to ≡ int_max ends.0 ends.1 → next ≡ to +ℤ pos 1 → negsuc 2147483647 ≤ℤ next
     → cut_off next ≡ Some (outputs next) → ((q : ℤ) → is_eq (int_cmp next q) ≡ false → cut_off q ≡ old q)
@@ -158,7 +158,7 @@ painted-over old cut_off cleared new outputs ends output from to next least most
     (λ q h k. rest q (apart from q (λ e. omega (arith, ints))) ∙ within q (omega (arith, ints)) k)
     (cut old cut_off outputs next low at (λ q ne. others q (apart next q ne)) all)
 
--- the same outputs, found in another way
+-- functions with the same values describe the same pieces
 pub outputs-same : (f g : ℤ → Option Output) (pieces : Pieces) → ((x : ℤ) → f x ≡ g x) → HaveOutputs f pieces → HaveOutputs g pieces
 outputs-same f g pieces same all = λ x low. moved (same x) (all x low)
 
@@ -168,7 +168,7 @@ either true false u v = refl
 either false true u v = refl
 either false false u v = refl
 
--- a range more of a rule
+-- painting one more range of a rule extends the painted ranges by that range
 pub range-more : (ranges : List (ℤ × ℤ)) (i : ℕ) (d : ℤ × ℤ) (output : Output) (outputs : ℤ → Option Output) (x : ℤ) → i < length ranges
     → painted_outputs (get_or ranges i d) output (λ y. if list_any (λ ends. is_in_ends ends y) (take i ranges) then Some output else outputs y) x
     ≡ (if list_any (λ ends. is_in_ends ends x) (take (i + 1) ranges) then Some output else outputs x)
@@ -177,7 +177,7 @@ range-more ranges i d output outputs x h =
     ∙ sym (ap (λ (b : Bool). if b then Some output else outputs x)
     (ap (list_any (λ ends. is_in_ends ends x)) (take_more ranges i d h) ∙ list_any-append (λ ends. is_in_ends ends x) (take i ranges) (get_or ranges i d ∷ [])))
 
--- a rule more
+-- applying one more rule extends the applied rules by that rule
 pub rule-more : (rules : List RuleValue) (i : ℕ) (d rule : RuleValue) (star : Option Output) (x : ℤ) → i < length rules → rule ≡ get_or rules i d
     → ruled_outputs rule (λ y. option_or (last_output (lists y) (take i rules)) star) x ≡ option_or (last_output (lists x) (take (i + 1) rules)) star
 rule-more rules i d rule star x h is = go (lists x rule) refl

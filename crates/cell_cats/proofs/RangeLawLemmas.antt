@@ -1,4 +1,4 @@
--- Words read as ranges, and ranges spelled by words.
+-- Words are read as ranges, and ranges are spelled by words.
 use Rattle.std.proofs.Common.{◌≡◌, ℕ, ℤ, ◌<◌, Bool, true, false, cond, List, [], ◌∷◌}
 use Rattle.std.proofs.Common.{map, length, Option, Some, None, codes, refl, ap, sym, subst, ◌∙◌, arith}
 use Rattle.std.specs.Prelude.{bytes_eq}
@@ -12,7 +12,7 @@ use Rattle.cell_cats.specs.RuleReading.{is_star, is_end, items_of, Left, left_si
 use Rattle.cell_cats.specs.ItemLaw.{Item, item_words, item_ends, AreItems}
 use Rattle.cell_cats.proofs.ItemLawLemmas.{both, add, none, items-are-read}
 
--- the text of a number is neither of two words
+-- the text of a number differs from any word that is not a number
 pub number-other : (word other : List ℕ) (n : ℤ) → whole_in_range word ≡ Some n → whole_in_range other ≡ None
     → bytes_eq word other ≡ false
 number-other word other n e none = by (bytes_eq word other) refl
@@ -27,7 +27,7 @@ number-other word other n e none = by (bytes_eq word other) refl
 pub number-end : (word : List ℕ) (n : ℤ) → whole_in_range word ≡ Some n → is_end word ≡ true
 number-end word n e = rw (number-other word (codes "thru") n e refl, number-other word (codes "*") n e refl) refl
 
--- the numbers of an item that was read
+-- the two numbers of an item that was read as a range
 record Numbers (item : List ℕ × List ℕ) (items : List (List ℕ × List ℕ)) (ranges : List (ℤ × ℤ)) : Type 0 where
   range : ℤ × ℤ
   more : List (ℤ × ℤ)
@@ -50,7 +50,7 @@ numbers item items ranges e = by (whole_in_range item.0) (whole_in_range item.1)
     by (Some a) (Some b) (Some more) f s r h =
         record { range = (a, b); more = more; first = f; second = s; rest = r; whole = cc }
 
--- items of good numbers spell their ranges
+-- the words of items whose ends are numbers spell their ranges
 items-spell : (items : List Item) (ranges : List (ℤ × ℤ)) → ranges_of (map item_ends items) ≡ Some ranges
     → SpellsRanges (flat_map item_words items) ranges
 items-spell [] ranges e = let same : [] ≡ ranges = cc in subst (SpellsRanges []) same line.SpellsRanges.none
@@ -66,7 +66,7 @@ items-spell ((word, Some other) ∷ items) ranges e =
     subst (SpellsRanges (word ∷ codes "thru" ∷ other ∷ flat_map item_words items)) n.whole
     (line.SpellsRanges.thru n.first n.second (items-spell items n.more n.rest))
 
--- words are the words of items with these numbers
+-- the words are read as items, and the items as these ranges
 record IsRead (words : List (List ℕ)) (ranges : List (ℤ × ℤ)) : Type 0 where
   ends : List (List ℕ × List ℕ)
   items : items_of words ≡ Some ends
@@ -109,13 +109,13 @@ ranges-complete : (words : List (List ℕ)) (ranges : List (ℤ × ℤ)) → Spe
 ranges-complete words ranges s = let p = spelled s in
     record { ends = p.ends; items = (items-are-read words p.ends).1 p.items; read = p.read }
 
--- a left side that was read, and what it lists
+-- a left side that was read, and the ranges that it lists
 pub record IsLeft (words : List (List ℕ)) (listed : Option (List (ℤ × ℤ))) : Type 0 where
   pub side : Left
   pub is : left_side words ≡ Some side
   pub read : listed_of_line side ≡ Some listed
 
--- the items of a left side that is not a `*`
+-- a left side other than `*` is read as the ranges of its items
 left-items : (words : List (List ℕ)) (listed : Option (List (ℤ × ℤ))) (side : Left)
     → option_map Some (items_of words) ≡ Some side → listed_of_line side ≡ Some listed
     → 0 < length words → SpellsListed words listed

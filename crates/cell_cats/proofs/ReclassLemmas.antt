@@ -1,4 +1,4 @@
--- Rows by rules, one more at a time.
+-- Rows reclassed by rules, one run at a time.
 use Rattle.std.proofs.Common.{◌≡◌, ◌≢◌, ℕ, ◌+◌, ◌<◌, List, All, subst, [], ◌∷◌, ◌++◌, length, take, get_or, replicate}
 use Rattle.std.proofs.Common.{zero, suc, refl, ap, sym, ◌∙◌, arith, append_assoc, length-append, Some, None, Result}
 use Rattle.std.proofs.Common.{Ok, Err}
@@ -16,7 +16,7 @@ use Rattle.cell_cats.specs.declared.rules.RuleFault.{RuleFault}
 row_at-get_or : (m : Grid) (r : ℕ) → row_at m r ≡ get_or m.rows r []
 row_at-get_or m r = refl
 
--- a row more
+-- appending one reclassed row makes the rows one more reclassed row
 pub rows-more : (rules : List RuleValue) (m : Grid) (done new : List (List CellValue)) (r : ℕ) → r < length m.rows
     → done ≡ new_rows rules (take r m.rows) → new ≡ done ++ new_row rules (row_at m r) ∷ [] → new ≡ new_rows rules (take (r + 1) m.rows)
 rows-more rules m done new r h so_far pushed =
@@ -24,7 +24,7 @@ rows-more rules m done new r h so_far pushed =
     ∙ sym (ap (new_rows rules) (take_more m.rows r [] h) ∙ map-append (new_row rules) (take r m.rows) (get_or m.rows r [] ∷ [])
     ∙ ap (λ row. new_rows rules (take r m.rows) ++ new_row rules row ∷ []) (sym (row_at-get_or m r)))
 
--- one rule of `*` that keeps the category
+-- a single `*` rule that keeps the category
 abbrev pub keeping : List RuleValue
 keeping = record { listed = None; output = Same; label = [] } ∷ []
 
@@ -51,13 +51,13 @@ new_row-replicate : (rules : List RuleValue) (n : ℕ) (cell : CellValue) → ne
 new_row-replicate rules zero cell = refl
 new_row-replicate rules (suc n) cell = ap (λ (l : List CellValue). new_category rules cell ∷ l) (new_row-replicate rules n cell)
 
--- a run more after others
+-- appending a run appends its cells
 out-more : (made : List RunValue) (run : RunValue) → written_out (made ++ run ∷ []) ≡ written_out made ++ replicate run.1 run.0
 out-more made run =
     flat_map-append (λ (r : RunValue). replicate r.1 r.0) made (run ∷ [])
     ∙ ap (λ (l : List CellValue). written_out made ++ l) (append-nil (replicate run.1 run.0))
 
--- the first of the runs that are left is read
+-- after the first remaining run was read, the others remain
 module _ (read : RunValue) (old rest : List RunValue) (next : old ≡ read ∷ rest) where
   pub count : length (written_out old) ≡ read.1 + length (written_out rest)
   count =
@@ -84,7 +84,7 @@ module _ (read : RunValue) (old rest : List RunValue) (next : old ≡ read ∷ r
         ∙ ap (λ l. l ++ new_row rules (written_out rest))
         (new_row-replicate rules read.1 read.0 ∙ ap (replicate read.1) (sym applied))
 
-    -- it begins the row, or is after the others
+    -- the run is written as a new run
     pub run-next : (made : List RunValue) (all : List CellValue)
         → written_out made ++ new_row rules (written_out old) ≡ all
         → written_out (made ++ (x, read.1) ∷ []) ++ new_row rules (written_out rest) ≡ all
@@ -93,7 +93,7 @@ module _ (read : RunValue) (old rest : List RunValue) (next : old ≡ read ∷ r
         ∙ append_assoc (written_out made) (replicate read.1 x) (new_row rules (written_out rest))
         ∙ ap (λ l. written_out made ++ l) (sym run) ∙ whole
 
-    -- it continues the last
+    -- the run extends the last run written
     pub run-on : (made : List RunValue) (k : ℕ) (all : List CellValue)
         → written_out (made ++ (x, k) ∷ []) ++ new_row rules (written_out old) ≡ all
         → written_out (made ++ (x, k + read.1) ∷ []) ++ new_row rules (written_out rest) ≡ all
@@ -107,14 +107,14 @@ module _ (read : RunValue) (old rest : List RunValue) (next : old ≡ read ∷ r
         ∙ append_assoc (written_out (made ++ (x, k) ∷ [])) (replicate read.1 x) (new_row rules (written_out rest))
         ∙ ap (λ l. written_out (made ++ (x, k) ∷ []) ++ l) (sym run) ∙ whole
 
--- the last run may be longer
+-- adjacent runs stay different if the last one changes its length
 pub apart-on : (made : List RunValue) (x : CellValue) (k n : ℕ)
     → AreApart (made ++ (x, k) ∷ []) → AreApart (made ++ (x, n) ∷ [])
 apart-on [] x k n apart = tt
 apart-on (a ∷ []) x k n apart = (apart.0, tt)
 apart-on (a ∷ b ∷ made) x k n apart = (apart.0, apart-on (b ∷ made) x k n apart.1)
 
--- a run of another cell may come after it
+-- a run of another cell may follow the last run
 pub apart-next : (made : List RunValue) (last more : RunValue) → last.0 ≢ more.0
     → AreApart (made ++ last ∷ []) → AreApart ((made ++ last ∷ []) ++ more ∷ [])
 apart-next [] last more other apart = (other, tt)

@@ -48,7 +48,7 @@ or-false : (a : Bool) → (a || false) ≡ true → a ≡ true
 or-false true e = refl
 or-false false e = e
 
--- a number may be on the right
+-- any number in range may be on the right
 number-fits : (star : Bool) (word : List ℕ) (n : ℤ) → whole_in_range word ≡ Some n → is_output star word ≡ true
 number-fits star [] n e = cc
 number-fits star (b ∷ bs) n e =
@@ -71,7 +71,7 @@ output-complete star word (To (Some category)) s kept = (
   number-fits star word category s,
 )
 
--- `*` is on the right of a left that is `*`
+-- an output that keeps the category is allowed only if the left side is `*`
 kept-star : (star : Bool) (word : List ℕ) (output : Output) → SpellsOutput word output → is_output star word ≡ true
     → output ≡ Same → star ≡ true
 kept-star star word output s fits same =
@@ -92,7 +92,7 @@ lists-star (Some items) listed e none = by (ranges_of items) e
     by None h = cc
     by (Some ranges) h = cc
 
--- the parts of a rule line that was read
+-- the two sides of a rule line that was read, and what they were read as
 record Taken (line : List ℕ) (rule : RuleValue) : Type 0 where
   left : List ℕ
   right : List ℕ
@@ -152,7 +152,7 @@ module _ (line : List ℕ) (rule : RuleValue) where
   at_line None pair e = cc
   at_line (Some (left, right)) pair e = at_sides left right pair (left_side (list_words_of left)) refl e
 
-  -- a line that was read spells its rule
+  -- a rule line that was read spells its rule
   pub rule-sound : is_skipped (trimmed_text line) ≡ false → trimmed_text line ≢ codes "end" → rule_of line ≡ Ok rule
       → SpellsRule line rule
   rule-sound not_skipped not_end e =
@@ -174,7 +174,7 @@ module _ (line : List ℕ) (rule : RuleValue) where
         label = refl;
       })
 
-  -- and is read if it spells it
+  -- a line that spells a rule is read as that rule
   pub rule-complete : SpellsRule line rule → rule_of line ≡ Ok rule
   rule-complete s =
       let l = listed-complete (list_words_of s.left) rule.listed s.listed in

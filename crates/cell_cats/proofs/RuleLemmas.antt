@@ -1,16 +1,16 @@
--- The last element that passes, one more at a time.
+-- The last element that passes a test, after each further element.
 use Rattle.std.proofs.Common.{◌≡◌, ℕ, ◌+◌, ◌<◌, Bool, true, false, List, [], ◌∷◌, ◌++◌, length, take, get_or, Option, Some, refl, ap, sym, ◌∙◌}
 use Rattle.std.specs.Option.{option_map}
 use Rattle.std.proofs.lemmas.List.{take_more}
 use Rattle.cell_cats.specs.Rule.{RuleValue, last_such, last_output}
 use Rattle.cell_cats.specs.declared.rule.Output.{Output}
 
--- after one that passes nothing before it counts
+-- an appended element that passes is the last one that passes
 pub last_such-yes : {A : Type 0} (p : A → Bool) (xs : List A) (x : A) → p x ≡ true → last_such p (xs ++ x ∷ []) ≡ Some x
 last_such-yes p [] x e = rw e refl
 last_such-yes p (y ∷ ys) x e = rw (last_such-yes p ys x e) refl
 
--- one that does not pass changes nothing
+-- an appended element that does not pass changes nothing
 pub last_such-no : {A : Type 0} (p : A → Bool) (xs : List A) (x : A) → p x ≡ false → last_such p (xs ++ x ∷ []) ≡ last_such p xs
 last_such-no p [] x e = rw e refl
 last_such-no p (y ∷ ys) x e = rw (last_such-no p ys x e) refl
@@ -23,12 +23,12 @@ pub last_output-no : (p : RuleValue → Bool) (xs : List RuleValue) (i : ℕ) (d
     → last_output p (take (i + 1) xs) ≡ last_output p (take i xs)
 last_output-no p xs i d h e = ap (λ l. last_output p l) (take_more xs i d h) ∙ ap (option_map (λ rule. rule.output)) (last_such-no p (take i xs) (get_or xs i d) e)
 
--- a rule that passes is the last
+-- if the next rule lists the category, it determines the output
 pub listed : (p : RuleValue → Bool) (xs : List RuleValue) (i : ℕ) (d r : RuleValue) → i < length xs → r ≡ get_or xs i d → true ≡ p r
     → Some r.output ≡ last_output p (take (i + 1) xs)
 listed p xs i d r h is e = ap (λ rule. Some rule.output) is ∙ sym (last_output-yes p xs i d h (sym (e ∙ ap p is)))
 
--- one that does not pass leaves the output
+-- if the next rule does not list the category, the output stays
 pub left_out : (p : RuleValue → Bool) (xs : List RuleValue) (i : ℕ) (d r : RuleValue) {now : Option Output} → i < length xs → r ≡ get_or xs i d → false ≡ p r
     → now ≡ last_output p (take i xs) → now ≡ last_output p (take (i + 1) xs)
 left_out p xs i d r h is e so_far = so_far ∙ sym (last_output-no p xs i d h (sym (e ∙ ap p is)))

@@ -7,7 +7,7 @@ use Rattle.cell_cats.specs.RuleReading.{is_end, items_of}
 abbrev pub Item : Type 0
 Item = List ℕ × Option (List ℕ)
 
--- `thru` and the second word of a range, or no words
+-- `thru` and the second word if the item is a range, and otherwise no words
 abbrev pub range_words : Option (List ℕ) → List (List ℕ)
 range_words None = []
 range_words (Some b) = codes "thru" ∷ b ∷ []

@@ -44,7 +44,7 @@ last_such p (x ∷ xs) = option_or (last_such p xs) (if p x then Some x else Non
 abbrev pub last_output : (RuleValue → Bool) → List RuleValue → Option Output
 last_output p rules = option_map (λ rule. rule.output) (last_such p rules)
 
--- the output of the last rule that lists the category, or else of the last rule for `*`
+-- the output of the last rule that lists the category or, if no rule lists it, of the last rule for `*`
 abbrev pub output_for : List RuleValue → ℤ → Option Output
 output_for rules x = option_or (last_output (lists x) rules) (last_output is_star_rule rules)
 

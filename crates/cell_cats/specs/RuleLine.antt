@@ -1,4 +1,4 @@
--- Which line spells which rule (r.reclass manual; comments, blank lines and commas are our own choice).
+-- The rule that a line spells (r.reclass manual; comments, blank lines and commas are our own choice).
 use Rattle.std.specs.Prelude.{ℕ, ℤ, ◌≡◌, ◌≢◌, ◌<◌, ◌⊎◌, ◌==◌, Bool, true, false, List, [], ◌∷◌, ◌++◌, length, Option, Some, None, codes}
 use Rattle.std.specs.List.{before_first, after_first, list_any}
 use Rattle.cell_core_values.specs.Letters.{byte}

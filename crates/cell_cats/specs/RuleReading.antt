@@ -30,7 +30,7 @@ is_null_word word = bytes_eq word (codes "NULL") || bytes_eq word (codes "null")
 abbrev pub is_end : List ℕ → Bool
 is_end word = not (is_thru word) && not (is_star word)
 
--- the items with one more at the start, if both of its ends stand for numbers
+-- the items with another item at the start, if both of its ends stand for numbers
 abbrev pub with_item : List ℕ → List ℕ → Option (List (List ℕ × List ℕ)) → Option (List (List ℕ × List ℕ))
 with_item a b items = if is_end a && is_end b then option_map (λ more. (a, b) ∷ more) items else None
 
@@ -60,7 +60,7 @@ some_items (w ∷ words) = items_of (w ∷ words)
 abbrev pub left_side : List (List ℕ) → Option Left
 left_side words = if is_lone_star words then Some None else option_map Some (some_items words)
 
--- the word may be an output; `*` may only if the left side is `*`
+-- the word may be an output; `*` may be an output only if the left side is `*`
 abbrev pub is_output : Bool → List ℕ → Bool
 is_output star word = (is_word word && not (is_thru word)) && (star || not (is_star word))
 
@@ -101,7 +101,7 @@ abbrev pub rule_of : List ℕ → Result RuleValue RuleFault
 rule_of line =
     ok_or (pair_of line) BadRule >>= λ sides. ok_or (left_side (list_words_of sides.0)) BadRule >>= λ left. of_shape (trimmed_text sides.1) left
 
--- the kind of a line, and the rules after the line
+-- the kind of a line, and the rules after reading the line
 abbrev pub with_line : List RuleValue → List ℕ → Result (LineKind × List RuleValue) RuleFault
 with_line rules line =
     if is_skipped (trimmed_text line) then Ok (Skipped, rules)

@@ -1,4 +1,4 @@
--- Which rules keep every category, and worked examples of rule lines.
+-- The rule that keeps every category, and worked examples of rule lines.
 use Rattle.std.specs.Prelude.{pos, ◌≡◌, List, [], ◌∷◌, Some, None, Ok, Err, codes}
 use Rattle.cell_core.specs.Grid.{CellValue}
 use Rattle.cell_cats.specs.Rule.{RuleValue}

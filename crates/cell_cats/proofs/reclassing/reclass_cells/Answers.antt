@@ -16,7 +16,7 @@ use Rattle.cell_cats.proofs.reclassing.reclass_cells.Goals as goal
 row_inside : {row end rows : ℕ} → row < end → end ≡ rows → row < rows
 row_inside before all = omega arith
 
--- what holds of the kept bytes holds of those that are shown
+-- a property of the kept bytes also holds of the bytes shown
 shown : {V B : Type 0} (items : V → List ℕ) (now : B → List ℕ) (P : List ℕ → Type 0) (kept : Option V) (shows : Option B) (table : B)
     → shows ≡ Some table → option_map now shows ≡ option_map items kept → IfSome kept (λ bytes. P (items bytes)) → P (now table)
 shown items now P None shows table is same holds = let none : Some (now table) ≡ None = sym (ap (option_map now) is) ∙ same in cc
