@@ -1,4 +1,4 @@
--- A map of the numbers of its labels is a clumping.
+-- Replacing labels by numbers makes a map a clumping.
 use Rattle.std.proofs.Common.{◌≡◌, ℕ, zero, suc, ℤ, pos, true, ◌+◌, ◌*◌, ◌<◌, [], ◌∷◌, List, Some, None, IsSome, is_some, not, length, get_or, refl, ap, sym, ◌∙◌, arith, subst, ⊎_elim}
 use Rattle.std.specs.List.{Contains, AllPairs}
 use Rattle.std.proofs.lemmas.List.Elements.{Contains-append_left, Contains-push, Contains-push_cases, Contains-get_or}
@@ -58,7 +58,7 @@ module _ (j : Joining) (m : Grid) (table : List ℕ) (h : AreLabels j m table) w
   inside_table : (p : Position) (v : ℤ) → cell_at_position m p ≡ Some v → area_label_at m h.labels p < length table
   inside_table p v is = label_below j m table h.labels f rd p v is (read_all j m table h p v is)
 
-  -- where a label begins, and that it is the label there
+  -- each label has a place where its run begins, and it is the label of that place
   place_found : (k : ℕ) → k < length table → (x : ℕ) × (starts j m x ≡ k) × (cell_place m.region.cols (start_of_run j m k) ≡ x) × (begins j m (start_of_run j m k) ≡ true)
   place_found k lt =
       let total : length table ≡ starts j m (m.region.rows * m.region.cols) = rd.long ∙ ap (starts j m) h.long in
@@ -74,7 +74,7 @@ module _ (j : Joining) (m : Grid) (table : List ℕ) (h : AreLabels j m table) w
       let v = some_of (cell_at_position m (start_of_run j m k)) (start_some k lt) in
       rd.own (start_of_run j m k) (rd.inside (start_of_run j m k) v.0 v.1) t.3 (read_all j m table h (start_of_run j m k) v.0 v.1) ∙ ap (starts j m) t.2 ∙ t.1
 
-  -- a cell before the one whose own label it is has a smaller label
+  -- a cell before the first cell of a label has a smaller label
   label_before : (k : ℕ) (p : Position) (v : ℤ) → k < length table → cell_at_position m p ≡ Some v → IsEarlierCell p (start_of_run j m k) → area_label_at m h.labels p < k
   label_before k p v lt is less =
       let t = place_found k lt in
@@ -84,7 +84,7 @@ module _ (j : Joining) (m : Grid) (table : List ℕ) (h : AreLabels j m table) w
       let le = count_le j m (suc (cell_place m.region.cols p)) t.0 (omega arith) in
       omega arith
 
-  -- runs begin in the order of their labels
+  -- runs begin in ascending order of their labels
   starts_before : (i n : ℕ) → i < n → n < length table → IsEarlierCell (start_of_run j m i) (start_of_run j m n)
   starts_before i n lt inside =
       let v = some_of (cell_at_position m (start_of_run j m n)) (start_some n inside) in
@@ -134,7 +134,7 @@ module _ (j : Joining) (m : Grid) (table : List ℕ) (h : AreLabels j m table) w
             absurd (omega arith);
       }
 
-  -- a first cell is the one at which its run begins
+  -- the first cell of a clump is the cell at which the run of its label begins
   first_begins : (p : Position) → IsFirst j m p → start_of_run j m (f (area_label_at m h.labels p)) ≡ p
   first_begins p first =
       let v = some_of (cell_at_position m p) first.category in
@@ -152,7 +152,7 @@ module _ (j : Joining) (m : Grid) (table : List ℕ) (h : AreLabels j m table) w
       let low = rd.sound.reports.low (area_label_at m h.labels p) inside in
       sym (label_own (f (area_label_at m h.labels p)) (omega arith)) ∙ ap (area_label_at m h.labels) (first_begins p first)
 
-  -- the number of a cell
+  -- each cell that is not null has the number of its label
   pub has_number : (p : Position) (v : ℤ) → cell_at_position m p ≡ Some v → HasNumber j m p (area_number j m table (f (area_label_at m h.labels p)))
   has_number p v is =
       let g : ℕ = f (area_label_at m h.labels p) in
@@ -186,7 +186,7 @@ module _ (j : Joining) (m : Grid) (table : List ℕ) (h : AreLabels j m table) w
         count = refl;
       }
 
-  -- cells of one number are joined
+  -- cells with the same number are joined
   joined_from : (p q : Position) (v u : ℤ) → cell_at_position m p ≡ Some v → cell_at_position m q ≡ Some u → area_number j m table (f (area_label_at m h.labels p)) ≡ area_number j m table (f (area_label_at m h.labels q)) → AreJoined j m p q
   joined_from p q v u p_is q_is e =
       let same = number_apart j m table _ _ (open_is_first p v p_is) (open_is_first q u q_is) e in

@@ -1,4 +1,4 @@
--- The numbers of a clumping are 1 to the number of its areas.
+-- The numbers of a clumping run from 1 to the number of its areas.
 use Rattle.std.proofs.Common.{◌≡◌, ℕ, pos, ◌+◌, ◌-◌, ◌<◌, ◌≤◌, List, Some, None, IsSome, length, get_or, take, refl, ap, sym, ◌∙◌, arith, subst, inl, inr, ⊎_elim}
 use Rattle.std.specs.List.{Contains, AllPairs}
 use Rattle.std.proofs.lemmas.Bool.{cases_lt}
@@ -19,20 +19,20 @@ IsBefore-trans p q s (inl a) (inr b) = inl (let e = b.0 in omega arith)
 IsBefore-trans p q s (inr a) (inl b) = inl (let e = a.0 in omega arith)
 IsBefore-trans p q s (inr a) (inr b) = inr (a.0 ∙ b.0, let one = a.1 in let other = b.1 in omega arith)
 
--- what comes after a cell comes after each cell that is not after it
+-- a cell that does not come after another precedes each cell that follows the other
 before_also : (r f s : Position) → ¬ IsEarlierCell f r → IsEarlierCell f s → IsEarlierCell r s
 before_also r f s not_after before =
     ⊎_elim (λ e. subst (λ (q : Position). IsEarlierCell q s) (sym e) before)
     (λ apart. ⊎_elim (λ lt. IsBefore-trans r f s lt before) (λ lt. absurd (not_after lt)) apart)
     (cases_before r f)
 
--- a list of first cells in row order, which leaves out none before one of its own
+-- first cells in row order, with no first cell left out before the last of them
 pub record AreLeading (j : Joining) (m : Grid) (firsts : List Position) : Type 0 where
   pub in_order : AllPairs IsEarlierCell firsts
   pub are_first : (p : Position) → Contains firsts p → IsFirst j m p
   pub no_gap : (p q : Position) → IsFirst j m p → Contains firsts q → ¬ IsEarlierCell q p → Contains firsts p
 
--- the number of each of its cells
+-- each cell of the list has the number of its place, counted from 1
 number_at : (j : Joining) (m : Grid) (firsts : List Position) (d : Position) → AreLeading j m firsts → (i : ℕ) → i < length firsts → HasNumber j m (get_or firsts i d) (i + 1)
 number_at j m firsts d leading i lt =
     let f : Position = get_or firsts i d in
@@ -75,7 +75,7 @@ number_at j m firsts d leading i lt =
       count = long;
     }
 
--- so the number of a place in the list occurs
+-- each number up to the length of such a list of first cells occurs in the clumping
 occurs_at : (j : Joining) (m numbers : Grid) (firsts : List Position) → IsClumping j m numbers → AreLeading j m firsts → (n : ℕ) → 1 ≤ n → n ≤ length firsts → Occurs numbers n
 occurs_at j m numbers firsts clumping leading n least most =
     let q : Position = get_or firsts (n - 1) (position 0 0) in
@@ -91,7 +91,7 @@ some_cell : (x y : CellValue) → (x ≡ None → y ≡ None) → IsSome y → I
 some_cell None y nulls some = subst IsSome (nulls refl) some
 some_cell (Some v) y nulls some = refl
 
--- the first cells up to a cell
+-- the first cells up to a numbered cell leave out none
 leading_up_to : (j : Joining) (m : Grid) (p : Position) (n : ℕ) → (h : HasNumber j m p n) → AreLeading j m h.firsts
 leading_up_to j m p n h = record {
   in_order = h.up_to.in_order;
@@ -99,7 +99,7 @@ leading_up_to j m p n h = record {
   no_gap = λ s r is_first within not_before. (h.up_to.exactly s).1 (is_first, λ before. not_before (before_also r h.first s (((h.up_to.exactly r).0 within).1) before));
 }
 
--- a number is 1 at least
+-- each cell's number is at least 1
 least_number : (j : Joining) (m : Grid) (p : Position) (n : ℕ) → HasNumber j m p n → 1 ≤ n
 least_number j m p n h =
     let t = (h.up_to.exactly h.first).1 (h.is_first, λ before. IsBefore-asym h.first h.first before before) in

@@ -1,4 +1,4 @@
--- The table of labels after a write.
+-- A label table keeps its properties when an entry is overwritten.
 use Rattle.std.proofs.Common.{◌≡◌, ℕ, ◌+◌, ◌++◌, ◌∷◌, [], ◌<◌, ◌≤◌, List, length, get_or, set, refl, ap, sym, ◌∙◌, arith, subst, ⊎_elim, eqb, eq-eqb, cond, max, min, get_or-set_other, get_or-set_same}
 use Rattle.std.proofs.Math.ListN.{length-set}
 use Rattle.std.proofs.lemmas.List.{length_push, get_or_push, get_or_append_left}
@@ -6,7 +6,7 @@ use Rattle.std.proofs.lemmas.Grind.{common_steps}
 use Rattle.std.proofs.lemmas.Bool.{cases_eq, cases_lt, ne_eqb, cond-true, cond-false}
 use Rattle.cell_cats_areas.specs.parts.Labels.{PointDown, LeadsToOpen, closed_labels, after_join}
 
--- an entry after a write
+-- a property of every entry holds after one entry is overwritten, if it holds of the new entry
 at_set : (P : ℕ → Type 0) (table : List ℕ) (x v k : ℕ) → x < length table → (k ≡ x → P v) → ((k ≡ x → ⊥) → P (get_or table k 0)) → P (get_or (set table x v) k 0)
 at_set P table x v k inside same other =
     ⊎_elim (λ e. subst P (sym (ap (λ (i : ℕ). get_or (set table x v) i 0) e ∙ get_or-set_same table x v 0 inside)) (same e))
@@ -15,7 +15,7 @@ at_set P table x v k inside same other =
 pub PointDown-set : (table : List ℕ) (x v : ℕ) → x < length table → v ≤ x → PointDown table → PointDown (set table x v)
 PointDown-set table x v inside le down k = at_set (λ (n : ℕ). n ≤ k) table x v k inside (λ e. omega arith) (λ ne. down k)
 
--- a way is halved
+-- halving a path changes none of the open labels that labels lead to
 pub LeadsToOpen-halved : (table : List ℕ) (x : ℕ) (open_of : ℕ → ℕ) → PointDown table → x < length table → LeadsToOpen table open_of → LeadsToOpen (set table x (get_or table (get_or table x 0) 0)) open_of
 LeadsToOpen-halved table x open_of down inside reports =
     let next : ℕ = get_or table x 0 in
@@ -47,7 +47,7 @@ closed_high f high low k e = cond-true (eqb (f k) high) low (f k) (eq-eqb _ _ e)
 pub closed_other : (f : ℕ → ℕ) (high low k : ℕ) → (f k ≡ high → ⊥) → closed_labels f high low k ≡ f k
 closed_other f high low k ne = cond-false (eqb (f k) high) low (f k) (ne_eqb _ _ ne)
 
--- an open label is closed
+-- closing an open label redirects the labels that led to it
 LeadsToOpen-closed : (table : List ℕ) (high low : ℕ) (open_of : ℕ → ℕ) → high < length table → low ≤ high → get_or table high 0 ≡ high → get_or table low 0 ≡ low → LeadsToOpen table open_of → LeadsToOpen (set table high low) (closed_labels open_of high low)
 LeadsToOpen-closed table high low open_of inside le high_open low_open reports =
     let long = length-set table high low in
@@ -77,13 +77,13 @@ LeadsToOpen-closed table high low open_of inside le high_open low_open reports =
           ⊎_elim (λ e. let is = to_low k e in omega arith) (λ ne. let is = stays k ne in omega arith) (cases_eq (open_of k) high);
     }
 
--- what holds of two numbers both ways holds of the larger and the other
+-- a property of two numbers in either order holds of their maximum and minimum
 pub by_order : (P : ℕ → ℕ → Type 0) (x y : ℕ) → P x y → P y x → P (max x y) (min x y)
 by_order P x y one other =
     ⊎_elim (λ lt. let e : max x y ≡ y = omega arith in let d : min x y ≡ x = omega arith in rw (e, d) other)
     (λ le. let e : max x y ≡ x = omega arith in let d : min x y ≡ y = omega arith in rw (e, d) one) (cases_lt x y)
 
--- two labels are joined
+-- joining two labels makes the larger of their open labels point to the smaller
 pub LeadsToOpen-after : (table : List ℕ) (a b : ℕ) (open_of : ℕ → ℕ) → a < length table → b < length table → LeadsToOpen table open_of → LeadsToOpen (set table (max (open_of a) (open_of b)) (min (open_of a) (open_of b))) (after_join open_of a b)
 LeadsToOpen-after table a b open_of a_inside b_inside reports =
     let a_low = reports.low a a_inside in
@@ -93,7 +93,7 @@ LeadsToOpen-after table a b open_of a_inside b_inside reports =
     let both = by_order (λ h l. (get_or table h 0 ≡ h) × (get_or table l 0 ≡ l)) (open_of a) (open_of b) (a_open, b_open) (b_open, a_open) in
     LeadsToOpen-closed table (max (open_of a) (open_of b)) (min (open_of a) (open_of b)) open_of (omega arith) (omega arith) both.0 both.1 reports
 
--- the same, by the open labels that were found
+-- joining two labels by their open labels, once these were found
 pub LeadsToOpen-joined : (table : List ℕ) (a b first second high low : ℕ) (open_of : ℕ → ℕ) → a < length table → b < length table → LeadsToOpen table open_of → first ≡ open_of a → second ≡ open_of b → high ≡ max first second → low ≡ min first second → LeadsToOpen (set table high low) (after_join open_of a b)
 LeadsToOpen-joined table a b first second high low open_of a_inside b_inside reports e d high_is low_is =
     let high' : high ≡ max (open_of a) (open_of b) = omega arith in
@@ -101,7 +101,7 @@ LeadsToOpen-joined table a b first second high low open_of a_inside b_inside rep
     subst (λ (l : ℕ). LeadsToOpen (set table high l) (after_join open_of a b)) (sym low')
     (subst (λ (h : ℕ). LeadsToOpen (set table h (min (open_of a) (open_of b))) (after_join open_of a b)) (sym high') (LeadsToOpen-after table a b open_of a_inside b_inside reports))
 
--- ---- a label more, which is open
+-- ---- adding an open label
 
 pub down_more : (table : List ℕ) (l : ℕ) → PointDown table → l ≡ length table → PointDown (table ++ l ∷ [])
 down_more table l down own k = grind (arith, common_steps)

@@ -1,4 +1,4 @@
--- The number of a cell is one.
+-- Each cell has only one number.
 use Rattle.std.proofs.Common.{◌≡◌, ℕ, suc, pos, ◌+◌, ◌-◌, ◌<◌, ◌≤◌, [], ◌∷◌, List, Some, None, IsSome, length, get_or, drop, refl, ap, sym, ◌∙◌, arith, subst, inl, inr, ⊎_elim, ◌⊎◌}
 use Rattle.std.specs.List.{Contains, AllPairs}
 use Rattle.std.proofs.lemmas.List.{get_or_read, get_or_default, get_or-drop, length-drop, same_lists}
@@ -21,7 +21,7 @@ IsBefore-asym p q (inl a) (inr b) = absurd (let e = b.0 in omega arith)
 IsBefore-asym p q (inr a) (inl b) = absurd (let e = a.0 in omega arith)
 IsBefore-asym p q (inr a) (inr b) = absurd (let one = a.1 in let other = b.1 in omega arith)
 
--- of two cells one is before the other, or they are one
+-- two cells are the same, or one comes before the other
 pub cases_before : (p q : Position) → (p ≡ q) ⊎ (IsEarlierCell p q ⊎ IsEarlierCell q p)
 cases_before p q =
     ⊎_elim
@@ -30,7 +30,7 @@ cases_before p q =
     (λ apart. ⊎_elim (λ lt. inr (inl (inl lt))) (λ lt. inr (inr (inl lt))) apart)
     (cases_order p.row q.row)
 
--- of two lists in row order the one within the other is no longer
+-- of two lists in row order, one whose cells are all in the other is at most as long
 pub within_le : (xs ys : List Position) → AllPairs IsEarlierCell xs → AllPairs IsEarlierCell ys → ((p : Position) → Contains xs p → Contains ys p) → length xs ≤ length ys
 within_le [] ys xs_order ys_order within = omega arith
 within_le (x ∷ xs) ys xs_order ys_order within =
@@ -63,7 +63,7 @@ within_le (x ∷ xs) ys xs_order ys_order within =
     let long = length-drop (suc k) ys in
     omega arith
 
--- a cell has one number
+-- a cell has only one number
 pub HasNumber-one : (j : Joining) (m : Grid) (p : Position) (n k : ℕ) → HasNumber j m p n → HasNumber j m p k → n ≡ k
 HasNumber-one j m p n k h g =
     let joined = AreJoined-trans j m h.first p g.first h.joined (AreJoined-sym j m g.first p g.joined) in
@@ -81,7 +81,7 @@ HasNumber-one j m p n k h g =
     let k_is = g.count in
     omega arith
 
--- two clumpings have one number at each cell
+-- two clumpings of a map are equal at each cell
 cells_one : (j : Joining) (m a b : Grid) → IsClumping j m a → IsClumping j m b → (p : Position) → cell_at_position a p ≡ cell_at_position b p
 cells_one j m a b one other p = at_cell (cell_at_position m p) refl
   where
@@ -93,7 +93,7 @@ cells_one j m a b one other p = at_cell (cell_at_position m p) refl
         let k = other.numbered p some in
         n.2 ∙ ap (λ (i : ℕ). Some (pos i)) (HasNumber-one j m p n.0 k.0 n.1 k.1) ∙ sym k.2
 
--- maps of one region, of which each cell is the same, have the same rows
+-- maps with the same region and the same cells have the same rows
 pub same_rows : (a b : Grid) → IsFilled a.region a.rows → IsFilled b.region b.rows → a.region ≡ b.region → ((r c : ℕ) → r < a.region.rows → c < a.region.cols → cell_at a r c ≡ cell_at b r c) → a.rows ≡ b.rows
 same_rows a b a_filled b_filled region cells =
     let a_count = a_filled.count in

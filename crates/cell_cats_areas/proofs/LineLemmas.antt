@@ -1,4 +1,4 @@
--- What is in a line, while a row is read.
+-- The contents of a line while a row is read.
 use Rattle.std.proofs.Common.{◌≡◌, ℕ, ℤ, ◌+◌, ◌*◌, ◌<◌, ◌≤◌, ◌++◌, ◌∷◌, [], List, Some, None, length, replicate, get_or, set, refl, ap, sym, ◌∙◌, arith, subst, ⊎_elim, get_or-set_other, get_or-set_same}
 use Rattle.std.proofs.lemmas.Bool.{cases_lt}
 use Rattle.std.proofs.lemmas.List.{length-set, length_push, get_or_push, get_or_append_left, get_or_default, get_or-replicate, length-replicate}
@@ -14,35 +14,35 @@ use Rattle.cell_cats_areas.proofs.StartLemmas.{same_position, inside_map}
 use Rattle.cell_cats_areas.proofs.NearLemmas.{inside_near}
 use Rattle.cell_cats_areas.proofs.ReadLemmas.{read_nothing}
 
--- no cell lies there
+-- a null entry is correct for a place without a category
 reports_none : (m : Grid) (count : ℕ) (f : Position → ℕ) (Lies : Position → Type 0) (x : Labelled) → x.cell ≡ None → ((q : Position) (v : ℤ) → Lies q → cell_at_position m q ≡ Some v → ⊥) → IsLabelledCell m count f Lies x
 reports_none m count f Lies x none never = record {
   some = λ v e. absurd (let both : None ≡ Some v = sym none ∙ e in cc);
   all = λ q v lies is. absurd (never q v lies is);
 }
 
--- the same cell by another place
+-- an entry stays correct for an equal set of positions
 reports_as : (m : Grid) (count : ℕ) (f : Position → ℕ) (P Q : Position → Type 0) (x : Labelled) → ((q : Position) → P q → Q q) → ((q : Position) → Q q → P q) → IsLabelledCell m count f P x → IsLabelledCell m count f Q x
 reports_as m count f P Q x to from h = record {
   some = λ v e. let t = h.some v e in (t.0, to t.0 t.1, t.2, t.3, t.4);
   all = λ q v lies is. h.all q v (from q lies) is;
 }
 
--- and once more cells were read
+-- an entry stays correct after more cells were read
 reports_grown : (m : Grid) (count more : ℕ) (f g : Position → ℕ) (P : Position → Type 0) (x : Labelled) → count ≤ more → ((q : Position) → cell_place m.region.cols q < count → g q ≡ f q) → IsLabelledCell m count f P x → IsLabelledCell m more g P x
 reports_grown m count more f g P x le same h = record {
   some = λ v e. let t = h.some v e in (t.0, t.1, t.2, t.3 ∙ sym (same t.0 t.4), let lt = t.4 in omega arith);
   all = h.all;
 }
 
--- a cell that was just read
+-- the entry of a cell that was just read is correct
 pub leads_here : (m : Grid) (count : ℕ) (f : Position → ℕ) (r c : ℕ) (x : Labelled) → x.cell ≡ cell_at_position m (position r c) → ((v : ℤ) → cell_at_position m (position r c) ≡ Some v → x.label ≡ f (position r c)) → r * m.region.cols + c < count → IsLabelledCell m count f (IsCellAt r c) x
 leads_here m count f r c x cell label lt = record {
   some = λ v e. let is = sym cell ∙ e in (position r c, (refl, refl), is, label v is, lt);
   all = λ q v lies is. cell ∙ sym (ap (cell_at_position m) (same_position q r c lies.0 lies.1)) ∙ is;
 }
 
--- the neighbours of the next cell
+-- the entries next to a cell describe the neighbours of the next cell
 pub near_next : (m : Grid) → ((p : Position) (v : ℤ) → cell_at_position m p ≡ Some v → IsInside m p) → (count : ℕ) (f : Position → ℕ) (r c : ℕ) (line : List Labelled) → IsLine m count f r c line → (near : Near) → AreBeside m count f r c near → c < m.region.cols → AreNear m count f r c (near_at line c near)
 near_next m inside count f r c line is_line near beside c_in = record {
   left = beside.left;
@@ -55,14 +55,14 @@ near_next m inside count f r c line is_line near beside c_in = record {
       (cases_lt (c + 1) m.region.cols);
 }
 
--- at the left of a row
+-- two null entries describe the neighbours to the left of a row's first cell
 pub beside_first : (m : Grid) (count : ℕ) (f : Position → ℕ) (r : ℕ) (near : Near) → near.left.cell ≡ None → near.above.cell ≡ None → AreBeside m count f r 0 near
 beside_first m count f r near left above = record {
   left = reports_none m count f (IsLeft r 0) near.left left (λ q v lies is. let col = lies.1 in omega arith);
   upper_left = reports_none m count f (IsUpperLeft r 0) near.above above (λ q v lies is. let col = lies.1 in omega arith);
 }
 
--- ---- one cell more
+-- ---- reading one more cell
 
 module _ (m : Grid) (count more : ℕ) (f g : Position → ℕ) (le : count ≤ more) (same : (q : Position) → cell_place m.region.cols q < count → g q ≡ f q) (r c : ℕ) (x : Labelled) (here : IsLabelledCell m more g (IsCellAt r c) x) where
   pub line_next : (line : List Labelled) → c < m.region.cols → IsLine m count f r c line → IsLine m more g r (c + 1) (set line c x)
@@ -86,7 +86,7 @@ module _ (m : Grid) (count more : ℕ) (f g : Position → ℕ) (le : count ≤ 
         (λ q h. let col = h.1 in (h.0, omega arith)) (λ q h. let col = h.1 in (h.0, omega arith)) (reports_grown m count more f g (IsAbove r c) near.above le same n.above);
   }
 
--- the line at the next row
+-- a line read to the end of a row is the line at the start of the next row
 pub line_down : (m : Grid) (count : ℕ) (f : Position → ℕ) (r : ℕ) (line : List Labelled) → IsLine m count f r m.region.cols line → IsLine m count f (r + 1) 0 line
 line_down m count f r line h = record {
   wide = h.wide;
@@ -144,11 +144,11 @@ pub cells_down_labels : (j : Joining) (m : Grid) (table : List ℕ) (line : List
 unfolding cells_down
 cells_down_labels j m table line r c e h = refl
 
--- a cell of a row that was copied
+-- a cell of a copied row is the cell of the map
 pub copied : (m : Grid) (r c : ℕ) (cells : List CellValue) (x : CellValue) → cells ≡ row_at m r → c < length cells → x ≡ get_or cells c x → x ≡ cell_at_position m (position r c)
 copied m r c cells x e lt is = is ∙ get_or_default cells c x None lt ∙ ap (λ (xs : List CellValue). get_or xs c None) e
 
--- the line before the first row
+-- before the first row, the line holds only null
 pub line_empty : (m : Grid) (f : Position → ℕ) (line : List Labelled) (x : Labelled) → line ≡ replicate (m.region.cols + 1) x → x.cell ≡ None → IsLine m 0 f 0 0 line
 line_empty m f line x is none =
     let null : (k : ℕ) (d : Labelled) → k < m.region.cols + 1 → (get_or line k d).cell ≡ None = λ k d lt. ap (λ (xs : List Labelled). (get_or xs k d).cell) is ∙ ap (λ (y : Labelled). y.cell) (get_or-replicate (m.region.cols + 1) k x d lt) ∙ none in
@@ -167,6 +167,6 @@ cells_first j m line x filled is none = record {
   is_line = line_empty m (area_label_at m []) line x is none;
 }
 
--- a loop over the rows has come to the end
+-- after the loop, every row was read
 pub all_rows : {row end rows : ℕ} → end ≤ row → row ≤ end → end ≡ rows → row ≡ rows
 all_rows past within all = omega arith

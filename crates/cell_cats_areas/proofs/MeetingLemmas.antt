@@ -1,4 +1,4 @@
--- Labels whose cells meet are joined.
+-- Labels are joined if their cells are adjacent and have the same category.
 use Rattle.std.proofs.Common.{◌≡◌, ℕ, ℤ, ◌+◌, ◌++◌, ◌∷◌, [], ◌<◌, List, Option, Some, None, IsSome, is_some, false, length, refl, ap, sym, ◌∙◌, arith, subst, inl, inr, ⊎_elim, ◌⊎◌, eqb, cond, max, min}
 use Rattle.std.proofs.lemmas.Bool.{cases_eq, cases_lt}
 use Rattle.cell_core.specs.Grid.{Grid, CellValue}
@@ -14,19 +14,19 @@ use Rattle.cell_cats_areas.proofs.PathLemmas.{AreJoined-refl, AreJoined-trans, A
 closed_low : (f : ℕ → ℕ) (high low k : ℕ) → f k ≡ low → closed_labels f high low k ≡ low
 closed_low f high low k e = ⊎_elim (λ h. closed_high f high low k h) (λ ne. closed_other f high low k ne ∙ e) (cases_eq (f k) high)
 
--- two labels that were joined lead to one
+-- two labels that were joined lead to the same label
 pub after_join_one : (f : ℕ → ℕ) (a b : ℕ) → after_join f a b a ≡ after_join f a b b
 after_join_one f a b =
     by_order (λ h l. closed_labels f h l a ≡ closed_labels f h l b) (f a) (f b)
     (closed_high f (f a) (f b) a refl ∙ sym (closed_low f (f a) (f b) b refl))
     (closed_low f (f b) (f a) a refl ∙ sym (closed_high f (f b) (f a) b refl))
 
--- a cell is joined to the cell of the label that its own leads to
+-- the first cell of a label is joined to the first cell of the label that it leads to
 to_open : (j : Joining) (m : Grid) (table : List ℕ) (f : ℕ → ℕ) (k : ℕ) (v : ℤ) → AreSound j m table f → k < length table → cell_at_position m (start_of_run j m k) ≡ Some v → AreJoined j m (start_of_run j m k) (start_of_run j m (f k))
 to_open j m table f k v sound inside is =
     ⊎_elim (λ e. subst (λ (n : ℕ). AreJoined j m (start_of_run j m k) (start_of_run j m n)) (sym e) (AreJoined-refl j m (start_of_run j m k) v is)) (λ h. h) (sound.joined k inside)
 
--- a closed label's cells are joined to the cell of the one that it points to
+-- after a label is closed, its first cell is joined to the first cell of the label that it points to
 closed_joined : (j : Joining) (m : Grid) (f : ℕ → ℕ) (high low k : ℕ) → AreJoined j m (start_of_run j m high) (start_of_run j m low) → (f k ≡ k) ⊎ AreJoined j m (start_of_run j m k) (start_of_run j m (f k)) → (closed_labels f high low k ≡ k) ⊎ AreJoined j m (start_of_run j m k) (start_of_run j m (closed_labels f high low k))
 closed_joined j m f high low k joined here =
     let To : ℕ → Type 0 = λ n. (n ≡ k) ⊎ AreJoined j m (start_of_run j m k) (start_of_run j m n) in
@@ -37,7 +37,7 @@ closed_joined j m f high low k joined here =
     (λ h. AreJoined-trans j m (start_of_run j m k) (start_of_run j m high) (start_of_run j m low) (subst (λ (n : ℕ). AreJoined j m (start_of_run j m k) (start_of_run j m n)) e h) joined) here)))
     (λ ne. subst To (sym (closed_other f high low k ne)) here) (cases_eq (f k) high)
 
--- two labels whose cells are joined
+-- joining two labels is sound if their first cells are joined
 pub AreSound-joined : (j : Joining) (m : Grid) (table new : List ℕ) (f : ℕ → ℕ) (a b : ℕ) → AreSound j m table f → length new ≡ length table → LeadsToOpen new (after_join f a b) → a < length table → b < length table → AreJoined j m (start_of_run j m a) (start_of_run j m b) → AreSound j m new (after_join f a b)
 AreSound-joined j m table new f a b sound long reports a_inside b_inside near =
     let IsJoined : ℕ → ℕ → Type 0 = λ x y. AreJoined j m (start_of_run j m x) (start_of_run j m y) in
@@ -66,7 +66,7 @@ some_of (Some v) h = (v, refl)
 pub after_join_keeps : (f : ℕ → ℕ) (x y a b : ℕ) → f a ≡ f b → after_join f x y a ≡ after_join f x y b
 after_join_keeps f x y a b e = ap (λ (n : ℕ). cond (eqb n (max (f x) (f y))) (min (f x) (f y)) n) e
 
--- a label more
+-- adding an open label keeps the labels sound
 pub AreSound-push : (j : Joining) (m : Grid) (table : List ℕ) (open_of : ℕ → ℕ) → PointDown table → AreSound j m table open_of → AreSound j m (table ++ length table ∷ []) (extended open_of (length table))
 AreSound-push j m table open_of down sound = record {
   reports = LeadsToOpen-push table open_of down sound.reports;

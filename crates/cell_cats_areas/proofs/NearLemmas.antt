@@ -1,4 +1,4 @@
--- The labels that a cell shares with the neighbours that come before it.
+-- The labels that a cell shares with the neighbours before it.
 use Rattle.std.proofs.Common.{◌≡◌, ◌≢◌, ℕ, suc, ℤ, ◌+◌, ◌<◌, Bool, true, false, not, List, Option, Some, None, length, refl, ap, sym, ◌∙◌, arith, subst, inl, inr, ⊎_elim, ◌⊎◌}
 use Rattle.cell_core.specs.Grid.{Grid, CellValue}
 use Rattle.cell_core_values.specs.Cell.{cell_eq}
@@ -16,7 +16,7 @@ use Rattle.cell_cats_areas.proofs.PathLemmas.{AreJoined-adjacent, AreJoined-sym,
 use Rattle.cell_cats_areas.proofs.MeetingLemmas.{AreSound-joined, after_join_keeps, after_join_one}
 use Rattle.cell_cats_areas.proofs.StartLemmas.{same_position, earlier_adjacent, count_le, alike_from, alike_to}
 
--- what tests of cells say if one is a category
+-- a cell that equals a category is that category
 pub is_alike : (x y : CellValue) (v : ℤ) (b : Bool) → y ≡ Some v → b ≡ cell_eq x y → b ≡ true → x ≡ Some v
 is_alike x y v b is test yes' = alike_to x y v is (sym test ∙ yes')
 
@@ -29,7 +29,7 @@ ne_unlike x y v b is test yes' = is_unlike x y v (cell_eq x y) is refl (not-true
 pub ne_alike : (x y : CellValue) (v : ℤ) (b : Bool) → y ≡ Some v → b ≡ not (cell_eq x y) → b ≡ false → x ≡ Some v
 ne_alike x y v b is test no' = is_alike x y v (cell_eq x y) is refl (not-false _ (sym test ∙ no'))
 
--- a cell is to the left of another, or below it
+-- a cell is adjacent to the cell on its right
 beside : (j : Joining) (p q : Position) → p.row ≡ q.row → p.col + 1 ≡ q.col → AreAdjacent j p q
 beside Edges p q e d = inl (e, inl d)
 beside EdgesAndCorners p q e d = inl (inl (e, inl d))
@@ -38,7 +38,7 @@ below : (j : Joining) (p q : Position) → q.row + 1 ≡ p.row → p.col ≡ q.c
 below Edges p q e d = inr (inr e, d)
 below EdgesAndCorners p q e d = inl (inr (inr e, d))
 
--- a neighbour of a category, and what is known of it
+-- a neighbour with the same category, its label, and that it was read
 pub record Reported (m : Grid) (count : ℕ) (label_of : Position → ℕ) (q : Position) (v : ℤ) (x : Labelled) : Type 0 where
   pub cell : x.cell ≡ Some v
   pub is : cell_at_position m q ≡ Some v
@@ -68,7 +68,7 @@ module _ (m : Grid) (count : ℕ) (label_of : Position → ℕ) (r c : ℕ) (v :
       → Reported m count label_of q v near.upper_right
   label_upper_right = reported m count label_of (IsUpperRight r c) near.upper_right v n.upper_right (λ p q h g. let a = h.0 in let b = g.0 in let x = h.1 in let y = g.1 in same_position p q.row q.col (omega arith) (omega arith))
 
--- a label of the cells read is one of the table
+-- the label of each cell that was read is in the table
 pub label_below : (j : Joining) (m : Grid) (table labels : List ℕ) (open_of : ℕ → ℕ) → AreRowsRead j m table labels open_of → (q : Position) (v : ℤ) → cell_at_position m q ≡ Some v → WasRead m labels q → area_label_at m labels q < length table
 label_below j m table labels open_of rd q v is read =
     let few = rd.few q v is read in
@@ -91,11 +91,11 @@ module _ (j : Joining) (m : Grid) (r c : ℕ) (v : ℤ) (table labels : List ℕ
   abbrev ReportedOf : Position → Labelled → Type 0
   ReportedOf q x = Reported m (length labels) (area_label_at m labels) q v x
 
-  -- adjacent cells that were read
+  -- adjacent cells that were read lead to the same label
   met : (p q : Position) (x y : Labelled) → AreAdjacent j p q → ReportedOf p x → ReportedOf q y → f (area_label_at m labels p) ≡ f y.label
   met p q x y near t s = rd.meet p q v near t.is s.is t.read s.read ∙ ap f (sym s.label)
 
-  -- no labels are joined
+  -- a cell takes a neighbour's label if every earlier neighbour leads to the same label
   pub shared : (q : Position) (x : Labelled) → IsEarlier j r c q → ReportedOf q x → ((p : Position) → IsEarlier j r c p → cell_at_position m p ≡ Some v → f (area_label_at m labels p) ≡ f x.label) → Shares j m table labels f r c v x.label
   shared q x earlier t meet = record {
     after = f;
@@ -108,7 +108,7 @@ module _ (j : Joining) (m : Grid) (r c : ℕ) (v : ℤ) (table labels : List ℕ
     meet = meet;
   }
 
-  -- two are
+  -- a cell takes a label after the labels of two neighbours were joined
   pub shared_joined : (new : List ℕ) (p q : Position) (x y : Labelled) → cell_at_position m (position r c) ≡ Some v → IsEarlier j r c p → IsEarlier j r c q → ReportedOf p x → ReportedOf q y → length new ≡ length table → LeadsToOpen new (after_join f x.label y.label) → ((s : Position) → IsEarlier j r c s → cell_at_position m s ≡ Some v → (f (area_label_at m labels s) ≡ f x.label) ⊎ (f (area_label_at m labels s) ≡ f y.label)) → Shares j m new labels f r c v y.label
   shared_joined new p q x y is p_earlier q_earlier t s long reports meet =
       let to_start : (k : Position) (z : Labelled) → ReportedOf k z → AreJoined j m (start_of_run j m z.label) k = λ k z reported. subst (λ (l : ℕ). AreJoined j m (start_of_run j m l) k) (sym reported.label) (rd.joined k v reported.is reported.read) in
@@ -128,7 +128,7 @@ module _ (j : Joining) (m : Grid) (r c : ℕ) (v : ℤ) (table labels : List ℕ
         meet = λ k earlier k_is. ⊎_elim (λ e. after_join_keeps f x.label y.label _ x.label e ∙ after_join_one f x.label y.label) (λ e. after_join_keeps f x.label y.label _ y.label e) (meet k earlier k_is);
       }
 
--- ---- by edges
+-- ---- neighbours by edges
 
 module _ (m : Grid) (r c : ℕ) (v : ℤ) (table labels : List ℕ) (f : ℕ → ℕ) (near : Near) (n : AreNear m (length labels) (area_label_at m labels) r c near) (rd : AreRowsRead Edges m table labels f) where
   pub edges_above : (near.left.cell ≡ Some v → ⊥) → near.above.cell ≡ Some v → Shares Edges m table labels f r c v near.above.label
@@ -160,10 +160,10 @@ module _ (m : Grid) (r c : ℕ) (v : ℤ) (table labels : List ℕ) (f : ℕ →
       (λ p earlier p_is. ⊎_elim (λ h. inr (ap f (sym (label_left m (length labels) (area_label_at m labels) r c v near n p h p_is).label)))
       (λ h. inl (ap f (sym (label_above m (length labels) (area_label_at m labels) r c v near n p h p_is).label))) earlier)
 
--- ---- by edges and corners
+-- ---- neighbours by edges and corners
 
 module _ (m : Grid) (r c : ℕ) (v : ℤ) (table labels : List ℕ) (f : ℕ → ℕ) (near : Near) (n : AreNear m (length labels) (area_label_at m labels) r c near) (rd : AreRowsRead EdgesAndCorners m table labels f) where
-  -- what holds of each neighbour of the category
+  -- a property that holds of each of the four neighbours holds of every earlier neighbour
   each : (P : Position → Type 0) → ((p : Position) → IsLeft r c p → Reported m (length labels) (area_label_at m labels) p v near.left → P p) → ((p : Position) → IsAbove r c p → Reported m (length labels) (area_label_at m labels) p v near.above → P p) → ((p : Position) → IsUpperLeft r c p → Reported m (length labels) (area_label_at m labels) p v near.upper_left → P p) → ((p : Position) → IsUpperRight r c p → Reported m (length labels) (area_label_at m labels) p v near.upper_right → P p) → (p : Position) → IsEarlier EdgesAndCorners r c p → cell_at_position m p ≡ Some v → P p
   each P left above upper_left upper_right p (inl (inl h)) is = left p h (label_left m (length labels) (area_label_at m labels) r c v near n p h is)
   each P left above upper_left upper_right p (inl (inr h)) is = above p h (label_above m (length labels) (area_label_at m labels) r c v near n p h is)
@@ -181,13 +181,13 @@ module _ (m : Grid) (r c : ℕ) (v : ℤ) (table labels : List ℕ) (f : ℕ →
       (λ p h s. let a = h.0 in let b = h.1 in met EdgesAndCorners m r c v table labels f rd p t.0 near.upper_left near.above (beside EdgesAndCorners p t.0 (omega arith) (omega arith)) s t.2)
       (λ p h s. let a = h.0 in let b = h.1 in sym (met EdgesAndCorners m r c v table labels f rd t.0 p near.above near.upper_right (beside EdgesAndCorners t.0 p (omega arith) (omega arith)) t.2 s ∙ ap f s.label) ∙ ap f (sym t.2.label)))
 
-  -- the upper left neighbour touches the left one
+  -- the upper left neighbour is adjacent to the left one, so both lead to the same label
   under_left : (p l : Position) → IsUpperLeft r c p → IsLeft r c l → Reported m (length labels) (area_label_at m labels) p v near.upper_left → Reported m (length labels) (area_label_at m labels) l v near.left → f (area_label_at m labels p) ≡ f near.left.label
   under_left p l h g s t =
       let a = h.0 in let b = h.1 in let z = g.0 in let w = g.1 in
       sym (met EdgesAndCorners m r c v table labels f rd l p near.left near.upper_left (below EdgesAndCorners l p (omega arith) (omega arith)) t s ∙ ap f s.label) ∙ ap f (sym t.label)
 
-  -- the neighbour above touches the left one
+  -- the neighbour above is adjacent to the left one, so both lead to the same label
   over_left : (p l : Position) → IsAbove r c p → IsLeft r c l
       → Reported m (length labels) (area_label_at m labels) p v near.above → Reported m (length labels)
       (area_label_at m labels) l v near.left → f (area_label_at m labels p) ≡ f near.left.label

@@ -15,7 +15,7 @@ use Rattle.cell_cats_areas.specs.parts.AreaNumbers.{is_first, firsts_below, area
 use Rattle.cell_cats_areas.specs.parts.LabelTables.{AreLabels}
 use Rattle.cell_cats_areas.proofs.StartLemmas.{grows, place_inside, starts_most}
 
--- ---- the count of open labels, place by place
+-- ---- counting open labels, place by place
 
 pub firsts_more : (j : Joining) (m : Grid) (labels : List ℕ) (k : ℕ) → is_first labels k ≡ true → firsts_below j m labels (suc k) ≡ firsts_below j m labels k ++ start_of_run j m k ∷ []
 firsts_more j m labels k is = cond-true (is_first labels k) _ _ is
@@ -38,7 +38,7 @@ count_most j m labels (suc k) =
     ⊎_elim (λ yes'. let e = count_more j m labels k yes' in omega arith)
     (λ no'. let e = ap (length {A = Position}) (firsts_same j m labels k no') in omega arith) (cases_Bool (is_first labels k))
 
--- of two open labels the larger has the larger number
+-- a larger open label has a larger number
 pub number_lt : (j : Joining) (m : Grid) (labels : List ℕ) (a b : ℕ) → a < b → is_first labels b ≡ true → area_number j m labels a < area_number j m labels b
 number_lt j m labels a b lt is =
     let before = grows (λ n. length (firsts_below j m labels n)) (count_step j m labels) (suc a) b (omega arith) in
@@ -51,9 +51,9 @@ number_apart j m labels a b a_is b_is same =
     (λ apart. ⊎_elim (λ lt. absurd (let less = number_lt j m labels a b lt b_is in omega arith)) (λ lt. absurd (let less = number_lt j m labels b a lt a_is in omega arith)) apart)
     (cases_order a b)
 
--- ---- a pass over the table, place by place
+-- ---- numbering the table, place by place
 
--- a write of the number of the open label
+-- writing the number of the open label extends the numbered places by one
 number_written : (j : Joining) (m : Grid) (labels : List ℕ) (open_of : ℕ → ℕ) (place : ℕ) (table : List ℕ) (count new v : ℕ) → AreNumbered j m labels open_of place table count → place < length table → v ≡ area_number j m labels (open_of place) → new ≡ length (firsts_below j m labels (suc place)) → AreNumbered j m labels open_of (place + 1) (set table place v) new
 number_written j m labels open_of place table count new v h inside is counted = record {
   long = length-set table place v ∙ h.long;
@@ -73,7 +73,7 @@ AreNumbered-open j m labels open_of place table count sound h inside here =
     let counted : count + 1 ≡ length (firsts_below j m labels (suc place)) = ap (λ (n : ℕ). n + 1) h.counted ∙ sym more in
     number_written j m labels open_of place table count (count + 1) (count + 1) h inside (counted ∙ ap (λ (n : ℕ). area_number j m labels n) (sym is)) counted
 
--- a closed label gets the number of the one that it points to
+-- a closed label gets the number of the label that it points to
 pub AreNumbered-closed : (j : Joining) (m : Grid) (labels : List ℕ) (open_of : ℕ → ℕ) (place : ℕ) (table : List ℕ) (count : ℕ) → AreSound j m labels open_of → AreNumbered j m labels open_of place table count → place < length table → get_or table place 0 < place → AreNumbered j m labels open_of (place + 1) (set table place (get_or table (get_or table place 0) 0)) count
 AreNumbered-closed j m labels open_of place table count sound h inside less =
     let long = h.long in
@@ -84,7 +84,7 @@ AreNumbered-closed j m labels open_of place table count sound h inside less =
     let same = firsts_same j m labels place (ne_eqb _ _ (λ e. absurd (omega arith))) in
     number_written j m labels open_of place table count count (get_or table up 0) h inside is (h.counted ∙ ap (length {A = Position}) (sym same))
 
--- before the pass
+-- the table can be numbered from its first place
 pub CanNumber-first : (table : List ℕ) → PointDown table → CanNumber 0 table
 CanNumber-first table down = record {
   down = λ k le. down k;
@@ -115,7 +115,7 @@ module _ (j : Joining) (m : Grid) (table : List ℕ) (h : AreLabels j m table) w
   pub read_all : (p : Position) (v : ℤ) → cell_at_position m p ≡ Some v → WasRead m h.labels p
   read_all p v is = let lt = place_inside m p (h.has_read.read.inside p v is) in let long = h.long in omega arith
 
--- a table is no longer than a map has cells
+-- a table has at most as many labels as the map has cells
 pub table_short : (j : Joining) (m : Grid) (table : List ℕ) → AreLabels j m table → IsRegion m.region → length table < 2147483648
 table_short j m table h region =
     let most = starts_most j m (length h.labels) in
@@ -124,7 +124,7 @@ table_short j m table h region =
     let cells = region.cells_most in
     omega arith
 
--- the labels of one more row are not too many
+-- adding a row's labels keeps the count within its limit
 pub row_fits : (e : RegionValue) (count row : ℕ) → IsRegion e → row < e.rows → count ≤ row * e.cols → count + e.cols < 2147483648
 row_fits e count row is inside most =
     let cells = is.cells_most in

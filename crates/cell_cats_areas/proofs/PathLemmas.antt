@@ -1,4 +1,4 @@
--- Paths: each cell is joined to itself, both ways, and onwards.
+-- Paths: each cell is joined to itself, paths can be reversed, and paths can be chained.
 use Rattle.std.proofs.Common.{◌≡◌, ℕ, ℤ, ◌++◌, [], ◌∷◌, List, Some, refl, ap, sym, ◌∙◌, subst, inl, inr}
 use Rattle.std.specs.List.{All}
 use Rattle.std.proofs.lemmas.List.Elements.{All-nil, All-cons, All-head, All-tail, All-append}
@@ -20,12 +20,12 @@ AreAdjacent-sym Edges p q h = ShareEdge-sym p q h
 AreAdjacent-sym EdgesAndCorners p q (inl h) = inl (ShareEdge-sym p q h)
 AreAdjacent-sym EdgesAndCorners p q (inr h) = inr (AreNeighbours-sym _ _ h.0, AreNeighbours-sym _ _ h.1)
 
--- two ways, one within_rest the other
+-- two paths, the second from the end of the first, make one path
 LeadsTo-append : (j : Joining) (p : Position) (xs : List Position) (q : Position) (ys : List Position) (r : Position) → LeadsTo j p xs q → LeadsTo j q ys r → LeadsTo j p (xs ++ ys) r
 LeadsTo-append j p [] q ys r h k = subst (λ (s : Position). LeadsTo j s ys r) (sym h) k
 LeadsTo-append j p (x ∷ xs) q ys r h k = (h.0, LeadsTo-append j x xs q ys r h.1 k)
 
--- the last cell of a way over cells of the same category has it
+-- the last cell of a path over cells of one category has that category
 last_alike : (j : Joining) (m : Grid) (v : ℤ) (p : Position) (xs : List Position) (q : Position) → LeadsTo j p xs q → All (λ s. cell_at_position m s ≡ Some v) (p ∷ xs) → cell_at_position m q ≡ Some v
 last_alike j m v p [] q h all = ap (cell_at_position m) (sym h) ∙ All-head (λ s. cell_at_position m s ≡ Some v) p [] all
 last_alike j m v p (x ∷ xs) q h all = last_alike j m v x xs q h.1 (All-tail (λ s. cell_at_position m s ≡ Some v) p (x ∷ xs) all)
@@ -67,7 +67,7 @@ AreJoined-trans j m p q r h k =
           (All-tail (λ s. cell_at_position m s ≡ Some h.category) q k.others (subst (λ (v : ℤ). All (λ s. cell_at_position m s ≡ Some v) (q ∷ k.others)) same k.alike));
     }
 
--- a way back
+-- a path can be followed back
 back : (j : Joining) (m : Grid) (v : ℤ) (p : Position) (xs : List Position) (q : Position) → LeadsTo j p xs q → All (λ s. cell_at_position m s ≡ Some v) (p ∷ xs) → AreJoined j m q p
 back j m v p [] q h all = subst (λ (s : Position). AreJoined j m s p) h (AreJoined-refl j m p v (All-head (λ s. cell_at_position m s ≡ Some v) p [] all))
 back j m v p (x ∷ xs) q h all =
@@ -79,7 +79,7 @@ back j m v p (x ∷ xs) q h all =
 pub AreJoined-sym : (j : Joining) (m : Grid) (p q : Position) → AreJoined j m p q → AreJoined j m q p
 AreJoined-sym j m p q h = back j m h.category p h.others q h.leads h.alike
 
--- what is the same at adjacent cells of the same category is the same at joined cells
+-- a function equal at adjacent cells of the same category is equal at joined cells
 along : (j : Joining) (m : Grid) (f : Position → ℕ) → ((p q : Position) (v : ℤ) → AreAdjacent j p q → cell_at_position m p ≡ Some v → cell_at_position m q ≡ Some v → f p ≡ f q) → (v : ℤ) (p : Position) (xs : List Position) (q : Position) → LeadsTo j p xs q → All (λ s. cell_at_position m s ≡ Some v) (p ∷ xs) → f p ≡ f q
 along j m f step v p [] q h all = ap f h
 along j m f step v p (x ∷ xs) q h all =

@@ -1,4 +1,4 @@
--- One cell more was read.
+-- One more cell is read.
 use Rattle.std.proofs.Common.{◌≡◌, ℕ, suc, ℤ, true, ◌+◌, ◌*◌, ◌<◌, ◌++◌, ◌∷◌, [], List, Some, None, length, take, drop, refl, ap, sym, ◌∙◌, arith, subst, ⊎_elim}
 use Rattle.std.proofs.lemmas.Bool.{cases_lt, both_ways}
 use Rattle.std.proofs.lemmas.List.{length_push, get_or_push, get_or_append_left, take_at}
@@ -17,7 +17,7 @@ use Rattle.cell_cats_areas.proofs.NearLemmas.{label_below}
 use Rattle.cell_cats_areas.proofs.PathLemmas.{AreAdjacent-sym, AreJoined-adjacent, AreJoined-refl, AreJoined-trans}
 use Rattle.cell_cats_areas.proofs.StartLemmas.{one_place, place_lt, earlier_adjacent, earlier_before, adjacent_earlier, begins_none, begins_from, begins_null, count_begins, count_stays, start_here}
 
--- a cell with a smaller place comes before
+-- a cell with a smaller place comes earlier
 pub before_of : (w : ℕ) (p q : Position) → p.col < w → q.col < w → cell_place w p < cell_place w q → IsEarlierCell p q
 before_of w p q p_in q_in lt =
     ⊎_elim (λ e. absurd (let same = ap (cell_place w) e in omega arith))
@@ -25,7 +25,7 @@ before_of w p q p_in q_in lt =
     (cases_before p q)
 
 module _ (j : Joining) (m : Grid) (table labels : List ℕ) (f : ℕ → ℕ) (rd : AreRowsRead j m table labels f) (r c l : ℕ) (c_in : c < m.region.cols) (count : length labels ≡ r * m.region.cols + c) where
-  -- the labels with this one
+  -- the labels, with this cell's label appended
   abbrev pub one_more : List ℕ
   one_more = labels ++ l ∷ []
 
@@ -38,7 +38,7 @@ module _ (j : Joining) (m : Grid) (table labels : List ℕ) (f : ℕ → ℕ) (r
   last : area_label_at m one_more (position r c) ≡ l
   last = get_or_push labels l 0 (r * m.region.cols + c) count
 
-  -- what holds of each cell read before, and of this one
+  -- a property of each cell that was read before, and of this cell, holds of every cell read
   by_cell : (P : Position → ℕ → Type 0) (q : Position) → q.col < m.region.cols → WasRead m one_more q → (WasRead m labels q → P q (area_label_at m labels q)) → P (position r c) l → P q (area_label_at m one_more q)
   by_cell P q q_in read old new =
       ⊎_elim (λ lt. subst (P q) (sym (kept q lt)) (old lt))
@@ -71,7 +71,7 @@ module _ (j : Joining) (m : Grid) (table labels : List ℕ) (f : ℕ → ℕ) (r
         (λ near_y y_is. refl) near_x q_is) near p_is;
   }
 
-  -- a null cell
+  -- a null cell was read
   pub read_null : cell_at_position m (position r c) ≡ None → HasRead j m table one_more
   read_null is =
       let none = begins_null j m (position r c) is in
@@ -85,7 +85,7 @@ module _ (j : Joining) (m : Grid) (table labels : List ℕ) (f : ℕ → ℕ) (r
             (λ q v _ _ e _. absurd (never v e));
       }
 
-  -- one that shares a label
+  -- the cell shares the label of a neighbour
   pub read_shared : (new : List ℕ) (v : ℤ) → cell_at_position m (position r c) ≡ Some v → length new ≡ length table → Shares j m new labels f r c v l → HasRead j m new one_more
   read_shared new v is same s =
       let near = earlier_adjacent j r c s.from s.earlier in
@@ -109,7 +109,7 @@ module _ (j : Joining) (m : Grid) (table labels : List ℕ) (f : ℕ → ℕ) (r
             (λ q u earlier q_is e _. let both : Some v ≡ Some u = sym is ∙ e in let one : u ≡ v = cc in s.meet q earlier (q_is ∙ ap Some one));
       }
 
-  -- one that gets a label of its own
+  -- the cell gets a label of its own
   pub read_new : (v : ℤ) → cell_at_position m (position r c) ≡ Some v → PointDown table → ((q : Position) → IsEarlier j r c q → cell_at_position m q ≡ Some v → ⊥) → l ≡ length table → HasRead j m (table ++ l ∷ []) one_more
   read_new v is down none own =
       let begun = begins_from j m r c v is none in
@@ -132,11 +132,11 @@ module _ (j : Joining) (m : Grid) (table labels : List ℕ) (f : ℕ → ℕ) (r
             (λ q u earlier q_is e _. absurd (let both : Some v ≡ Some u = sym is ∙ e in let one : u ≡ v = cc in none q earlier (q_is ∙ ap Some one)));
       }
 
--- a slice of a vector's items, once it is written back
+-- writing back a slice of the same length replaces the items
 pub written_back : (new items : List ℕ) (n : ℕ) → length new ≡ n → take n (new ++ drop (length new) items) ≡ new
 written_back new items n e = take_at new (drop (length new) items) n e
 
--- no cell was read yet
+-- before the first cell, nothing was read
 pub read_nothing : (j : Joining) (m : Grid) → ((p : Position) (v : ℤ) → cell_at_position m p ≡ Some v → IsInside m p) → HasRead j m [] []
 read_nothing j m inside = record {
   open_of = λ k. k;

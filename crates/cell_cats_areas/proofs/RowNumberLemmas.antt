@@ -1,4 +1,4 @@
--- The numbers in place of the labels that were kept.
+-- The kept labels are replaced by numbers.
 use Rattle.std.proofs.Common.{◌≡◌, ℕ, zero, suc, pos, ◌<◌, ◌≤◌, List, [], ◌∷◌, ◌++◌, All, Some, None, length}
 use Rattle.std.proofs.Common.{replicate, map, get_or, refl, ap, sym, ◌∙◌, arith, subst}
 use Rattle.std.proofs.lemmas.List.{length-map, map-append, get_or_default, get_or_past}

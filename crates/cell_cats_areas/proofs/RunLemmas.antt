@@ -1,4 +1,4 @@
--- The runs of a row are labelled, one after another.
+-- The runs of a row are labelled one after another.
 use Rattle.std.proofs.Common.{◌≡◌, ℕ, zero, suc, ℤ, ◌+◌, ◌-◌, ◌*◌, ◌<◌, ◌≤◌, ◌⊎◌, List, [], ◌∷◌, ◌++◌, All, Some}
 use Rattle.std.proofs.Common.{None, length, replicate, map, drop, get_or, set, refl, ap, sym, ◌∙◌}
 use Rattle.std.proofs.Common.{arith, subst, inl, inr, ⊎_elim, append_assoc, IsSome}
@@ -33,14 +33,14 @@ use Rattle.cell_cats_areas.proofs.NearLemmas.{corners_left, edges_left}
 use Rattle.cell_cats_areas.proofs.ReadLemmas.{read_null, read_shared}
 use Rattle.cell_cats_areas.proofs.StartLemmas.{same_position}
 
--- ---- what is still to come of a row
+-- ---- the cells of a row that are still to come
 
 after_first : (rest : List Labelled) (d : Labelled)
     → get_or (rest ++ no_neighbour ∷ []) 0 d ≡ get_or rest 0 no_neighbour
 after_first [] d = refl
 after_first (b ∷ rest) d = refl
 
--- the first cells alike, and the others
+-- equal cells can be split into the first s of them and the others
 pub alike_first : (n s : ℕ) (a : Labelled) (xs : List Labelled) → s ≤ n
     → replicate n a ++ xs ≡ replicate s a ++ drop s (replicate n a ++ xs)
 alike_first n s a xs le =
@@ -53,7 +53,7 @@ alike_first n s a xs le =
     ∙ append_assoc (replicate s a) (replicate (n - s) a) xs
     ∙ ap (λ (l : List Labelled). replicate s a ++ l) (sym rest)
 
--- ---- one cell more
+-- ---- reading one more cell
 
 kept_grown : (m : Grid) (labels : List ℕ) (l : ℕ) (kept : List (List ℕ)) → AreKeptLabels m labels kept
     → AreKeptLabels m (labels ++ l ∷ []) kept
@@ -65,7 +65,7 @@ kept_grown m labels l kept k = record {
   null = k.null;
 }
 
--- of a line
+-- after one more cell of a line was read, the line holds the cell and its label
 pub walked_cell : (j : Joining) (m : Grid) (kept : List (List ℕ)) (table : List ℕ) (line : List Labelled) (r c : ℕ)
     (near : Near) (w : AreWalked j m kept table line r c near) → c < m.region.cols → (after : Near)
     → after ≡ near_at line c near → (new : List ℕ) (z : Labelled) → z.cell ≡ cell_at_position m (position r c)
@@ -81,7 +81,7 @@ walked_cell j m kept table line r c near w c_in after moved new z cell has_read 
 module _ (j : Joining) (m : Grid) (kept : List (List ℕ)) (table : List ℕ) (done : List Labelled) (a : Labelled)
     (rest : List Labelled) (r : ℕ) (near : Near) (w : IsWalked j m kept table done (a ∷ rest) r near)
     (c_in : length done < m.region.cols) where
-  -- the neighbours of the next cell
+  -- the neighbours of the next cell in the row
   abbrev pub next_near : Near
   next_near = record { left = near.left; upper_left = near.above; above = a; upper_right = get_or rest 0 no_neighbour }
 
@@ -127,7 +127,7 @@ module _ (j : Joining) (m : Grid) (kept : List (List ℕ)) (table : List ℕ) (d
       (subst (λ (l : List Labelled). AreWalked j m kept new l r (length done + 1) (record next_near
       { left = z })) line_is next)
 
--- how a cell shares the label of the one on its left, if the same is above both
+-- a cell shares the label on its left if the neighbours above both cells are the same
 shares_left : (j : Joining) (m : Grid) (table labels : List ℕ) (f : ℕ → ℕ) (r c : ℕ) (v : ℤ) (near : Near)
     → AreNear m (length labels) (area_label_at m labels) r c near → AreRowsRead j m table labels f
     → near.left.cell ≡ Some v → near.upper_left ≡ near.above → (j ≡ Edges) ⊎ (near.upper_right ≡ near.above)
@@ -140,7 +140,7 @@ shares_left EdgesAndCorners m table labels f r c v near n rd left same right = c
     (x : Labelled). x.cell) (sym also) ∙ e) right)
 
 module _ (j : Joining) (m : Grid) (kept : List (List ℕ)) (table : List ℕ) (r : ℕ) (near : Near) where
-  -- a cell like the one on its left
+  -- a cell equal to the one on its left was read
   walked_on : (done rest : List Labelled) → IsWalked j m kept table done (near.above ∷ rest) r near
       → length done < m.region.cols → near.left.cell ≡ cell_at_position m (position r (length done)) → (j ≡ Edges) ⊎
       (get_or rest 0 no_neighbour ≡ near.above) → IsWalked j m kept table (done ++ near.left ∷ []) rest r near
@@ -170,7 +170,7 @@ module _ (j : Joining) (m : Grid) (kept : List (List ℕ)) (table : List ℕ) (r
           (next_are_near j m kept table done near.above rest r near w c_in) w.reading.cells.has_read.read (cell
           ∙ e) refl right)
 
-  -- the same over n cells
+  -- n cells equal to the one on their left were read
   walked_over : (n : ℕ) (done rest : List Labelled)
       → IsWalked j m kept table done (replicate n near.above ++ rest) r near → length done + n ≤ m.region.cols →
       ((k : ℕ) → k < n → near.left.cell ≡ cell_at_position m (position r (length done + k)))
@@ -203,7 +203,7 @@ module _ (j : Joining) (m : Grid) (kept : List (List ℕ)) (table : List ℕ) (r
 
 module _ (j : Joining) (m : Grid) (kept : List (List ℕ)) (table : List ℕ) (done coming : List Labelled) (r : ℕ)
     (near : Near) (w : IsWalked j m kept table done coming r near) where
-  -- as much is to come as the row is wider than what was read
+  -- the cells read and the cells still to come fill the row
   pub still_to_come : length done + length coming ≡ m.region.cols
   still_to_come = omega (
     arith,
@@ -238,7 +238,7 @@ alike_less j above n s alike le some = (
   ⊎_elim (λ edges. inl edges) (⊎_elim (λ one. inr (inl (omega arith))) (λ lt. inr (inr (omega arith)))) alike.1,
 )
 
--- the same neighbour comes after the cells alike
+-- after the cells with like neighbours above, the next neighbour above is the same
 alike_after : (j : Joining) (above : Above) (line : List (Labelled × ℕ)) (s : ℕ)
     → HaveLikeNeighbours j above (suc s) → (s ≡ 0) ⊎ ((j ≡ Edges) ⊎ (get_or (drop (suc s)
     (cells_to_come above line)) 0 no_neighbour ≡ above.cell))
@@ -315,7 +315,7 @@ pub same_label : (cell : CellValue) (old new : ℕ) → (cell ≡ None → old �
 same_label None old new old_none new_none same = old_none refl ∙ sym (new_none refl)
 same_label (Some v) old new old_none new_none same = sym (same refl)
 
--- the runs that are next in a row
+-- the length of the next runs is the length of the first run and of the others
 pub run_ahead : (runs rest : List RunValue) (run : RunValue) → runs ≡ run ∷ rest
     → length (written_out runs) ≡ run.1 + length (written_out rest)
 run_ahead runs rest run e = ap (λ (l : List RunValue). length (written_out l)) e
@@ -338,7 +338,7 @@ run_past at n row rest x cells =
     ∙ ap (λ (k : ℕ). drop k (replicate n x ++ rest)) (sym (length-replicate n x))
     ∙ drop-append_seam (replicate n x) rest
 
--- ---- rows
+-- ---- reading rows
 
 pub line_walked : (j : Joining) (m : Grid) (kept : List (List ℕ)) (table : List ℕ) (line : List Labelled) (r : ℕ)
     (near : Near) → near.left.cell ≡ None → near.above.cell ≡ None → HaveLine j m kept table line r
@@ -382,7 +382,7 @@ same_more runs line z n same =
     ∙ ap (λ (l : List ℕ). map (λ (x : Labelled). x.label) line ++ l) (label_each n z)
     ∙ sym (map-append (λ (x : Labelled). x.label) line (replicate n z))
 
--- one more row is kept
+-- the labels of one more row are kept
 kept_more : (j : Joining) (m : Grid) (labels table : List ℕ) (kept : List (List ℕ)) (row : List ℕ)
     (done : List Labelled) (line : List Labelled) (r n : ℕ)
     → ((c : ℕ) → c < m.region.cols → get_or line c no_neighbour ≡ get_or done c no_neighbour) → n ≡ m.region.cols
@@ -451,7 +451,7 @@ kept_more j m labels table kept row done line r n is all wide count is_line long
         let both : None ≡ Some v = sym none ∙ ap (cell_at_position m) (sym (same_position t.0 r c t.1.0 t.1.1))
         ∙ t.2 in cc
 
--- a line was read to its end
+-- after a line was read to its end, its labels are kept
 pub line_kept : (j : Joining) (m : Grid) (kept : List (List ℕ)) (table : List ℕ) (line : List Labelled) (r c : ℕ)
     (near : Near) (row : List ℕ) (done : List Labelled) → AreWalked j m kept table line r c near → c ≡ m.region.cols
     → ((k : ℕ) → k < m.region.cols → get_or line k no_neighbour ≡ get_or done k no_neighbour)
@@ -481,7 +481,7 @@ row_kept j m kept table below coming r near row w wide long same nulls =
     (λ k lt. get_or_append_left (line_of_runs below) (no_neighbour ∷ []) no_neighbour k (omega arith)) wide long same
     nulls
 
--- no labels are kept yet
+-- before the first row, no labels are kept
 pub kept_none : (m : Grid) (labels : List ℕ) → AreKeptLabels m labels []
 kept_none m labels = record {
   wide = λ r lt. absurd (omega arith);
@@ -490,7 +490,7 @@ kept_none m labels = record {
   null = λ r c lt. absurd (omega arith);
 }
 
--- before the first row: null is above it
+-- before the first row, the row above is null
 pub runs_first : (j : Joining) (m : Grid) (x : Labelled) (n : ℕ) → IsFilled m.region m.rows → x ≡ no_neighbour
     → n ≡ m.region.cols → HaveRuns j m [] [] ((x, n) ∷ []) 0
 runs_first j m x n filled is wide =

@@ -1,4 +1,4 @@
--- The cells that get labels of their own, and how they are counted.
+-- The cells that get labels of their own, and their count.
 use Rattle.std.proofs.Common.{◌≡◌, ℕ, zero, suc, ℤ, true, false, not, ◌+◌, ◌-◌, ◌*◌, ◌<◌, ◌≤◌, List, [], ◌∷◌, ◌++◌, Some, None, length, get_or, refl, ap, sym, ◌∙◌, arith, inl, inr, ⊎_elim, ◌⊎◌, is_some}
 use Rattle.std.proofs.Math.Nat.{mul-le-mul_right}
 use Rattle.std.proofs.lemmas.Bool.{or_left, or_right, or_cases, not_from_true, not_from_false, false_from_ne_true, cases_lt, cases_Bool, cond-true, cond-false, and_from, and_left, and_right}
@@ -16,7 +16,7 @@ use Rattle.cell_cats_areas.specs.parts.Starts.{IsLeft, IsAbove, IsUpperLeft, IsU
 pub same_position : (p : Position) (r c : ℕ) → p.row ≡ r → p.col ≡ c → p ≡ position r c
 same_position p r c e d = ap (λ (x : ℕ). position x p.col) e ∙ ap (position r) d
 
--- the cell at the place of a cell, and the place of the cell at a place
+-- converting a cell to its place and back gives the cell
 pub cell_of-place : (w r c : ℕ) → c < w → cell_of_place w (r * w + c) ≡ position r c
 cell_of-place w r c lt = same_position (cell_of_place w (r * w + c)) r c (div-mul-add r w c lt) (mod-mul-add r w c lt)
 
@@ -27,11 +27,11 @@ place_lt w p q inside (inr h) = let same : p.row * w ≡ q.row * w = ap (λ (n :
 pub place_inside : (m : Grid) (p : Position) → IsInside m p → cell_place m.region.cols p < m.region.rows * m.region.cols
 place_inside m p inside = let lt = mul-add-lt p.row m.region.cols p.col m.region.rows inside.0 inside.1 in omega arith
 
--- two cells of one place are one
+-- cells with the same place are the same
 pub one_place : (w : ℕ) (p q : Position) → p.col < w → q.col < w → cell_place w p ≡ cell_place w q → p ≡ q
 one_place w p q p_in q_in e = sym (cell_of-place w p.row p.col p_in) ∙ ap (cell_of_place w) e ∙ cell_of-place w q.row q.col q_in
 
--- a cell that is not null is of the map
+-- a cell that is not null is inside the map
 pub inside_map : (m : Grid) (p : Position) (v : ℤ) → IsFilled m.region m.rows → cell_at_position m p ≡ Some v
     → IsInside m p
 inside_map m p v filled is =
@@ -70,7 +70,7 @@ not_before r c q (inl lt) (inr h) = let e = h.0 in omega arith
 not_before r c q (inr g) (inl gt) = let e = g.0 in omega arith
 not_before r c q (inr g) (inr h) = let less = g.1 in let more = h.1 in omega arith
 
--- there are no others
+-- an adjacent cell that comes earlier is one of these neighbours
 pub adjacent_earlier : (j : Joining) (r c : ℕ) (q : Position) → AreAdjacent j q (position r c) → IsEarlierCell q (position r c) → IsEarlier j r c q
 adjacent_earlier Edges r c q (inl (e, inl h)) before = inl (e, h)
 adjacent_earlier Edges r c q (inl (e, inr h)) before = absurd (not_before r c q before (inr (e, omega arith)))
@@ -84,7 +84,7 @@ adjacent_earlier EdgesAndCorners r c q (inr (inl h, inl e)) before = inr (inl (h
 adjacent_earlier EdgesAndCorners r c q (inr (inl h, inr e)) before = inr (inr (h, sym e))
 adjacent_earlier EdgesAndCorners r c q (inr (inr h, e)) before = absurd (not_before r c q before (inl (omega arith)))
 
--- ---- which cells get labels of their own
+-- ---- the cells that get labels of their own
 
 left_at : (m : Grid) (r c : ℕ) (q : Position) → IsLeft r c q → cell_to_the_left m r c ≡ cell_at_position m q
 left_at m r c q h = let e = h.1 in let z : c ≡ suc q.col = omega arith in ap (cell_to_the_left m r) z ∙ ap (λ (x : ℕ). cell_at m x q.col) (sym h.0)
@@ -151,9 +151,9 @@ begins_from j m r c v is none = and_from (is_some (cell_at_position m (position 
 pub begins_null : (j : Joining) (m : Grid) (p : Position) → cell_at_position m p ≡ None → begins j m p ≡ false
 begins_null j m p is = and_left (is_some (cell_at_position m p)) (not (meets j m p.row p.col)) (rw is refl)
 
--- ---- how many of the first cells get one
+-- ---- how many of the first cells get labels of their own
 
--- what falls at no step falls nowhere
+-- a function that never falls from one number to the next never falls
 pub grows : (f : ℕ → ℕ) → ((k : ℕ) → f k ≤ f (suc k)) → (k n : ℕ) → k ≤ n → f k ≤ f n
 grows f step k zero le = let e : k ≡ 0 = omega arith in rw e (omega arith)
 grows f step k (suc n) le =
@@ -197,7 +197,7 @@ module _ (j : Joining) (m : Grid) where
       let more = count_le n (d + n) (omega arith) in
       ap (λ (x : ℕ). get_or (starts_below j m x) k e) z ∙ kept_step (d + n) k e (omega arith) ∙ kept_from n d k e lt
 
-  -- the place of the cell whose own label is this one
+  -- each label has a place, which is the place of the cell that got the label
   found : (n k : ℕ) (e : Position) → k < starts j m n → (x : ℕ) × (x < n) × (begins j m (cell_of_place m.region.cols x) ≡ true) × (starts j m x ≡ k) × (get_or (starts_below j m n) k e ≡ cell_of_place m.region.cols x)
   found zero k e lt = absurd (omega arith)
   found (suc n) k e lt =
@@ -220,14 +220,14 @@ module _ (j : Joining) (m : Grid) where
   begins_at : (r c : ℕ) → c < m.region.cols → begins j m (position r c) ≡ begins j m (cell_of_place m.region.cols (r * m.region.cols + c))
   begins_at r c lt = ap (begins j m) (sym (cell_of-place m.region.cols r c lt))
 
-  -- the count before and after a cell
+  -- the count grows by 1 after a cell that gets its own label
   pub count_begins : (r c : ℕ) → c < m.region.cols → begins j m (position r c) ≡ true → starts j m (suc (r * m.region.cols + c)) ≡ starts j m (r * m.region.cols + c) + 1
   count_begins r c lt is = count_more (r * m.region.cols + c) (sym (begins_at r c lt) ∙ is)
 
   pub count_stays : (r c : ℕ) → c < m.region.cols → begins j m (position r c) ≡ false → starts j m (suc (r * m.region.cols + c)) ≡ starts j m (r * m.region.cols + c)
   count_stays r c lt is = count_same (r * m.region.cols + c) (sym (begins_at r c lt) ∙ is)
 
-  -- the cell whose own label is the count before it
+  -- a cell that gets its own label gets the count of such cells before it
   pub start_here : (p : Position) → IsInside m p → begins j m p ≡ true → start_of_run j m (starts j m (cell_place m.region.cols p)) ≡ p
   start_here p inside is =
       let place : ℕ = cell_place m.region.cols p in
@@ -242,7 +242,7 @@ module _ (j : Joining) (m : Grid) where
       ∙ get_or_push (starts_below j m place) (cell_of_place m.region.cols place) (position 0 0) (starts j m place) refl
       ∙ cell_of-place m.region.cols p.row p.col inside.1
 
-  -- each label is some cell's own
+  -- each label is the own label of some cell
   pub start_found : (k : ℕ) → k < starts j m (m.region.rows * m.region.cols) → (x : ℕ) × (x < m.region.rows * m.region.cols) × (begins j m (start_of_run j m k) ≡ true) × (starts j m x ≡ k) × (start_of_run j m k ≡ cell_of_place m.region.cols x)
   start_found k lt =
       let t = found (m.region.rows * m.region.cols) k (position 0 0) lt in

@@ -22,7 +22,7 @@ pub fn open_label(table: &mut [u32], label: u32) -> u32
     at
 }
 
-/// Joins two labels: finds the open labels that they lead to, closes the larger one, and points it to the smaller. Not
+/// Joins two labels: finds the open labels that they lead to, closes the larger, and makes it point to the smaller. Not
 /// inlined, because it is rarely called, and the loops over cells are faster without it.
 #[inline(never)]
 pub fn join_labels(table: &mut [u32], one: u32, other: u32)

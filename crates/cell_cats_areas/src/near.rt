@@ -170,7 +170,7 @@ fn shared_label(table: &mut [u32], joining: Joining, cell: Cell, near: &Near) ->
     }
 }
 
-// Labels a cell: returns a label that it shares with its neighbours, or else a new label. Null has no label.
+// Labels a cell: returns a label that it shares with a neighbour, otherwise a new label. Null has no label.
 #[inline(always)]
 pub(crate) fn label_cell(
     table: &mut Vec<u32>,

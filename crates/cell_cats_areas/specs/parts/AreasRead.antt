@@ -126,7 +126,8 @@ abbrev pub HasNoneEarlier : Joining → CellValue → Near → Type 0
 HasNoneEarlier j cell near = (m : Grid) (r c : ℕ) (v : ℤ) (count : ℕ) (label_of : Position → ℕ)
     → cell ≡ Some v → AreNear m count label_of r c near → (q : Position) → IsEarlier j r c q → cell_at_position m q ≡ Some v → ⊥
 
--- the label that the cell shares; or none, if no earlier neighbour has its category, and then the table is unchanged
+-- the label that the cell shares; if no earlier neighbour has its category, there is no label and the table stays
+-- unchanged
 abbrev pub SharesLabel : Joining → CellValue → Near → List ℕ → List ℕ → Option ℕ → Type 0
 SharesLabel j cell near old new None = (new ≡ old) × HasNoneEarlier j cell near
 SharesLabel j cell near old new (Some label) = SharesAt j cell near old new label

@@ -31,7 +31,7 @@ cells_to_come above line = replicate above.count above.cell ++ line_of_runs (dro
 abbrev pub HasCellInHand : Above → List (Labelled × ℕ) → Type 0
 HasCellInHand above line = above.count ≡ 0 → length line ≤ above.place
 
--- the next n cells above are equal, and so are their neighbours: with corners, an equal cell follows them, or n is 1
+-- the next n cells above are equal; with corners, either another equal cell follows them or n is 1
 abbrev pub HaveLikeNeighbours : Joining → Above → ℕ → Type 0
 HaveLikeNeighbours j above n = (n ≤ above.count) × ((j ≡ Edges) ⊎ ((n ≡ 1) ⊎ (n < above.count)))
 

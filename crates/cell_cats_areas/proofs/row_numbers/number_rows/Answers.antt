@@ -6,7 +6,7 @@ use Rattle.cell_core.specs.Grid.{CellValue}
 use Rattle.cell_cats_areas.specs.parts.RunsOfLabels.{number_for}
 use Rattle.cell_cats_areas.proofs.row_numbers.number_rows.Goals as goal
 
--- one row more
+-- numbering one more row leaves the complete result unchanged
 next_row : (table : List ℕ) (rows grown all : List (List CellValue)) (labels : List ℕ) (items rest : List (List ℕ))
     → grown ≡ rows ++ map (number_for table) labels ∷ [] → items ≡ labels ∷ rest
     → rows ++ map (map (number_for table)) items ≡ all → grown ++ map (map (number_for table)) rest ≡ all
