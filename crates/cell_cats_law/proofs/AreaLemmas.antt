@@ -1,4 +1,4 @@
--- A number occurs with one category only, and the entries of a category are its cells.
+-- Each number occurs with only one category, and the entries of a category count its cells.
 use Rattle.cell_cats_areas.proofs.CountLemmas.{no_number_is_left_out}
 use Rattle.cell_stats_counts.specs.Counts.{count_of}
 use Rattle.std.proofs.Common.{◌≡◌, ℕ, zero, suc, ℤ, pos, ◌<◌, [], ◌∷◌, List, length, get_or, Some, None, IsSome, Bool}
@@ -25,7 +25,7 @@ use Rattle.cell_cats_law.specs.AreaLaw.{NoAreaIsEmpty, cells_of_both}
 
 -- ---- cells that are not null
 
--- a cell with a number is not null in the map
+-- a cell with a number is not null in the original map
 pub some-below : (j : Joining) (m numbers : Grid) → IsClumping j m numbers → (p : Position) (v : ℤ) →
     cell_at_position numbers p ≡ Some v → IsSome (cell_at_position m p)
 some-below j m numbers is p v e = by (cell_at_position m p) refl
@@ -34,7 +34,7 @@ some-below j m numbers is p v e = by (cell_at_position m p) refl
     by None none = let null = is.nulls p none in cc
     by (Some w) some = refl
 
--- and one without is
+-- a cell without a number is null in the original map
 pub none-below : (j : Joining) (m numbers : Grid) → IsClumping j m numbers → (p : Position) →
     cell_at_position numbers p ≡ None → cell_at_position m p ≡ None
 none-below j m numbers is p e = by (cell_at_position m p) refl
@@ -43,7 +43,7 @@ none-below j m numbers is p e = by (cell_at_position m p) refl
     by None none = refl
     by (Some w) some = let number = (is.numbered p (is-some (cell_at_position m p) w some)).2 in cc
 
--- cells of one number, or of none, are of one category
+-- two cells with the same number, or both without one, have the same category
 pub one-category : (j : Joining) (m numbers : Grid) → IsClumping j m numbers → (p q : Position) (number : CellValue) →
     cell_at_position numbers p ≡ number → cell_at_position numbers q ≡ number
     → cell_at_position m p ≡ cell_at_position m q
@@ -113,7 +113,7 @@ entries-are-whole j m numbers is skip rows cols table is_table category number n
     λ i. one i ∷ same i ∷ []))
     rows cols
 
--- an entry of a category and its number is left out by no rule
+-- an entry of a category and its number is never left out
 kept-number : (skip : Skip) (v n : ℤ) → is_left_out skip (Some v ∷ Some n ∷ []) ≡ false
 kept-number Nothing v n = refl
 kept-number _ v n = refl
@@ -158,7 +158,7 @@ in-rows [] r c v e = absurd (omega (arith, in-row [] c v e))
 in-rows (row ∷ rows) zero c v e = omega arith
 in-rows (row ∷ rows) (suc r) c v e = omega (arith, in-rows rows r c v e)
 
--- a cell that is not null lies in the region
+-- a cell that is not null is in the region
 pub in-region : (m : Grid) → IsFilled m.region m.rows → (p : Position) (v : ℤ) → cell_at_position m p ≡ Some v →
     (p.row < m.region.rows) × (p.col < m.region.cols)
 in-region m filled p v e =

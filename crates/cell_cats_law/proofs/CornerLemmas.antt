@@ -1,4 +1,4 @@
--- Cells that a path by edges joins are joined by edges and corners.
+-- Cells joined by edges are also joined by edges and corners.
 use Rattle.std.proofs.Common.{◌≡◌, ℕ, pos, ◌≤◌, [], ◌∷◌, List, Some, None, sym, ◌∙◌, arith, subst, inl, ⊎_elim}
 use Rattle.cell_core.specs.Grid.{Grid, CellValue}
 use Rattle.cell_cats_areas.specs.declared.clump.Joining.TheVariants.{Edges, EdgesAndCorners}
@@ -31,9 +31,9 @@ corners-only-join m edges corners both p q some same =
     let there = some-below Edges m edges both.by_edges q v.0 (sym same ∙ v.1) in
     (both.by_corners.same p q here there).1 (widen m p q ((both.by_edges.same p q here there).0 same))
 
--- ---- numbers
+-- ---- numbers by edges, and by edges and corners
 
--- a first cell by corners is one by edges
+-- a first cell by edges and corners is also a first cell by edges
 first-by-edges : (m : Grid) (p : Position) → IsFirst EdgesAndCorners m p → IsFirst Edges m p
 first-by-edges m p first = record {
   category = first.category;
@@ -42,7 +42,7 @@ first-by-edges m p first = record {
 
 module _ (m : Grid) (p : Position) (n k : ℕ) (by_edges : HasNumber Edges m p n)
     (by_corners : HasNumber EdgesAndCorners m p k) where
-  -- the first cell by corners comes no later
+  -- the first cell by edges and corners comes no later than the first cell by edges
   not-later : ¬ IsEarlierCell by_edges.first by_corners.first
   not-later before =
       by_corners.is_first.none_before by_edges.first before
@@ -64,7 +64,7 @@ module _ (m : Grid) (p : Position) (n k : ℕ) (by_edges : HasNumber Edges m p n
       (by_edges.up_to.exactly q).1 (first-by-edges m q is.0, up-to-too q is.1)) in
       omega (arith, fewer, by_corners.count, by_edges.count)
 
--- no cell has a larger number by corners than by edges
+-- no cell has a larger number by edges and corners than by edges
 pub numbers-only-fall : (m edges corners : Grid) → AreBothClumpings m edges corners → (p : Position) (n k : ℕ)
     → cell_at_position edges p ≡ Some (pos n) → cell_at_position corners p ≡ Some (pos k) → k ≤ n
 numbers-only-fall m edges corners both p n k is_n is_k =

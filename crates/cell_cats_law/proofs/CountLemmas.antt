@@ -1,4 +1,4 @@
--- Counts among the cells of maps, and sums over the entries of their table.
+-- Counts of the cells of maps, and sums over the entries of their tables.
 use Rattle.std.proofs.lemmas.Bool.{cases_order}
 use Rattle.std.proofs.Common.{◌≡◌, ℕ, zero, suc, ◌+◌, ◌<◌, ◌≤◌, map, [], ◌∷◌, ◌++◌, List, length, get_or, Some, Bool}
 use Rattle.std.proofs.Common.{true, false, ◌&&◌, not, cond, refl, ap, sym, ◌∙◌, arith, IsTrue, ⊎_elim}
@@ -20,7 +20,7 @@ use Rattle.cell_stats.specs.CategoryTables.{Pairs, IsTable}
 use Rattle.cell_stats.proofs.SortedLemmas.{both_true, is_less}
 use Rattle.cell_stats.proofs.TableLemmas.{IsTally, IsFound-from, found, count_cons, kept-IsTable}
 
--- what a test adds to a count
+-- 1 if the test passes, otherwise 0
 abbrev pub one-if : Bool → ℕ
 one-if b = cond b 1 0
 
@@ -31,7 +31,7 @@ count_by-cons t x xs = sum_by-cons (λ y. one-if (t y)) x xs
 count_by-append : {X : Type 0} (t : X → Bool) (xs ys : List X) → count_by t (xs ++ ys) ≡ count_by t xs + count_by t ys
 count_by-append t xs ys = sum_by-append (λ y. one-if (t y)) xs ys
 
--- ---- two tests at the cells of two lists of maps
+-- ---- tests on the cells of two lists of maps
 
 module _ (f g : ℕ → ℕ → Combination) (t u : Combination → Bool)
     (same : (row col : ℕ) → t (f row col) ≡ u (g row col)) where
@@ -52,7 +52,7 @@ module _ (f g : ℕ → ℕ → Combination) (t u : Combination → Bool)
       ∙ ap (λ n. count_by u (map (g row) cols) + n) (all-counts rows cols)
       ∙ sym (count_by-append u (map (g row) cols) (flat_map (λ r. map (g r) cols) rows))
 
--- if two tests agree at each cell, as many cells pass the one as the other
+-- two tests that agree at each cell count the same number of cells
 pub counts-same : (maps others : List Grid) (picks places : List ℕ) (t u : Combination → Bool) →
     ((row col : ℕ) → t (combination_at maps picks row col) ≡ u (combination_at others places row col)) →
     (rows cols : ℕ) →
@@ -60,7 +60,7 @@ pub counts-same : (maps others : List Grid) (picks places : List ℕ) (t u : Com
 counts-same maps others picks places t u same rows cols = all-counts (combination_at maps picks)
     (combination_at others places) t u same (range_with_len 0 rows) (range_with_len 0 cols)
 
--- ---- what is counted occurs at a cell
+-- ---- each counted combination occurs at a cell
 
 pub record At (f : ℕ → ℕ → Combination) (t : Combination → Bool) : Type 0 where
   pub row : ℕ
@@ -90,13 +90,13 @@ module _ (f : ℕ → ℕ → Combination) (t : Combination → Bool) where
       rows-more (count_by t (map (f row) cols)) (count_by t (flat_map (λ r. map (f r) cols) rows)) (row-at row cols)
       (rows-at rows cols) (omega (arith, some, both))
 
--- if some cell is counted, there is one
+-- if the count is above 0, some cell passes the test
 pub counted-at : (maps : List Grid) (picks : List ℕ) (t : Combination → Bool) (rows cols : ℕ) →
     0 < count_by t (all_combinations maps picks rows cols) → At (combination_at maps picks) t
 counted-at maps picks t rows cols some = rows-at (combination_at maps picks) t (range_with_len 0 rows)
     (range_with_len 0 cols) some
 
--- ---- a cell is counted
+-- ---- a cell that passes is counted
 
 module _ (f : ℕ → ℕ → Combination) (t : Combination → Bool) where
   row-counted : (row a n col : ℕ) → a ≤ col → col < a + n → t (f row col) ≡ true →
@@ -133,7 +133,7 @@ module _ (f : ℕ → ℕ → Combination) (t : Combination → Bool) where
       apart)
       (cases_order a row)
 
--- a cell within the rows and the columns is counted
+-- if a cell within the rows and columns passes the test, the count is above 0
 pub counted-cell : (maps : List Grid) (picks : List ℕ) (t : Combination → Bool) (rows cols row col : ℕ) → row < rows →
     col < cols → t (combination_at maps picks row col) ≡ true → 0 < count_by t (all_combinations maps picks rows cols)
 counted-cell maps picks t rows cols row col low wide is =
@@ -150,7 +150,7 @@ entry-at skip maps picks rows cols table is k n stands =
     let at = counted-at maps picks (eq_by_cmp combination_cmp k) rows cols (omega (arith, counted.1.0, counted.1.1)) in
     (at.row, at.col, sym (combination_cmp-exact k (combination_at maps picks at.row at.col) (is_equal _ at.passes)))
 
--- ---- tests on a list
+-- ---- tests on the elements of a list
 
 pub count-alike : (t u : Combination → Bool) (xs : List Combination) → All (λ x. t x ≡ u x) xs →
     count_by t xs ≡ count_by u xs
@@ -200,7 +200,7 @@ turned-apart a b is = by (eq_by_cmp combination_cmp b a) refl
     by true e = let too = turned-equal b a e in cc
     by false e = refl
 
--- a smaller combination has no entry
+-- a combination smaller than all others has no entry
 mark-none : (k : Combination) (es : Pairs) → IsTrue (below_all combination_cmp k es) → sum_by (mark k) es ≡ 0
 mark-none k [] b = refl
 mark-none k (e ∷ es) b =
@@ -208,7 +208,7 @@ mark-none k (e ∷ es) b =
     let here : mark k e ≡ 0 = ap one-if (turned-apart k e.0 (ap is_eq (is_less _ both.0))) in
     omega (arith, sum_by-cons (mark k) e es, here, mark-none k es both.1)
 
--- one that is found is just one entry's
+-- a combination that is found has exactly one entry
 mark-more : (k : Combination) (e : Combination × ℕ) (es : Pairs) (n : ℕ) →
     IsTrue (is_sorted combination_cmp (e ∷ es)) → (find combination_cmp k es ≡ Some n → sum_by (mark k) es ≡ 1) →
     find combination_cmp k (e ∷ es) ≡ Some n → sum_by (mark k) (e ∷ es) ≡ 1
@@ -232,7 +232,7 @@ mark-one : (k : Combination) (es : Pairs) (n : ℕ) → IsTrue (is_sorted combin
 mark-one k [] n s finds = cc
 mark-one k (e ∷ es) n s finds = mark-more k e es n s (mark-one k es n (both_true _ _ s).1) finds
 
--- each cell is counted
+-- the count of each listed combination is above 0
 counts-self : (cells : List Combination) (i : ℕ) (d : Combination) → i < length cells →
     0 < count_of (get_or cells i d) cells
 counts-self [] i d within = absurd (omega (arith, within))
@@ -262,7 +262,7 @@ either-more false false true n m e same = refl
 either-more false false false n m e same = refl
 
 module _ (t : Combination → Bool) where
-  -- the cells of an entry that passes
+  -- the number of an entry's cells, if the entry passes
   abbrev passing : List Combination → Combination × ℕ → ℕ
   passing cells e = cond (t e.0) (count_of e.0 cells) 0
 
@@ -289,7 +289,7 @@ module _ (t : Combination → Bool) where
         passing-cons k cells es,
       )
 
-  -- if each cell is one entry's
+  -- if each cell belongs to exactly one entry, the entries that pass count all cells that pass
   passing-all : (es : Pairs) (cells : List Combination) → All (λ k. sum_by (mark k) es ≡ 1) cells →
       sum_by (passing cells) es ≡ count_by t cells
   passing-all es [] all = passing-none es
@@ -365,7 +365,7 @@ module _ (t : Combination → Bool) where
       mark-one k es (count_of k cells) table.sorted (table.finds k
       ∙ found-some (count_of k cells) (counts-self cells i d within)))
 
--- the counts of the entries that pass add up to the number of cells that pass and are not left out
+-- the counts of the entries that pass add up to the number of cells that pass and are kept
 pub table-sums : (skip : Skip) (cells : List Combination) (table : Pairs) → IsTable skip cells table →
     (t : Combination → Bool) →
     sum_by (λ pair. pair.1) (filter (λ pair. t pair.0) table) ≡ count_by (λ k. not (is_left_out skip k) && t k) cells

@@ -1,4 +1,4 @@
--- Each filled map has a clumping.
+-- Every filled map has a clumping.
 use Rattle.std.proofs.Common.{◌≡◌, ℕ, pos, cond, Some, None, IsSome, is_some, refl, ap, sym, ◌∙◌}
 use Rattle.cell_core.specs.Grid.{Grid, CellValue, IsFilled}
 use Rattle.cell_cats_areas.specs.declared.clump.Joining.{Joining}

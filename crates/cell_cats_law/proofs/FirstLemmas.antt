@@ -1,4 +1,4 @@
--- The first cells of the areas of a map, in row order, and the number of each cell.
+-- The first cells of a map's areas, in row order, and the number of each cell.
 use Rattle.std.proofs.Common.{◌≡◌, ℕ, zero, suc, ℤ, ◌<◌, ◌≤◌, Bool, true, false, ◌&&◌, cond, eqb, eq-eqb, List, [], ◌∷◌}
 use Rattle.std.proofs.Common.{◌++◌, length, Some, IsSome, is_some, get_or, refl, ap, sym, ◌∙◌, arith, subst, ⊎_elim}
 use Rattle.std.specs.List.{Contains, AllPairs}
@@ -30,11 +30,11 @@ module _ (j : Joining) (m : Grid) (filled : IsFilled m.region m.rows) (f : ℕ �
   at_of : (p : Position) → IsInside m p → at (place p) ≡ p
   at_of p inside = cell_of-place m.region.cols p.row p.col inside.1
 
-  -- the place of the first cell of a cell's area
+  -- the place of the first cell of the area that contains a cell
   abbrev pub first_place : Position → ℕ
   first_place p = f (place p)
 
-  -- that cell is joined to it
+  -- the first cell of an area is joined to each cell of the area
   first_joined : (p : Position) (v : ℤ) → cell_at_position m p ≡ Some v → AreJoined j m (at (first_place p)) p
   first_joined p v is =
       let inside = inside_map m p v filled is in
@@ -63,7 +63,7 @@ module _ (j : Joining) (m : Grid) (filled : IsFilled m.region m.rows) (f : ℕ �
             absurd (omega (arith, same, g_place, g_leads, low, less));
       }
 
-  -- a first cell leads to itself
+  -- the first cell of its area is its own first cell
   own_place : (p : Position) → IsFirst j m p → first_place p ≡ place p
   own_place p h =
       let v = some_of (cell_at_position m p) h.category in
@@ -78,7 +78,7 @@ module _ (j : Joining) (m : Grid) (filled : IsFilled m.region m.rows) (f : ℕ �
       (omega (arith, less, low, g_place)))
       apart) (cases_before g p)
 
-  -- ---- the first cells below a place
+  -- ---- the first cells before a place
 
   abbrev is_own : ℕ → Bool
   is_own k = is_some (cell_at_position m (at k)) && eqb (f k) k
@@ -213,7 +213,7 @@ module _ (j : Joining) (m : Grid) (filled : IsFilled m.region m.rows) (f : ℕ �
         count = refl;
       }
 
-  -- ---- cells of one number are joined
+  -- ---- cells with the same number are joined
 
   count_step : (k : ℕ) → length (firsts k) ≤ length (firsts (suc k))
   count_step k =
@@ -223,7 +223,7 @@ module _ (j : Joining) (m : Grid) (filled : IsFilled m.region m.rows) (f : ℕ �
       (arith, e))
       (cases_Bool (is_own k))
 
-  -- an area whose first cell comes later has a larger number
+  -- of two areas, the one whose first cell comes later has the larger number
   later_is_more : (p q : Position) (v : ℤ) → cell_at_position m q ≡ Some v → first_place p < first_place q
       → number p < number q
   later_is_more p q v is lt =

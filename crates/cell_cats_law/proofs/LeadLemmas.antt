@@ -1,4 +1,4 @@
--- Linked numbers lead to the smallest number that the links join to them.
+-- Each number leads to the smallest number that is linked to it.
 use Rattle.std.proofs.Common.{◌≡◌, ℕ, zero, suc, ◌+◌, ◌*◌, ◌/◌, ◌%◌, ◌<◌, ◌≤◌, max, min, refl, ap, sym, ◌∙◌, arith}
 use Rattle.std.proofs.Common.{subst, inl, inr, ⊎_elim, ◌⊎◌}
 use Rattle.std.proofs.lemmas.Bool.{cases_eq, cases_lt}
@@ -7,11 +7,11 @@ use Rattle.cell_cats_areas.specs.parts.Labels.{closed_labels, after_join}
 use Rattle.cell_cats_areas.proofs.LabelLemmas.{by_order, closed_high, closed_other}
 use Rattle.cell_cats_areas.proofs.MeetingLemmas.{after_join_one, after_join_keeps}
 
--- one number, or two that are joined
+-- the two numbers are equal or joined
 abbrev pub AreNear : (ℕ → ℕ → Type 0) → ℕ → ℕ → Type 0
 AreNear Joined x y = (x ≡ y) ⊎ Joined x y
 
--- each number leads to one that is at most as large, is joined to it, and leads to itself
+-- each number leads to a number that is at most as large, equal or joined to it, and leads to itself
 pub record Leads (Joined : ℕ → ℕ → Type 0) (f : ℕ → ℕ) : Type 0 where
   pub low : (k : ℕ) → f k ≤ k
   pub stays : (k : ℕ) → f (f k) ≡ f k
@@ -28,12 +28,12 @@ module _ (Joined : ℕ → ℕ → Type 0) (back : (x y : ℕ) → Joined x y �
   near_onwards x y z (inr h) (inl e) = inr (subst (λ (n : ℕ). Joined x n) e h)
   near_onwards x y z (inr h) (inr k) = inr (onwards x y z h k)
 
-  -- numbers that lead to one are near
+  -- numbers that lead to the same number are equal or joined
   pub near_of_same : (f : ℕ → ℕ) → Leads Joined f → (x y : ℕ) → f x ≡ f y → AreNear Joined x y
   near_of_same f leads x y e = near_onwards x (f y) y (subst (λ (n : ℕ). AreNear Joined x n) e (leads.near x))
       (near_back y (f y) (leads.near y))
 
-  -- the larger of two ends is closed
+  -- redirecting the larger of two near numbers to the smaller keeps the properties of `Leads`
   closed_leads : (f : ℕ → ℕ) (high low : ℕ) → Leads Joined f → low ≤ high → f low ≡ low → AreNear Joined high low
       → Leads Joined (closed_labels f high low)
   closed_leads f high low leads le low_is near = record {
@@ -58,7 +58,7 @@ module _ (Joined : ℕ → ℕ → Type 0) (back : (x y : ℕ) → Joined x y �
       low_stays = ⊎_elim (λ e. closed_high f high low low e) (λ ne. closed_other f high low low ne ∙ low_is)
           (cases_eq (f low) high)
 
-  -- two numbers are joined
+  -- the properties of `Leads` still hold after two joined numbers are made to lead to the same number
   joined_leads : (f : ℕ → ℕ) (a b : ℕ) → Leads Joined f → Joined a b → Leads Joined (after_join f a b)
   joined_leads f a b leads joined =
       let ends : AreNear Joined (f a) (f b) = near_onwards (f a) a (f b) (near_back a (f a) (leads.near a))
@@ -69,7 +69,7 @@ module _ (Joined : ℕ → ℕ → Type 0) (back : (x y : ℕ) → Joined x y �
 
   module _ (Linked : ℕ → ℕ → Type 0) (decide : (x y : ℕ) → Linked x y ⊎ (Linked x y → ⊥))
       (joins : (x y : ℕ) → Linked x y → Joined x y) (count : ℕ) where
-    -- the linked ones of the first pairs lead to one number each
+    -- a function with the properties of `Leads` under which linked numbers of the first pairs lead to the same number
     record LeadsSoFar (pairs : ℕ) : Type 0 where
       to : ℕ → ℕ
       leads : Leads Joined to
@@ -108,7 +108,7 @@ module _ (Joined : ℕ → ℕ → Type 0) (back : (x y : ℕ) → Joined x y �
     }
     so_far (suc pairs) = one_more pairs (so_far pairs) (decide (pairs / count) (pairs % count))
 
-    -- all below a number that are linked lead to one
+    -- any two linked numbers below the count lead to the same number
     pub leads_all : (f : ℕ → ℕ) × (Leads Joined f × ((x y : ℕ) → x < count → y < count → Linked x y → f x ≡ f y))
     leads_all =
         let all = so_far (count * count) in (

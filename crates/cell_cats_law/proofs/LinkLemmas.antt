@@ -1,4 +1,4 @@
--- Whether two cells are adjacent and of one category is decided, so each cell leads to the first one joined to it.
+-- Adjacency of cells of one category is decidable, so each cell leads to the first cell joined to it.
 use Rattle.std.proofs.Common.{◌≡◌, ℕ, ℤ, ◌+◌, ◌*◌, ◌≤◌, Bool, true, false, Some, None, refl, sym, ◌∙◌, subst, inl, inr}
 use Rattle.std.proofs.Common.{⊎_elim, ◌⊎◌}
 use Rattle.std.proofs.lemmas.Bool.{cases_eq}
@@ -13,7 +13,7 @@ use Rattle.cell_cats_areas.proofs.PathLemmas.{AreJoined-refl}
 use Rattle.cell_cats_areas.proofs.StartLemmas.{cell_of-place, place_inside, one_place, inside_map}
 use Rattle.cell_cats_law.proofs.LeadLemmas.{AreNear, near_of_same, leads_all}
 
--- ---- what is decided
+-- ---- decidable properties
 
 abbrev IsDecided : Type 0 → Type 0
 IsDecided P = P ⊎ (P → ⊥)
@@ -57,7 +57,7 @@ alike_decided (Some v) y = by (cell_eq y (Some v)) refl
     by false e = inr (λ h. let same : y ≡ Some v = h.1.1 ∙ sym h.1.0 in let is = (cell_eq-Decides y (Some v)).1 same in
         let both : true ≡ false = sym is ∙ e in cc)
 
--- ---- where each cell leads
+-- ---- the cell that each cell leads to
 
 module _ (j : Joining) (m : Grid) where
   -- the cell at a place
@@ -71,7 +71,7 @@ module _ (j : Joining) (m : Grid) where
   LinkedPlaces x y = AreAdjacent j (at_place x) (at_place y) × AreAlike (cell_at_position m (at_place x))
       (cell_at_position m (at_place y))
 
-  -- each place leads to the first one joined to it
+  -- each place leads to the first place joined to it
   pub record AreLed (f : ℕ → ℕ) : Type 0 where
     pub low : (k : ℕ) → f k ≤ k
     pub stays : (k : ℕ) → f (f k) ≡ f k

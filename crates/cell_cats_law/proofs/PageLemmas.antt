@@ -1,4 +1,4 @@
--- Pages of a table in order.
+-- The pages of a table in order.
 use Rattle.std.proofs.Common.{◌≡◌, ℕ, zero, [], ◌∷◌, ◌++◌, Bool, true, false, IsTrue, refl, ap, sym, ◌∙◌, arith}
 use Rattle.std.specs.declared.cmp.Ordering.{Ordering}
 use Rattle.std.specs.declared.cmp.Ordering.TheVariants.{Less, Equal, Greater}
@@ -12,7 +12,7 @@ use Rattle.cell_stats.proofs.RestLemmas.{rest-behind}
 use Rattle.cell_stats.proofs.TableLemmas.{ascending_to}
 use Rattle.cell_cats_law.specs.PageLaw.{up_to, PagesJoin, RestFollows}
 
--- an entry is in the rest exactly if it comes after the combination
+-- an entry that comes after the combination is in the rest
 rest-in : (k : Combination) (e : Combination × ℕ) (es : Pairs) → combination_cmp k e.0 ≡ Less →
     rest_after k (e ∷ es) ≡ e ∷ rest_after k es
 rest-in k e es l = rw l refl
@@ -32,7 +32,7 @@ up_to-out k e es l = rw l refl
 turned : (k x : Combination) (o : Ordering) → combination_cmp k x ≡ o → combination_cmp x k ≡ ordering_reverse o
 turned k x o e = combination_cmp_total.antisymm x k ∙ ap ordering_reverse e
 
--- after a later combination there is no entry up to it
+-- if all entries come after the combination, no entry is up to it
 none-up_to : (k x : Combination) (es : Pairs) → combination_cmp k x ≡ Less → IsTrue (below_all combination_cmp x es) →
     up_to k es ≡ []
 none-up_to k x [] l b = refl
@@ -41,7 +41,7 @@ none-up_to k x (e ∷ es) l b =
     let here : combination_cmp k e.0 ≡ Less = combination_cmp_total.trans k x e.0 l (is_less _ both.0) in
     up_to-out k e es (ap is_le (turned k e.0 Less here)) ∙ none-up_to k x es l both.1
 
--- one entry more, if the entries after it are joined
+-- the pages of the entries make the table again, if the pages of the later entries do
 pages-more : (k : Combination) (e : Combination × ℕ) (es : Pairs) → IsTrue (is_sorted combination_cmp (e ∷ es)) →
     up_to k es ++ rest_after k es ≡ es → (o : Ordering) → combination_cmp k e.0 ≡ o →
     up_to k (e ∷ es) ++ rest_after k (e ∷ es) ≡ e ∷ es
@@ -69,7 +69,7 @@ pages k (e ∷ es) s = pages-more k e es s (pages k es (both_true _ _ s).1) (com
 pub pages-join : PagesJoin
 pages-join skip cells table is k = pages k table (ascending_to table is.ascending)
 
--- above an entry all are greater than it
+-- if all entries come after a combination, the rest after it is all entries
 all-above : (x : Combination) (es : Pairs) → IsTrue (below_all combination_cmp x es) → rest_after x es ≡ es
 all-above x [] b = refl
 all-above x (e ∷ es) b =

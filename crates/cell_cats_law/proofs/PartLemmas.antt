@@ -1,4 +1,4 @@
--- Cutting out and reclassing, one after the other or the other way round, and labels that maps share.
+-- Cutting out and reclassing can be done in either order, and parts keep the labels of the full maps.
 use Rattle.std.proofs.Common.{◌≡◌, ℕ, zero, suc, [], ◌∷◌, ◌++◌, List, map, take, drop, Some, None, refl, ap, sym, ◌∙◌}
 use Rattle.std.specs.Prelude.{slice_get, codes, unwrap_or, flat_map, if◌then◌else◌}
 use Rattle.std.specs.List.{zip}
@@ -56,9 +56,9 @@ reclassed-parts-are-parts rules r whole part cut =
     (λ m. rows-turned rules r m.rows) whole
     ∙ sym (map-map (λ m. cut_out r m.rows) (reclassed_map rules) whole)
 
--- ---- labels
+-- ---- the labels of parts
 
--- the labels of maps by rules are as many as the maps
+-- reclassed parts have the same labels as the reclassed full maps
 same-labels : (rules : List RuleValue) (r : Rectangle) (whole part : List Grid) →
     map (λ m. m.rows) part ≡ map (λ m. cut_out r m.rows) whole →
     map (λ (m : Grid). labels_of rules) part ≡ map (λ (m : Grid). labels_of rules) whole

@@ -1,4 +1,4 @@
--- The cells of a map by rules, and what is counted of them.
+-- The cells of a reclassed map, and their counts.
 use Rattle.std.proofs.Common.{◌≡◌, ℕ, zero, suc, ◌<◌, map, [], ◌∷◌, List, get_or, Some, None, Bool, true, false, ◌&&◌}
 use Rattle.std.proofs.Common.{not, refl, ap, sym, ◌∙◌, arith, subst}
 use Rattle.std.specs.Prelude.{count_by, Contains, All, if◌then◌else◌}
@@ -21,7 +21,7 @@ use Rattle.cell_cats_law.specs.ReclassLaw.{sent, IsReclassed, ReclassKeepsCells}
 use Rattle.cell_cats_law.specs.ReclassLaw.{UnnamedIsNull}
 use Rattle.cell_cats_law.proofs.CountLemmas.{counts-same, count-alike, table-sums}
 
--- ---- what no rule names
+-- ---- categories not covered by a rule
 
 last-none : (p : RuleValue → Bool) (rules : List RuleValue) → All (λ rule. p rule ≡ false) rules →
     last_such p rules ≡ None
@@ -41,9 +41,9 @@ unnamed-is-null rules = (
       (option_map (λ rule. rule.output) (starred i))),
 )
 
--- ---- the cells of a map by rules
+-- ---- the cells of a reclassed map
 
--- the item at a place of a mapped list, also past its end
+-- an item of a mapped list is the mapped item, even past the end of the list
 map-at : {X Y : Type 0} (f : X → Y) (xs : List X) (i : ℕ) (d : X) → get_or (map f xs) i (f d) ≡ f (get_or xs i d)
 map-at f [] i d = refl
 map-at f (x ∷ xs) zero d = refl
@@ -66,7 +66,7 @@ module _ (rules : List RuleValue) (maps : List Grid) (old new : ℕ) (is : IsRec
       combination_at maps (new ∷ others) row col ≡ sent rules (combination_at maps (old ∷ others) row col)
   combination-sent others row col = ap (λ (c : CellValue). c ∷ combination_at maps others row col) (cell-sent row col)
 
-  -- what is counted of the new map, counted of the old
+  -- a combination of the new map counts the combinations of the old map that the rules send to it
   pub count-sent : (others : List ℕ) (rows cols : ℕ) (to : Combination) →
       count_of to (all_combinations maps (new ∷ others) rows cols)
       ≡ count_by (λ k. eq_by_cmp combination_cmp to (sent rules k)) (all_combinations maps (old ∷ others) rows cols)
@@ -75,7 +75,7 @@ module _ (rules : List RuleValue) (maps : List Grid) (old new : ℕ) (is : IsRec
       (λ k. eq_by_cmp combination_cmp to (sent rules k))
       (λ row col. ap (eq_by_cmp combination_cmp to) (combination-sent others row col)) rows cols
 
--- what the rules send to a combination that is not left out is not left out
+-- a combination is kept if the rules send it to one that is kept
 kept-before : (skip : Skip) (rules : List RuleValue) (k : Combination) → is_left_out skip (sent rules k) ≡ false →
     is_left_out skip k ≡ false
 kept-before Nothing rules k kept = refl
@@ -111,4 +111,4 @@ reclass-keeps-cells rules maps old new is others rows cols skip table is_table t
     kept-sent skip rules to (get_or cells i d) kept (t (get_or cells i d)) refl)
     ∙ sym (table-sums skip cells table is_table t)
 
--- ---- rules that only rename
+-- ---- rules that only rename categories

@@ -1,4 +1,4 @@
--- A map in which one whole area is made null: its other areas.
+-- A map with one area made null keeps its other areas.
 use Rattle.std.proofs.Common.{◌≡◌, ℤ, ◌≢◌, [], ◌∷◌, List, Some, None, IsSome, Bool, true, false, cond, ◌↔◌, refl, ap}
 use Rattle.std.proofs.Common.{sym, ◌∙◌}
 use Rattle.std.specs.Prelude.{All}
@@ -27,7 +27,7 @@ module _ (j : Joining) (m numbers : Grid) (is : IsClumping j m numbers) (number 
   gone-cell : (p : Position) → gone p ≡ true → cell_at_position less p ≡ None
   gone-cell p goes = without p ∙ ap (λ b. cond b None (cell_at_position m p)) goes
 
-  -- what is not null is not of the area
+  -- a cell that is not null afterwards is not in the removed area
   pub stays-some : (p : Position) (v : ℤ) → cell_at_position less p ≡ Some v → gone p ≡ false
   stays-some p v some = by (gone p) refl
     where
@@ -38,7 +38,7 @@ module _ (j : Joining) (m numbers : Grid) (is : IsClumping j m numbers) (number 
   pub some-before : (p : Position) (v : ℤ) → cell_at_position less p ≡ Some v → cell_at_position m p ≡ Some v
   some-before p v some = sym (kept-cell p (stays-some p v some)) ∙ some
 
-  -- a path of the cells that are left is a path of the map
+  -- a path of remaining cells is a path of the original map
   alike-before : (v : ℤ) (ps : List Position) → All (λ s. cell_at_position less s ≡ Some v) ps →
       All (λ s. cell_at_position m s ≡ Some v) ps
   alike-before v [] all = All-nil (λ s. cell_at_position m s ≡ Some v)
@@ -55,7 +55,7 @@ module _ (j : Joining) (m numbers : Grid) (is : IsClumping j m numbers) (number 
     alike = alike-before h.category (p ∷ h.others) h.alike;
   }
 
-  -- a path of the map that begins at a cell that is left is a path of the cells that are left
+  -- a path of the original map that begins at a remaining cell uses only remaining cells
   alike-after : (v : ℤ) (p : Position) (others : List Position) (q : Position) → LeadsTo j p others q →
       gone p ≡ false → All (λ s. cell_at_position m s ≡ Some v) (p ∷ others) →
       All (λ s. cell_at_position less s ≡ Some v) (p ∷ others)

@@ -51,7 +51,8 @@ abbrev pub IsWithout : Grid → Grid → ℤ → Grid → Type 0
 IsWithout m numbers number less = (p : Position)
     → cell_at_position less p ≡ (if cell_eq (cell_at_position numbers p) (Some number) then None else cell_at_position m p)
 
--- setting one clump to null changes no other: any two other cells are in the same clump if and only if they were before
+-- setting one clump to null changes no other clump: any two other cells are in the same clump if and only if they were
+-- before
 abbrev pub OtherAreasStay : Type 0
 OtherAreasStay = (j : Joining) (m numbers : Grid) → IsClumping j m numbers
     → (number : ℤ) (less renumbered : Grid) → IsWithout m numbers number less → IsClumping j less renumbered

@@ -1,4 +1,4 @@
--- How rules change a table: cells that become the same category are counted together, and none is lost.
+-- How rules change a table: cells that get the same category are counted together, and no cell is lost.
 use Rattle.std.specs.Prelude.{ℕ, ℤ, ◌≡◌, ◌↔◌, false, List, [], ◌∷◌, Some, None, All, Contains, filter, sum_by, slice_get}
 use Rattle.std.specs.Ordering.{eq_by_cmp}
 use Rattle.cell_core.specs.Grid.{Grid}
@@ -27,14 +27,14 @@ sent rules (cell ∷ others) = new_category rules cell ∷ others
 abbrev pub sent_to : List RuleValue → Combination → Pairs → Pairs
 sent_to rules to table = filter (λ pair. eq_by_cmp combination_cmp to (sent rules pair.0)) table
 
--- two maps of the list: one, and its reclassified map
+-- two maps in the list: an original map and its reclassified map
 pub record IsReclassed (rules : List RuleValue) (maps : List Grid) (old new : ℕ) : Type 0 where
   pub given : Grid
   pub first : slice_get maps old ≡ Some given
   pub second : slice_get maps new ≡ Some (reclassed_map rules given)
 
--- in combination with any other maps, each count for the new map is the sum of the counts of the old combinations that
--- become it
+-- for any other maps, each count for the new map is the sum of the counts of the old combinations that are reclassified
+-- to the counted combination
 abbrev pub ReclassKeepsCells : Type 0
 ReclassKeepsCells = (rules : List RuleValue) (maps : List Grid) (old new : ℕ) → IsReclassed rules maps old new
     → (others : List ℕ) (rows cols : ℕ) (skip : Skip) (table : Pairs)
