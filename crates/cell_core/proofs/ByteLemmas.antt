@@ -1,4 +1,4 @@
--- Bytes are equal exactly if their cells are, and 64 bytes are compared with those before them.
+-- Bytes are equal exactly if their cells are, and 64 bytes are compared at once with the bytes before them.
 use Rattle.std.proofs.Common.{◌≡◌, ◌<◌, ◌≤◌, ◌+◌, ◌-◌, ◌/◌, ◌%◌, ◌^◌, ℕ, zero, suc, List, [], ◌∷◌, ◌++◌, length, take}
 use Rattle.std.proofs.Common.{drop, get_or, Bool, true, false, not, cond, eqb, refl, ap, sym, ◌∙◌, subst, arith}
 use Rattle.std.proofs.Common.{add-one, length-take, length-drop}
@@ -39,12 +39,12 @@ cells-apart a b other = by (cell_eq (byte_cell a) (byte_cell b)) refl
     by false n = refl
     by true n = sym (eq-eqb a b (one_byte a b ((cell_eq-Decides (byte_cell a) (byte_cell b)).0 n))) ∙ other
 
--- the cell that the byte at a place stands for
+-- the byte at a place stands for the cell at that place
 pub byte_at : (bytes : List ℕ) (i b : ℕ) → i < length bytes → b ≡ get_or bytes i b
     → byte_cell b ≡ get_or (cells_of_bytes bytes) i (byte_cell b)
 byte_at bytes i b within is = ap byte_cell is ∙ sym (get_or-map byte_cell bytes i b (byte_cell b) within)
 
--- as many marks as runs begin
+-- the number of mark bits is the number of runs that begin
 ones-marks : (x : CellValue) (cells : List CellValue) → count_ones (mark_bits x cells) ≡ breaks x cells
 unfolding count_ones
 ones-marks x [] = refl
@@ -55,7 +55,7 @@ ones-marks x (y ∷ cells) = ones-mask_l_cons (not (cell_eq y x)) (marks y cells
     by true e = omega (arith, e)
     by false e = omega (arith, e)
 
--- the runs that begin in the first cells, and those from the last of them on
+-- the runs that begin in the first n cells and the runs from there on are all the runs
 runs-after : (x : CellValue) (cells : List CellValue) (n : ℕ) → n ≤ length cells
     → breaks x (take n cells) + length (runs_in (drop n (x ∷ cells))) ≡ length (runs_in (x ∷ cells))
 runs-after x cells zero few = omega arith
@@ -109,7 +109,7 @@ byte-marks b (c ∷ bytes) (suc n) few =
     ap (λ (m : Bool). m ∷ zip2 differ (take n bytes) (take n (c ∷ bytes))) (apart-bytes c b)
     ∙ ap (λ (ms : List Bool). not (cell_eq (byte_cell c) (byte_cell b)) ∷ ms) (byte-marks c bytes n (omega arith))
 
--- where all are alike, each is that cell
+-- if all cells are alike, each cell equals the given one
 alike-each : (x : CellValue) (cells : List CellValue) (k : ℕ) (d : CellValue) → alike x cells ≡ length cells
     → k < length cells → get_or cells k d ≡ x
 alike-each x [] k d all within = absurd (omega arith)
@@ -156,7 +156,7 @@ number-next (b ∷ bytes) bits size is =
     (sym (drop-map byte_cell 64 (b ∷ bytes)))
     ∙ runs-after x (cells_of_bytes bytes) 64 few
 
--- the run of the byte at a place continues after it
+-- the run of the byte at a place continues with the cells after it
 pub runs_on-from : (bytes : List ℕ) (k n : ℕ) → k < length bytes
     → runs_from (byte_cell (get_or bytes k 0), n) (cells_of_bytes (drop (k + 1) bytes))
     ≡ runs_on n (cells_of_bytes (drop k bytes))
@@ -164,7 +164,7 @@ runs_on-from bytes k n within =
     let next : drop k bytes ≡ get_or bytes k 0 ∷ drop (k + 1) bytes = rw add-one (drop-cons bytes k 0 within) in
     ap (λ (l : List ℕ). runs_on n (cells_of_bytes l)) (sym next)
 
--- the runs are all after the last cells, the first of which continues a run
+-- if the remaining cells continue the current run, the runs pushed are all the runs of the bytes
 pub all-runs : (bytes : List ℕ) (at count : ℕ) (runs pushed : List RunValue) (x : CellValue) (cells : List CellValue)
     → at < length bytes → x ≡ byte_cell (get_or bytes at 0) → cells
     ≡ cells_of_bytes (take (length bytes - (at + 1)) (drop (at + 1) bytes))
@@ -204,7 +204,7 @@ module _ (bytes : List ℕ) (size : 64 < length bytes) where
       ∙ sym (get_or-drop 1 bytes k b) ∙ sym (get_or-take 64 (drop 1 bytes) k b within) in
       byte_at (take 64 (drop 1 bytes)) k b inside read
 
-  -- all of a block begins at its first byte
+  -- the runs of a whole block begin at its first byte
   pub block-begins : (n : ℕ) → runs_from (byte 0, n) (next_cells bytes ++ more) ≡ runs_on n (cells_of_bytes bytes)
   block-begins n =
       let rest : next_cells bytes ++ more ≡ cells_of_bytes (drop 1 bytes) =

@@ -1,4 +1,4 @@
--- The finite map that the entries of an ordered map give.
+-- The finite map of an ordered map's entries.
 use Rattle.std.proofs.Common.{◌≡◌, ℕ, ℤ, Bool, true, false, cond, List, [], ◌∷◌, map, Option, Some, refl, ap, sym, ◌∙◌}
 use Rattle.std.specs.Option.{option_map}
 use Rattle.std.specs.Ordering.{int_cmp, eq_by_cmp}
@@ -15,11 +15,11 @@ module _ {V : Type 0} (items : V → List ℕ) where
   find-map q [] = refl
   find-map q (e ∷ entries) = ap (cond (eq_by_cmp int_cmp q e.0) (Some (items e.1))) (find-map q entries) ∙ sym (option_map-cond (eq_by_cmp int_cmp q e.0) e.1 (lookup (eq_by_cmp int_cmp q) entries))
 
-  -- the value of a key is the text of what the ordered map holds there
+  -- the finite map holds for each key the text of the ordered map's value
   pub get-labels : (entries : List (ℤ × V)) (q : ℤ) → get (from_entries {R = int_cmp} (map (λ e. (e.0, items e.1)) entries)) q ≡ option_map items (lookup (eq_by_cmp int_cmp q) entries)
   get-labels entries q = get-from_entries int_cmp_total (map (λ e. (e.0, items e.1)) entries) q ∙ find-map q entries
 
-  -- an ordered map that holds one value anew gives the finite map with it
+  -- inserting a value into the ordered map inserts its text into the finite map
   pub insert-labels : (old new : List (ℤ × V)) (k : ℤ) (v : V) → ((q : ℤ) → lookup (eq_by_cmp int_cmp q) new ≡ cond (eq_by_cmp int_cmp k q) (Some v) (lookup (eq_by_cmp int_cmp q) old)) → from_entries {R = int_cmp} (map (λ e. (e.0, items e.1)) new) ≡ insert (from_entries (map (λ e. (e.0, items e.1)) old)) k (items v)
   insert-labels old new k v holds = same_map int_cmp_total int_cmp-IsAntisymmetric _ _ (λ q. same q)
     where

@@ -1,4 +1,4 @@
--- Which cells differ from those before them, as bits.
+-- Bits that mark each cell that differs from the cell before it.
 use Rattle.std.proofs.Common.{◌≡◌, ℕ, zero, suc, ◌+◌, ◌-◌, ◌*◌, ◌/◌, ◌^◌, ◌<◌, ◌≤◌, eqb, cond, Bool, true, false, not, List, [], ◌∷◌, ◌++◌, map, length, take, drop, get_or, refl, ap, sym, ◌∙◌, arith, add-one, append-nil, append_assoc, length-drop, take_all}
 use Rattle.std.specs.Prelude.{if◌then◌else◌}
 use Rattle.std.specs.List.{prefix_len}
@@ -14,7 +14,7 @@ use Rattle.std.proofs.lemmas.List.{drop-drop, drop-append-le, drop_all, take-app
 use lib.Count.{count_trailing_zeros}
 use lib.Lanes.{mask_l}
 
--- a mark as a byte
+-- a mark as a byte: 1 or 0
 abbrev pub flag : Bool → ℕ
 flag b = cond b 1 0
 
@@ -31,7 +31,7 @@ pub length-marks : (x : CellValue) (cells : List CellValue) → length (marks x 
 length-marks x [] = refl
 length-marks x (y ∷ cells) = ap suc (length-marks y cells)
 
--- up to the first mark all are alike
+-- as many cells are alike as there are cells before the first mark
 marks-alike : (x : CellValue) (cells : List CellValue) → prefix_len (λ m. not m) (marks x cells) ≡ alike x cells
 marks-alike x [] = refl
 marks-alike x (y ∷ cells) = by (cell_eq y x) refl (marks-alike y cells)
@@ -69,7 +69,7 @@ module _ (x : CellValue) (cells : List CellValue) (few : length cells ≤ 64) wh
   pub mark_within : (mark_bits x cells ≡ 0 → ⊥) → alike x cells < length cells
   mark_within some = omega (arith, some_mark (marks x cells) (some_bits some), marks-alike x cells, length-marks x cells)
 
--- the marks after one
+-- the marks after a cell are the marks of the cells after it
 pub marks-drop : (x : CellValue) (cells : List CellValue) (j : ℕ) (y : CellValue) → j < length cells → y ≡ get_or cells j y → drop (suc j) (marks x cells) ≡ marks y (drop (suc j) cells)
 marks-drop x [] j y within read = absurd (omega arith)
 marks-drop x (c ∷ cells) zero y within read = ap (λ (z : CellValue). marks z cells) (sym read)
@@ -79,7 +79,7 @@ half : (m : Bool) (k : ℕ) → (cond m 1 0 + 2 * k) / 2 ≡ k
 half true k = omega arith
 half false k = omega arith
 
--- each lower bit left out
+-- halving the bit mask drops the first mark
 mask-tail : (ms : List Bool) → mask_l ms / 2 ≡ mask_l (drop 1 ms)
 mask-tail [] = refl
 mask-tail (m ∷ ms) = half m (mask_l ms)
@@ -117,13 +117,13 @@ alike-passed x (y ∷ rest) more e = by (cell_eq y x) (λ o. alike-passed x rest
     by true on e = let same : alike x rest ≡ length rest = omega (arith, e) in omega (arith, on same)
     by false on e = absurd (omega (arith, e))
 
--- the first of some cells begins a run
+-- the first cell begins the first run
 pub run_begins : (x : CellValue) (cells : List CellValue) → runs_in (x ∷ cells) ≡ runs_from (x, 1) cells
 run_begins x cells =
     let one : suc (alike x cells) ≡ 1 + alike x cells = omega arith in
     runs_in-next x cells ∙ ap (λ (k : ℕ). (x, k) ∷ runs_in (drop (alike x cells) cells)) one
 
--- a run that ends in some cells, and one that continues after them
+-- a run that ends within the block, or continues after it
 module _ (x : CellValue) (count : ℕ) (rest more : List CellValue) where
   abbrev after : ℕ → List RunValue
   after k = (x, count + k) ∷ runs_in (drop k (rest ++ more))
@@ -144,7 +144,7 @@ module _ (x : CellValue) (count : ℕ) (rest more : List CellValue) where
       ∙ ap (λ (l : List CellValue). (x, count + (length rest + a)) ∷ runs_in l) (drop-append-add rest more a)
       ∙ ap (λ (k : ℕ). (x, k) ∷ runs_in (drop a more)) sum
 
--- the same of one cell
+-- a run that ends before the next cell, or continues with it
 module _ (x : CellValue) (count : ℕ) (y : CellValue) (rest : List CellValue) where
   abbrev before : Bool → List RunValue
   before b = let k : ℕ = if b then suc (alike x rest) else 0 in (x, count + k) ∷ runs_in (drop k (y ∷ rest))
@@ -160,7 +160,7 @@ module _ (x : CellValue) (count : ℕ) (y : CellValue) (rest : List CellValue) w
 pub next_cell : (cells : List CellValue) (i : ℕ) (y : CellValue) → i < length cells → y ≡ get_or cells i y → drop i cells ≡ y ∷ drop (i + 1) cells
 next_cell cells i y within read = rw add-one (drop-cons cells i y within ∙ ap (λ (z : CellValue). z ∷ drop (suc i) cells) (sym read))
 
--- when all are marked
+-- after 64 marks, the flags are the marks of all cells of the block
 pub all_marked : (flags : List ℕ) (block : List CellValue) (last cell : CellValue) (j : ℕ) → length flags ≡ 64 → length block ≡ 64 → 64 ≤ j
     → take j flags ++ map flag (marks last (drop j block)) ≡ map flag (marks cell block) → flag_bits flags ≡ mark_bits cell block
 all_marked flags block last cell j size long end marked =
@@ -225,7 +225,7 @@ module _ (x : CellValue) (block : List CellValue) (at breaks : ℕ) (size : leng
       ∙ ap (λ (l : List RunValue). runs ++ l) (sym (run_goes_on x count rest more (none-left none)))
       ∙ whole
 
--- a block, and what comes after it
+-- a block of 64 cells and the cells after it are all the remaining cells
 pub block_after : (cells : List CellValue) (at : ℕ) → take (at + 64 - at) (drop at cells) ++ drop (at + 64) cells ≡ drop at cells
 block_after cells at =
     let size : at + 64 - at ≡ 64 = omega arith in

@@ -1,4 +1,4 @@
--- The runs of cells that are kept as they are.
+-- The runs of a row of cells.
 use Rattle.std.proofs.Common.{◌≡◌, ◌≢◌, ℕ, suc, Bool, true, false, ◌+◌, ◌-◌, ◌<◌, List, [], ◌∷◌, ◌++◌, length, take, drop, replicate, get_or, All, refl, ap, sym, ◌∙◌, arith, add-one, take_all, length-drop, eqb, pos, Some, None, Fits, w8, rules}
 use Rattle.std.specs.Prelude.{if◌then◌else◌}
 use Rattle.std.proofs.Math.Seq.{drop-cons}
@@ -43,7 +43,7 @@ module _ (x : CellValue) where
             apart = (differs, are.apart);
           }
 
--- written out, the runs of cells are the cells
+-- writing out the runs of cells gives the cells
 pub written_out-runs_in : (cells : List CellValue) → written_out (runs_in cells) ≡ cells
 written_out-runs_in [] = refl
 written_out-runs_in (x ∷ cells) = written_out-with x (runs_in cells) ∙ ap (λ (l : List CellValue). x ∷ l) (written_out-runs_in cells)
@@ -52,7 +52,7 @@ pub AreRuns-runs_in : (cells : List CellValue) → AreRuns (runs_in cells)
 AreRuns-runs_in [] = record { lengths = All-nil (λ (run : RunValue). 0 < run.1); apart = tt }
 AreRuns-runs_in (x ∷ cells) = AreRuns-with x (runs_in cells) (AreRuns-runs_in cells)
 
--- so are the cells one by one, each of which is there once
+-- writing out the cells one by one, as runs of length 1, gives the cells
 pub written_out-one_by_one : (cells : List CellValue) → written_out (one_by_one cells) ≡ cells
 written_out-one_by_one [] = refl
 written_out-one_by_one (x ∷ cells) =
@@ -63,7 +63,7 @@ some-one_by_one [] = All-nil (λ (run : RunValue). 0 < run.1)
 some-one_by_one (x ∷ cells) =
     All-cons (λ (run : RunValue). 0 < run.1) (x, 1) (one_by_one cells) (omega arith) (some-one_by_one cells)
 
--- the first run, and the runs of the cells after it
+-- the runs of cells are the first run and the runs of the cells after it
 pub runs_in-next : (x : CellValue) (cells : List CellValue) → runs_in (x ∷ cells) ≡ (x, suc (alike x cells)) ∷ runs_in (drop (alike x cells) cells)
 runs_in-next x [] = refl
 runs_in-next x (y ∷ cells) = let first = runs_in-next y cells in ap (with_cell x) first ∙ by-test (cell_eq y x) refl first
@@ -75,13 +75,13 @@ runs_in-next x (y ∷ cells) = let first = runs_in-next y cells in ap (with_cell
     by-test true same next = ap (λ (k : ℕ). (x, k) ∷ after y) (add-one (suc (alike y cells))) ∙ ap (λ (z : CellValue). (x, suc (suc (alike z cells))) ∷ after z) ((cell_eq-Decides y x).0 same)
     by-test false other next = ap (λ (l : List RunValue). (x, 1) ∷ l) (sym next)
 
--- the same, of the part of a slice
+-- the runs of cells are the first run and the runs of the cells after it, given as a slice
 pub runs_in-rest : (x : CellValue) (cells : List CellValue) (n : ℕ) → n ≡ alike x cells → runs_in (x ∷ cells) ≡ (x, 1 + n) ∷ runs_in (take (length cells - n) (drop n cells))
 runs_in-rest x cells n same =
     let whole : take (length cells - n) (drop n cells) ≡ drop n cells = take_all (length cells - n) (drop n cells) (omega (arith, length-drop n cells)) in
     runs_in-next x cells ∙ ap (λ (k : ℕ). (x, suc k) ∷ runs_in (drop k cells)) (sym same) ∙ ap (λ (k : ℕ). (x, k) ∷ runs_in (drop n cells)) (sym (add-one n) ∙ omega arith) ∙ ap (λ (l : List CellValue). (x, 1 + n) ∷ runs_in l) (sym whole)
 
--- as many runs as begin after the first cell, and one
+-- there is one run more than runs that begin after the first cell
 pub length-runs_in : (x : CellValue) (cells : List CellValue) → length (runs_in (x ∷ cells)) ≡ suc (breaks x cells)
 length-runs_in x [] = refl
 length-runs_in x (y ∷ cells) = ap (λ (l : List RunValue). length (with_cell x l)) (runs_in-next y cells) ∙ by-test (cell_eq y x) (ap length (sym (runs_in-next y cells)) ∙ length-runs_in y cells)
@@ -93,7 +93,7 @@ length-runs_in x (y ∷ cells) = ap (λ (l : List RunValue). length (with_cell x
     by-test true others = others
     by-test false others = ap suc others
 
--- the first cell is equal to itself
+-- a row that is not empty has one run more than breaks after its first cell
 pub breaks-whole : (cells : List CellValue) (x : CellValue) → 0 < length cells → x ≡ get_or cells 0 x → 1 + breaks x cells ≡ length (runs_in cells)
 breaks-whole [] x some read = absurd (omega (arith, some))
 breaks-whole (y ∷ cells) x some read =
@@ -105,14 +105,14 @@ module _ (x y : CellValue) (cells : List CellValue) (i : ℕ) (within : i < leng
   next-cell : drop i cells ≡ y ∷ drop (i + 1) cells
   next-cell = rw add-one (drop-cons cells i y within ∙ ap (λ z. z ∷ drop (suc i) cells) (sym read))
 
-  -- a run that continues, and one that begins
+  -- an equal cell continues the run, and another cell begins a run
   pub breaks-none : cell_eq y x ≡ true → breaks x (drop i cells) ≡ breaks y (drop (i + 1) cells)
   breaks-none same = ap (breaks x) next-cell ∙ ap (λ (b : Bool). if b then breaks y (drop (i + 1) cells) else suc (breaks y (drop (i + 1) cells))) same
 
   pub breaks-one : cell_eq y x ≡ false → breaks x (drop i cells) ≡ suc (breaks y (drop (i + 1) cells))
   breaks-one other = ap (breaks x) next-cell ∙ ap (λ (b : Bool). if b then breaks y (drop (i + 1) cells) else suc (breaks y (drop (i + 1) cells))) other
 
--- bytes stand for cells
+-- each byte stands for a valid cell
 byte_is : (b : ℕ) → b < 256 → IsCell (byte_cell b)
 byte_is b few = by (eqb b 255)
   where

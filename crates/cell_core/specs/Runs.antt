@@ -2,7 +2,7 @@
 use Rattle.std.specs.Prelude.{ℕ, ◌≢◌, ◌<◌, List, [], ◌∷◌, All, flat_map, replicate}
 use Rattle.cell_core.specs.Grid.{CellValue}
 
--- a run: a cell, and how often it is repeated
+-- a run: a cell, and how many times it is repeated
 abbrev pub RunValue : Type 0
 RunValue = CellValue × ℕ
 

@@ -20,7 +20,7 @@ use std::marker::Model;
 
 /// A raster map of whole numbers (GRASS: a CELL map) with its region, its rows from the top, and the labels of its
 /// categories. Rows and columns are counted from 0. A row is stored as runs, or as cells if these take less memory.
-/// Cells take one byte each if all cells of the row are null or from 0 to 254.
+/// Each cell takes one byte if every cell of the row is null or between 0 and 254.
 #[derive(Debug, Drop)]
 pub struct CellMap {
     alloc: Global,

@@ -19,7 +19,7 @@ use std::simd::prelude::*;
 // Number of cells compared at a time.
 pub(crate) const BLOCK: usize = 64;
 
-// Returns the category of a cell, or `None` for null. The contract states that a cell is one or the other.
+// Returns the category of a cell, or `None` for null. The contract states that a cell is null or a category.
 pub(crate) fn category_of(cell: Cell) -> Option<i32>
     ensures value { result ≡ cell }
     ensures cell { IsCell cell }

@@ -4,7 +4,7 @@ use Rattle.std.specs.FinMap.{insert, from_entries}
 use Rattle.cell_core.proofs.LabelLemmas.{insert-labels}
 use Rattle.cell_core.proofs.map.CellMap.set_label.Goals as goal
 
--- the ordered map holds the copy at the category, and the rest as it was
+-- the ordered map holds the copied label at the category, and its other labels are unchanged
 pub returns-clause-ok : goal.returns-clause-ok
 returns-clause-ok c =
     let old = c.self.inside.labels.entries in

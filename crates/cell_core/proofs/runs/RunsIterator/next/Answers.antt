@@ -23,7 +23,7 @@ short_rest : (cells : List CellValue) (n : ℕ) {all : ℕ} → length cells + 1
     → length (take (length cells - n) (drop n cells)) < 2 ^ 32
 short_rest cells n one short = omega (arith, length-take (length cells - n) (drop n cells), length-drop n cells)
 
--- the first run of the cells that bytes stand for, and the runs of the bytes after it
+-- the runs of bytes are the first run and the runs of the bytes after it
 bytes_rest : (b : ℕ) (bytes : List ℕ) (cell : CellValue) (n : ℕ) → cell ≡ byte_cell b
     → n ≡ alike cell (cells_of_bytes bytes) → runs_in (cells_of_bytes (b ∷ bytes))
     ≡ (cell, 1 + n) ∷ runs_in (cells_of_bytes (take (length bytes - n) (drop n bytes)))

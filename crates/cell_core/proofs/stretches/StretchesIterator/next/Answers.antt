@@ -9,7 +9,7 @@ use Rattle.cell_core.proofs.stretches.StretchesIterator.next.Goals as goal
 fewer : (run : RunValue) (runs all : List RunValue) → all ≡ run ∷ runs → length runs < length all
 fewer run runs all e = rw e (omega arith)
 
--- the cell of the first byte, and the cells of the others
+-- taken one by one, the cells of bytes are the first byte's cell and the other bytes' cells
 bytes_first : {b : ℕ} {bytes all : List ℕ} {cell : CellValue} → all ≡ b ∷ bytes → cell ≡ byte_cell b
     → one_by_one (cells_of_bytes all) ≡ (cell, 1) ∷ one_by_one (cells_of_bytes bytes)
 bytes_first {bytes = bytes} whole stands =
