@@ -1,4 +1,4 @@
--- The text that a put and a push append, and one text after another.
+-- The text that a put or a push appends, and texts appended one after another.
 use Rattle.std.proofs.Common.{◌≡◌, ◌∙◌, ℕ, ◌+◌, ◌<◌, Bool, true, false, List, [], ◌++◌, length, take, drop, Option, Result, Ok, Err, OnOk, IfErr, refl, sym, ap, arith, append_assoc, append-nil, length-append, length-drop, length-take}
 use Rattle.std.specs.Prelude.{is_err}
 use Rattle.std.proofs.lemmas.List.{take-append-drop}
@@ -10,7 +10,7 @@ use Rattle.cell_core_devices.proofs.DeviceLemmas.{append_known-append}
 capped_sum : (a b : ℕ) → capped_count (capped_count a + b) ≡ capped_count (a + b)
 capped_sum a b = omega arith
 
--- the sink took more after a prefix
+-- bytes taken after a prefix extend the prefix
 taken_after : (before now : Option (List ℕ)) (front sent : List ℕ) → now ≡ append_known before front → append_known now sent ≡ append_known before (front ++ sent)
 taken_after before now front sent e = ap (λ o. append_known o sent) e ∙ append_known-append before front sent
 
@@ -28,7 +28,7 @@ module _ {before now : Option (List ℕ)} {start faults : Faults} {all : List �
   whole_after : (bytes : List ℕ) → p.front ++ (p.rest ++ bytes) ≡ all ++ bytes
   whole_after bytes = sym (append_assoc p.front p.rest bytes) ∙ ap (λ (l : List ℕ). l ++ bytes) p.whole
 
-  -- after a failed put they are lost
+  -- after a failed put, further bytes are lost
   lost : (bytes : List ℕ) → block.failed ≡ true → Appended before start (all ++ bytes) now faults block
   lost bytes failed = record {
     front = p.front;
@@ -41,14 +41,14 @@ module _ {before now : Option (List ℕ)} {start faults : Faults} {all : List �
   }
 
   module _ (good : block.failed ≡ false) where
-    -- what is held is all that the sink did not take
+    -- the prefix taken and the bytes held are the complete text
     held_all : p.front ++ block.held ≡ all
     held_all = ap (λ (l : List ℕ). p.front ++ l) (rw good at p.held) ∙ p.whole
 
     no_fault : faults ≡ start
     no_fault = rw good at p.fails
 
-    -- the rest of a text was put
+    -- putting the rest of a text appends the complete text
     put_all : (text bytes : List ℕ) → p.front ++ bytes ≡ all ++ text → Appended before start (all ++ text) (append_known now bytes) faults (record { held = []; written = capped_count (block.written + length bytes); failed = false })
     put_all text bytes parts = record {
       front = p.front ++ bytes;
@@ -81,15 +81,15 @@ module _ {before now : Option (List ℕ)} {start faults : Faults} {all : List �
     settled_put (Err fault) text bytes next after parts ok within err same = rw (err, same) (put_some text bytes fault.written within parts)
 
 module _ {S : Type 0} {taken : S → Option (List ℕ)} {faults : S → Faults} {old : S} {block : BlockValue} where
-  -- nothing is added
+  -- nothing was appended
   pub appends_none : Appends taken faults old block [] old block
   appends_none = record { adds = λ before start all p. rw append-nil p }
 
-  -- one text after another
+  -- two texts appended one after another are appended as one
   pub appends_then : {a b : List ℕ} {mid now : S} {middle new : BlockValue} → Appends taken faults old block a mid middle → Appends taken faults mid middle b now new → Appends taken faults old block (a ++ b) now new
   appends_then {a} {b} first second = record { adds = λ before start all p. rw (← append_assoc all a b) (second.adds before start (all ++ a) (first.adds before start all p)) }
 
-  -- what was held is put
+  -- putting the held bytes appends nothing new
   pub appends_held : (put : Result Unit WriteFault) (next : S) → block.failed ≡ false → OnOk put (taken next ≡ append_known (taken old) block.held) → IfErr put (λ f. f.written < length block.held)
       → IfErr put (λ f. taken next ≡ append_known (taken old) (take f.written block.held)) → faults next ≡ after_put (faults old) (is_err put)
       → Appends taken faults old block [] next (settled_block block put (length block.held))
@@ -97,7 +97,7 @@ module _ {S : Type 0} {taken : S → Option (List ℕ)} {faults : S → Faults} 
     adds = λ before start all p. settled_put p good put [] block.held _ _ (held_all p good ∙ sym (append-nil all)) ok within err same;
   }
 
-  -- bytes are put past a block that holds nothing
+  -- bytes that are put past an empty block are appended
   pub appends_put : (put : Result Unit WriteFault) (bytes : List ℕ) (next : S) → block.failed ≡ false → block.held ≡ [] → OnOk put (taken next ≡ append_known (taken old) bytes) → IfErr put (λ f. f.written < length bytes)
       → IfErr put (λ f. taken next ≡ append_known (taken old) (take f.written bytes)) → faults next ≡ after_put (faults old) (is_err put)
       → Appends taken faults old block bytes next (settled_block block put (length bytes))
@@ -107,6 +107,6 @@ module _ {S : Type 0} {taken : S → Option (List ℕ)} {faults : S → Faults} 
         settled_put p good put bytes bytes _ _ (ap (λ (l : List ℕ). l ++ bytes) front) ok within err same;
   }
 
-  -- after a failed put nothing follows, whatever the text
+  -- after a failed put, any further text changes nothing
   pub appends_cut : {a : List ℕ} (b : List ℕ) {now : S} {new : BlockValue} → Appends taken faults old block a now new → new.failed ≡ true → Appends taken faults old block (a ++ b) now new
   appends_cut {a} b first failed = record { adds = λ before start all p. rw (← append_assoc all a b) (lost (first.adds before start all p) b failed) }

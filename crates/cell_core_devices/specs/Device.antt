@@ -43,7 +43,7 @@ flushed_again Never = Once
 flushed_again Once = More
 flushed_again More = More
 
--- whether a put failed, whether a flush failed, and how often the sink was flushed
+-- whether a put failed, whether a flush failed, and how many times the sink was flushed
 pub record Faults : Type 0 where
   pub refused : Bool
   pub unflushed : Bool

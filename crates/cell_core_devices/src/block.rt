@@ -15,8 +15,9 @@ const ROOM: usize = 4096;
 ///
 /// It does not allocate. After a failed put, nothing more is written.
 ///
-/// Functions that write through a block return nothing. When each of them returned a failed put, it needed four to six
-/// more clauses and a proof three times as long. A buffered writer of std would also count bytes that it still holds.
+/// Functions that write through a block return nothing. If each returned the error of a failed put, it would need four
+/// to six more clauses and a proof three times as long. A buffered writer of std would also count bytes that it still
+/// holds.
 #[derive(Drop)]
 pub struct OutputBlock {
     bytes: [u8; ROOM],

@@ -8,7 +8,7 @@ use crate::history::History;
 use std::io::Write;
 use std::marker::Model;
 
-/// How often a sink was flushed. An integer would need a clause that it cannot overflow.
+/// The number of times a sink was flushed. An integer would need a clause stating that it cannot overflow.
 #[derive(Clone, Copy, Debug, PartialEq, Eq)]
 pub enum Flushes {
     /// The sink was never flushed.
@@ -36,7 +36,7 @@ pub trait Sink {
     /// The bytes accepted so far, or `None` if they are unknown.
     ghost taken: { Self → Option (List ℕ) };
 
-    /// Whether a put failed, whether a flush failed, and how often the sink was flushed.
+    /// Whether a put failed, whether a flush failed, and how many times the sink was flushed.
     ghost faults: { Self → Faults };
 
     /// Accepts the first bytes of a non-empty slice and returns their number, at least 1.
@@ -62,7 +62,7 @@ pub trait Sink {
         ensures faults { faults self.new ≡ after_flush (faults self.old) (is_err result) };
 }
 
-/// How many bytes were written before the sink failed.
+/// The number of bytes that were written before the sink failed.
 #[derive(Clone, Copy, Debug, PartialEq, Eq)]
 pub struct WriteFault {
     /// The number of bytes that the sink accepted: of the slice or text that was put or, for an output block, of all

@@ -43,7 +43,7 @@ slice_bounds-put-count g c = c.loop-at.invariant.within
 pub put-requires : goal.put-requires
 put-requires g c = some_left c.args.bytes.now c.loop-at.at c.loop-at-test.true
 
--- the bytes taken grow by the piece that was put
+-- after each put, the bytes taken have grown by the piece that was put
 pub loop-at-preserved : goal.loop-at-preserved
 loop-at-preserved g c = record {
   within = within c.args.bytes.now c.loop-at.at c.loop-at.invariant.within c.in-Ok.ensures.count.1;
@@ -77,6 +77,6 @@ returns-clause-ok g c =
 pub returns-clause-faults : goal.returns-clause-faults
 returns-clause-faults g c = c.loop-at.invariant.faults
 
--- an empty slice leaves the place at the start
+-- putting an empty slice leaves the sink unchanged
 pub returns-clause-empty : goal.returns-clause-empty
 returns-clause-empty g c none = c.loop-at.invariant.untouched (at_start (ap length none) c.loop-at.invariant.within)

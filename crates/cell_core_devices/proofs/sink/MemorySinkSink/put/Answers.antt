@@ -5,7 +5,7 @@ use Rattle.cell_core_devices.proofs.sink.MemorySinkSink.put.Goals as goal
 reaches : {a b d : ℕ} → a ≤ b → d ≡ b → a ≤ d
 reaches most same = omega arith
 
--- a call takes no more than it is given, and no more than there is room for
+-- a call takes at most the bytes it is given, and at most as many as fit
 few : {m n : ℕ} (bytes piece room : ℕ) → m ≡ min bytes piece → n ≡ min m room → (n ≤ bytes) × (n ≤ room)
 few bytes piece room e f = (omega arith, omega arith)
 

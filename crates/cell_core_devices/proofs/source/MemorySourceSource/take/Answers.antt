@@ -13,7 +13,7 @@ use Rattle.cell_core_devices.proofs.source.MemorySourceSource.take.Goals.{else-i
 rest_is : (bytes : List ℕ) {now : List ℕ} (at : ℕ) → now ≡ bytes → take (length now - at) (drop at now) ≡ drop at bytes
 rest_is bytes {now} at same = whole_rest now at ∙ ap (drop at) same
 
--- a call moves no more than there is, and no more than there is room for
+-- a call moves at most the remaining bytes, and at most as many as fit
 moves : {m n : ℕ} (rest piece room : ℕ) → m ≡ min rest piece → n ≡ min m room → (n ≤ rest) × (n ≤ room)
 moves rest piece room e f = (omega arith, omega arith)
 
