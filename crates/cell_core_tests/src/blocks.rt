@@ -50,7 +50,7 @@ impl Sink for RefusesOnce {
     }
 }
 
-// A byte and how often it is pushed, and the number of bytes that the sink has accepted afterwards.
+// A byte, how many times it is pushed, and the number of bytes that the sink has accepted afterwards.
 const PUSHES: [(u8, usize, usize); 5] = [
     (b'a', 4000, 0),
     (b'b', 96, 0),

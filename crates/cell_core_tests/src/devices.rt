@@ -14,7 +14,7 @@ pub enum Step {
 }
 
 /// A device that follows the steps in turn, and then moves everything. As a reader it returns only bytes `x`; as a
-/// writer it accepts only these.
+/// writer it accepts only bytes `x`.
 #[derive(Drop)]
 pub struct Device {
     steps: &'static [Step],

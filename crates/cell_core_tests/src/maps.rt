@@ -80,10 +80,10 @@ fn cell_at(map: &CellMap, row: u32, col: u32) -> Option<Cell> {
     }
 }
 
-// A row with half as many runs as cells, and one with one run less.
+// A row with half as many runs as cells, and a row with one run fewer.
 const AS_MANY_RUNS: [i32; 18] = [1, 1, 2, 2, 3, 3, 1, 1, 2, 3, 3, 3, 1, 1, 2, 2, 2, 2];
 
-// A row with half as many runs as cells, and one with one run more.
+// A row with half as many runs as cells, and a row with one run more.
 const MORE_RUNS: [i32; 12] = [1, 2, 2, 3, 3, 3, NULL, NULL, 1, 2, NULL, 3];
 
 #[test]
