@@ -5,7 +5,7 @@ use Rattle.std.specs.List.{list_all}
 use Rattle.std.proofs.lemmas.List.{take_more}
 use Rattle.cell_core_values.specs.Blanks.{is_blank, before_blanks}
 
--- a blank at the end is left out
+-- removing blanks at the end also removes an appended blank
 pub before_blanks-blank : (xs : List ℕ) (b : ℕ) → is_blank b ≡ true → before_blanks (xs ++ b ∷ []) ≡ before_blanks xs
 before_blanks-blank [] b e = rw e refl
 before_blanks-blank (x ∷ xs) b e = rw (list_all-snoc xs b e, before_blanks-blank xs b e) refl
@@ -14,7 +14,7 @@ before_blanks-blank (x ∷ xs) b e = rw (list_all-snoc xs b e, before_blanks-bla
     list_all-snoc [] c f = rw f refl
     list_all-snoc (y ∷ ys) c f = rw (list_all-snoc ys c f) refl
 
--- a text that ends otherwise stays
+-- a text that ends in another byte is left unchanged
 pub before_blanks-other : (xs : List ℕ) (b : ℕ) → is_blank b ≡ false → before_blanks (xs ++ b ∷ []) ≡ xs ++ b ∷ []
 before_blanks-other [] b e = rw e refl
 before_blanks-other (x ∷ xs) b e = rw (list_all-no xs b e, and_no (is_blank x), before_blanks-other xs b e) refl
@@ -27,14 +27,14 @@ before_blanks-other (x ∷ xs) b e = rw (list_all-no xs b e, and_no (is_blank x)
     list_all-no [] c f = rw f refl
     list_all-no (y ∷ ys) c f = rw (list_all-no ys c f) (and_no (is_blank y))
 
--- one blank fewer
+-- if the last byte is a blank, dropping it does not change the result
 pub before_blanks-step : (w : List ℕ) (n : ℕ) → 0 < n → n < length w + 1 → is_blank (get_or w (n - 1) 0) ≡ true → before_blanks (take (n - 1) w) ≡ before_blanks (take n w)
 before_blanks-step w n some h e =
     let more : n ≡ (n - 1) + 1 = omega arith in
     let step : take ((n - 1) + 1) w ≡ take (n - 1) w ++ get_or w (n - 1) 0 ∷ [] = take_more w (n - 1) 0 (omega arith) in
     sym (ap (λ m. before_blanks (take m w)) more ∙ ap before_blanks step ∙ before_blanks-blank (take (n - 1) w) (get_or w (n - 1) 0) e)
 
--- another byte
+-- if the last byte is not a blank, the text is already the result
 pub before_blanks-stop : (w : List ℕ) (n : ℕ) → 0 < n → n < length w + 1 → is_blank (get_or w (n - 1) 0) ≡ false → take n w ≡ before_blanks (take n w)
 before_blanks-stop w n some h e =
     let more : n ≡ (n - 1) + 1 = omega arith in

@@ -1,4 +1,4 @@
--- Places of names in a list of distinct names.
+-- The places of names in a list of distinct names.
 use Rattle.std.proofs.Common.{◌≡◌, ◌≢◌, ℕ, zero, suc, Bool, true, false, ◌+◌, ◌<◌, List, [], ◌∷◌, ◌++◌, length, Option, Some, None, arith, ap, ◌∙◌, subst, refl, cond}
 use Rattle.std.specs.Prelude.{bytes_eq, slice_get, slice_index_or}
 use Rattle.std.specs.List.{position_from}
@@ -11,7 +11,7 @@ pub cond-none : (b : Bool) (i : ℕ) (rest : Option ℕ) → cond b (Some i) res
 cond-none true i rest h = cc
 cond-none false i rest h = (refl, h)
 
--- no element passes a test that finds nothing
+-- if the search finds nothing, no element passes the test
 pub none_pass : (p : List ℕ → Bool) (i : ℕ) (names : List (List ℕ)) → position_from p i names ≡ None → (k : ℕ) (d : List ℕ) → k < length names → p (slice_index_or names k d) ≡ false
 none_pass p i [] h k d within = absurd (omega arith)
 none_pass p i (x ∷ xs) h zero d within = (cond-none (p x) i (position_from p (i + 1) xs) h).0
@@ -27,7 +27,7 @@ bytes_eq-differ a b differ = by_cases (bytes_eq a b) (λ same. absurd (differ ((
     by_cases true h = h refl
     by_cases false h = refl
 
--- a name that is not found may be put last
+-- names stay distinct if a name that is not among them is appended
 pub AreDistinct-push : (names : List (List ℕ)) (name : List ℕ) → AreDistinct names → place_of name names ≡ None → AreDistinct (names ++ name ∷ [])
 AreDistinct-push names name h none =
     all_pairs_push (λ a b. a ≢ b) names name h (λ k d within. bytes_eq-apart (slice_index_or names k d) name (none_pass (λ n. bytes_eq n name) 0 names none k d within))

@@ -1,4 +1,4 @@
--- Names are found at their places, also after one more is put last.
+-- Names are found at their places, also after another name is appended.
 use Rattle.std.proofs.Common.{◌≡◌, ℕ, Bool, true, false, ◌+◌, ◌<◌, List, [], ◌∷◌, ◌++◌, length, Option, Some, None, arith, ap, sym, ◌∙◌, subst, refl, cond}
 use Rattle.std.specs.Prelude.{bytes_eq, IfSome}
 use Rattle.std.specs.Ordering.{is_eq, nat_cmp, eq_by_cmp}
@@ -12,7 +12,7 @@ use Rattle.cell_core_values.specs.Name.{place_of}
 use Rattle.cell_core_values.specs.parts.NamePlaces.{ArePlaces}
 use Rattle.cell_core_values.proofs.NameLemmas.{cond-none}
 
--- what is found lies in the list
+-- a place that is found is within the list
 pub position_from-within : (p : List ℕ → Bool) (i : ℕ) (names : List (List ℕ)) (k : ℕ) → position_from p i names ≡ Some k → k < i + length names
 position_from-within p i [] k h = cc
 position_from-within p i (x ∷ xs) k h = by (p x) (position_from-within p (i + 1) xs k) h
@@ -28,7 +28,7 @@ place_of-within text names = by (place_of text names) (position_from-within (λ 
     by None inside = tt
     by (Some k) inside = let lt : k < 0 + length names = inside k refl in omega (arith, lt)
 
--- a last element that passes is found if none before it does
+-- if only the last element passes, its place is found
 position_from-last : (p : List ℕ → Bool) (i : ℕ) (names : List (List ℕ)) (name : List ℕ) → position_from p i names ≡ None → p name ≡ true → position_from p i (names ++ name ∷ []) ≡ Some (i + length names)
 position_from-last p i [] name none here = rw here (ap Some (omega arith))
 position_from-last p i (x ∷ xs) name none here =
@@ -50,7 +50,7 @@ module _ {K : Type 0} (bytes : K → List ℕ) where
   apart name text key differ same =
       is_eq-slice_cmp text key ∙ nat_list_eq_equiv.symm text key ∙ sym (nat_list_eq_equiv.congr name key text (sym (is_eq-slice_cmp name key) ∙ same)) ∙ differ
 
-  -- one more name is found at the last place, and the others where they were
+  -- an appended name is found at the last place, and the other names keep their places
   pub ArePlaces-push : (names : List (List ℕ)) (name : List ℕ) (old new : List (K × ℕ)) → ArePlaces bytes names old → place_of name names ≡ None
       → lookup (λ key. is_eq (slice_cmp nat_cmp name (bytes key))) new ≡ Some (length names)
       → KeepsOthers (eq_by_cmp (λ x y. slice_cmp nat_cmp (bytes x) (bytes y))) (λ key. is_eq (slice_cmp nat_cmp name (bytes key))) old new

@@ -1,4 +1,4 @@
--- Words of a line, piece by piece.
+-- The words of a line, piece by piece.
 use Rattle.std.proofs.Common.{◌≡◌, ℕ, ◌+◌, ◌<◌, true, false, not, List, [], ◌∷◌, ◌++◌, length, map, take, get_or, refl, ap, sym, ◌∙◌, arith, Bor, append-nil}
 use Rattle.std.specs.Prelude.{◌==◌}
 use Rattle.std.specs.List.{filter}
@@ -25,7 +25,7 @@ words_more xs i d h =
     ∙ ap (filter is_word) (map-append (λ w. w.now) (take i xs) (get_or xs i d ∷ []))
     ∙ filter-append is_word (texts (take i xs)) ((get_or xs i d).now ∷ [])
 
--- a piece that is a word goes last
+-- a piece that is a word is appended to the words
 pub kept : (words xs : List (Bor (List ℕ))) (i : ℕ) (d : Bor (List ℕ)) → i < length xs → texts words ≡ filter is_word (texts (take i xs))
     → false ≡ (length (get_or xs i d).now == 0) → texts (words ++ get_or xs i d ∷ []) ≡ filter is_word (texts (take (i + 1) xs))
 kept words xs i d h so_far test =
@@ -33,7 +33,7 @@ kept words xs i d h so_far test =
     map-append (λ w. w.now) words (get_or xs i d ∷ []) ∙ ap (λ l. l ++ (get_or xs i d).now ∷ []) so_far
     ∙ sym (words_more xs i d h ∙ rw word refl)
 
--- an empty piece is left out
+-- an empty piece is not a word and is left out
 pub left_out : (words xs : List (Bor (List ℕ))) (i : ℕ) (d : Bor (List ℕ)) → i < length xs → texts words ≡ filter is_word (texts (take i xs))
     → true ≡ (length (get_or xs i d).now == 0) → texts words ≡ filter is_word (texts (take (i + 1) xs))
 left_out words xs i d h so_far test =

@@ -19,7 +19,7 @@ signed_number unsigned (b ∷ bs) =
 abbrev pub whole_number : List ℕ → Option ℤ
 whole_number bs = signed_number digits_of bs
 
--- the number is from -2147483647 to 2147483647
+-- the number is between -2147483647 and 2147483647
 abbrev pub is_in_range : ℤ → Bool
 is_in_range n = int_le LEAST n && int_le n GREATEST
 

@@ -12,9 +12,9 @@ pub enum RegionFault {
     /// The north edge is not above the south edge, the east edge is not above the west edge, or an edge is beyond
     /// ±9999999999.99999999.
     BadExtent,
-    /// The number of rows is not from 1 to 65535.
+    /// The number of rows is not between 1 and 65535.
     BadRows,
-    /// The number of columns is not from 1 to 65535.
+    /// The number of columns is not between 1 and 65535.
     BadCols,
     /// The region has more than 2147483647 cells.
     TooManyCells,
@@ -162,7 +162,7 @@ impl Region {
         self.west
     }
 
-    /// Returns the number of rows, 1 to 65535.
+    /// Returns the number of rows, between 1 and 65535.
     pub fn rows(&self) -> u32
         ensures value { result ≡ self.now.rows }
         ensures region { IsRegion self.now }
@@ -170,7 +170,7 @@ impl Region {
         self.rows
     }
 
-    /// Returns the number of columns, 1 to 65535.
+    /// Returns the number of columns, between 1 and 65535.
     pub fn cols(&self) -> u32
         ensures value { result ≡ self.now.cols }
         ensures region { IsRegion self.now }

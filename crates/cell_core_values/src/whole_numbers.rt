@@ -73,7 +73,7 @@ pub fn whole_number(text: &[u8]) -> Option<i64>
     }
 }
 
-/// Returns whether a number is from [`LEAST`] to [`GREATEST`]. Does not allocate.
+/// Returns whether a number is between [`LEAST`] and [`GREATEST`]. Does not allocate.
 pub fn is_in_range(n: i64) -> bool
     ensures { result ≡ is_in_range n }
 {

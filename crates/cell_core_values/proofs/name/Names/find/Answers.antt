@@ -4,7 +4,7 @@ use Rattle.cell_core_values.specs.Name.{place_of}
 use Rattle.cell_core_values.proofs.PlaceLemmas.{place_of-within}
 use Rattle.cell_core_values.proofs.name.Names.find.Goals as goal
 
--- a place that is found is one of the list
+-- a place that is found is within the list
 pub returns-clause-within : goal.returns-clause-within
 returns-clause-within c =
     let found : c.copied.result ≡ place_of c.args.text.now c.self.inside.names.items = search rules in

@@ -10,7 +10,7 @@ use Rattle.cell_core_values.proofs.name.Names.push_or_return.Goals as goal
 room : {n most : ℕ} → n + 1 ≤ most → n < most
 room h = omega arith
 
--- a push that succeeded
+-- after a successful push, the names are the old names and the new one
 pushed : {ok : Bool} (new old names : List (List ℕ)) (name : List ℕ) → new ≡ (if ok then old ++ name ∷ [] else old)
     → ok ≡ true → old ≡ names → new ≡ names ++ name ∷ []
 pushed new old names name e is_pushed same = rw (is_pushed, same) at e
@@ -46,7 +46,7 @@ invariant_of-self-in_default-insert c = rw (c.reserve.ensures.items, c.in_defaul
 pub returns-in_default-insert-clause-err : goal.returns-in_default-insert-clause-err
 returns-in_default-insert-clause-err c = c.reserve.ensures.items ∙ c.self.view_is
 
--- the name was not there, and its copy is found at the last place
+-- the name was not in the list, and its copy is found at the last place
 pub invariant_of-self-2 : goal.invariant_of-self-2
 invariant_of-self-2 c =
     let names = c.self.inside.names.items in

@@ -9,7 +9,7 @@ use Rattle.cell_core_values.specs.declared.region.RegionFault.TheVariants.{BadEx
 use Rattle.cell_core_values.proofs.region.Region.new.Goals as goal
 use Rattle.cell_core_values.proofs.region.Region.new.Goals.{then-not-is_above-via-then-not-is_above, then-not-is_above-via-else-not-is_above+then-not-is_above-2}
 
--- the first error by what the tests say
+-- the first error according to the results of the tests
 abbrev fault_by : RegionValue → Bool → Bool → Bool → Bool → Bool → Result RegionValue RegionFault
 fault_by e high wide rows cols cells =
     if not (high && wide) then Err BadExtent
@@ -45,7 +45,7 @@ side n h =
     let parts = both (nat_le 1 n) (nat_le n most_side) h in
     (leb-true 1 n parts.0, leb-true n most_side parts.1)
 
--- a test of two edges, read back from their words
+-- comparing two edges as 64-bit words gives the same result as comparing the numbers
 reported : (a b : ℤ) {r v : Bool} → FitsSigned w64 a → FitsSigned w64 b
     → r ≡ is_above (to_z w64 (of_z w64 a)) (to_z w64 (of_z w64 b)) → r ≡ v → is_above a b ≡ v
 reported a b fa fb e v =
