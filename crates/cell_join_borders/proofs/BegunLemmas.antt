@@ -1,4 +1,4 @@
--- Clumps are no more than the largest category.
+-- The number of clumps is at most the largest category.
 use Rattle.std.proofs.Common.{◌≡◌, ℕ, pos, negsuc, ◌≤◌, List, [], ◌∷◌, true, Some, None, length, sum, take_all}
 use Rattle.std.proofs.Common.{ap, sym, ◌∙◌, arith}
 use Rattle.std.specs.Prelude.{All}

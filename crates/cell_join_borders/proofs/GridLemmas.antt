@@ -1,4 +1,4 @@
--- A map with a size, counts and sides is the map of a border.
+-- A map with the right size, counts and sides is the map of a border.
 use Rattle.std.proofs.Common.{◌≡◌, ℕ, zero, suc, pos, ◌-◌, ◌<◌, ◌≤◌, List, [], ◌∷◌, Some, None, length}
 use Rattle.std.proofs.Common.{sum, get_or}
 use Rattle.std.proofs.Common.{ap, refl, sym, ◌∙◌, arith, subst, ⊎_elim}
@@ -14,7 +14,7 @@ use Rattle.cell_join_borders.specs.parts.ReadBorder.{AreSidesIn, IsGridOf}
 use Rattle.cell_join_borders.proofs.RegionLemmas.{six}
 use Rattle.cell_join_borders.proofs.SideLemmas.{from-places, wide-row}
 
--- ten rows
+-- a list of length 10 is the list of its ten rows
 ten : (rows : List (List CellValue)) → length rows ≡ 10
     → rows ≡ get_or rows 0 [] ∷ get_or rows 1 [] ∷ get_or rows 2 [] ∷ get_or rows 3 [] ∷ get_or rows 4 []
     ∷ get_or rows 5 [] ∷ get_or rows 6 [] ∷ get_or rows 7 [] ∷ get_or rows 8 [] ∷ get_or rows 9 [] ∷ []

@@ -1,4 +1,4 @@
--- Lemmas on the border of a tile as a text.
+-- Lemmas on the text of a tile's border.
 pub mod RegionLemmas
 pub mod LineLemmas
 pub mod SideLemmas

@@ -1,4 +1,4 @@
--- How long the rows of the map of a border are.
+-- The lengths of the rows of a border's map.
 use Rattle.std.proofs.Common.{◌≡◌, ℕ, List, None, length, get_or}
 use Rattle.std.proofs.lemmas.List.FromFn.{length-map-range_with_len}
 use Rattle.cell_core.specs.Grid.{CellValue}

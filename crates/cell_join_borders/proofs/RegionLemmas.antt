@@ -1,4 +1,4 @@
--- The region of the map of a border is one, and regions of six numbers.
+-- The map of a border has a valid region, and six numbers of a region make that region.
 use Rattle.std.proofs.Common.{if◌then◌else◌}
 use Rattle.std.proofs.Common.{◌≡◌, ◌≤◌, ◌*◌, ℕ, ℤ, Bool, true, false, not, Result, Ok, Err, refl, sym, ◌∙◌, ap, arith}
 use Rattle.std.specs.Prelude.{nat_le, ◌&&◌}
@@ -21,7 +21,7 @@ passed false fault rest h = cc
 side-of : (n : ℕ) → 1 ≤ n → n ≤ 65535 → is_side n ≡ true
 side-of n least most = ap (λ (b : Bool). b && nat_le n 65535) (le-leb 1 n least) ∙ le-leb n 65535 most
 
--- ten rows as wide as the border of a tile are allowed
+-- a region of ten rows, as wide as the border of a tile, is valid
 pub border-region : (tile : RegionValue) → IsRegion tile → region_fault (border_region tile) ≡ Ok (border_region tile)
 border-region tile is =
     let rectangle : is_rectangle tile ≡ true = first-test (is_rectangle tile) BadExtent _ tile is.accepted in
@@ -63,7 +63,7 @@ same-region e r g = by (is_rectangle e) (is_side e.rows) (is_side e.cols) (is_co
     by true true true true g = cc
     by _ _ _ _ g = cc
 
--- six numbers that a region has make it, or are rejected
+-- a region made of another region's six numbers equals it
 pub made-some : (made : Result RegionValue RegionFault) (x e r : RegionValue) → made ≡ region_fault x → x ≡ e
     → made ≡ Ok r → r ≡ e
 made-some made x e r is same good = sym (same-region x r (sym is ∙ good)) ∙ same

@@ -1,4 +1,4 @@
--- Sides in the map of a border.
+-- The sides of a tile in the map of its border.
 use Rattle.std.proofs.Common.{◌≡◌, ℕ, ◌+◌, ◌<◌, ◌≤◌, List, [], ◌∷◌, ◌++◌, None, map, length, take, sum, get_or}
 use Rattle.std.proofs.Common.{ap, sym, ◌∙◌, arith, subst, ⊎_elim}
 use Rattle.std.specs.List.{range_with_len}
@@ -17,14 +17,14 @@ use Rattle.cell_join_borders.specs.PairFaults.{AreLinesFit, pair_fault}
 use Rattle.cell_join_borders.specs.parts.ReadBorder.{AreMosts, IsSideIn, most_places}
 use Rattle.cell_join_borders.specs.declared.sides.SideMosts.{SideMosts}
 
--- a row of a map is as wide as the map
+-- each row of a filled map is as wide as the map
 pub wide-row : (m : Grid) (row : ℕ) → IsFilled m.region m.rows → row < m.region.rows
     → length (row_at m row) ≡ m.region.cols
 wide-row m row filled inside =
     let within : row < length m.rows = omega (arith, inside, filled.count) in
     All-get_or (λ (cells : List CellValue). length cells ≡ m.region.cols) m.rows row [] within filled.width
 
--- a list of what a function gives at each place
+-- a list whose items a function gives is the function's list
 pub from-places : {X : Type 0} (d : X) (xs : List X) (n : ℕ) (f : ℕ → X) → length xs ≡ n
     → ((i : ℕ) → i < n → get_or xs i d ≡ f i) → xs ≡ map f (range_with_len 0 n)
 from-places d xs n f long each =
@@ -32,7 +32,7 @@ from-places d xs n f long each =
     (λ i lt. let inside : i < n = omega (arith, lt, long) in
     each i inside ∙ sym (get_or-map-range_with_len f 0 n i i d inside (omega arith)))
 
--- a row that is null from column count on is its first count cells, filled up with null
+-- a row that is null from a column on is its cells before that column, filled up with null
 pub filled-of : (row : List CellValue) (count width : ℕ) → length row ≡ width → count ≤ width
     → AreNullFrom count row → row ≡ filled_row width (take count row)
 filled-of row count width long few ended =
@@ -43,7 +43,7 @@ filled-of row count width long few ended =
     (let short = length-take-le count row (omega (arith, long, few)) in omega (arith, short, past))))
     (cases_lt i count))
 
--- the first cells of two rows that go together do so
+-- if two rows fit together, so do their first cells
 fit-taken : (most : List ℕ) (cells numbers : List CellValue) → AreLinesFit most cells numbers
     → AreLinesFit most (take (length most) cells) (take (length most) numbers)
 fit-taken most cells numbers fit col lt =
@@ -78,7 +78,7 @@ side-of m row most side filled inside few right cells numbers =
       };
     }
 
--- ---- the largest numbers of cells
+-- ---- the largest numbers that cells may have
 
 pub down-long : (begun : List ℕ) → length (most_down begun) ≡ length begun
 down-long begun = length-map-range_with_len (λ k. sum (take (k + 1) begun)) 0 (length begun)
@@ -100,7 +100,7 @@ module _ (m : Grid) (j : Joining) (tile : RegionValue) (begun : List ℕ) (both 
   pub down-few : length (most_down begun) ≤ m.region.cols
   down-few = omega (arith, down-long begun, both.counts.long, both.size.width)
 
--- one more running sum
+-- appending the next running sum extends the running sums
 pub down-more : (begun items more : List ℕ) (i clumps x d : ℕ) → i < length begun
     → items ≡ map (λ k. sum (take (k + 1) begun)) (range_with_len 0 i) → clumps ≡ sum (take i begun)
     → x ≡ clumps + get_or begun i d → more ≡ items ++ x ∷ []

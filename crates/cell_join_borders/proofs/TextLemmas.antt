@@ -1,4 +1,4 @@
--- The texts of borders, and their errors.
+-- The texts of borders and their errors.
 use Rattle.std.proofs.Common.{◌≡◌, ◌≢◌, ◌≤◌, ℕ, List, [], ◌∷◌, length, take, Option, Some, None, Result, Ok}
 use Rattle.std.proofs.Common.{Err, ap, subst, ◌∙◌, ⊎_elim}
 use Rattle.std.specs.FinMap as finmap
@@ -30,9 +30,9 @@ pub ok-weaker : {E : Type 0} (r : Result Grid E) (P Q : Grid → Type 0) → ((m
 ok-weaker (Ok made) P Q so h = so made h
 ok-weaker (Err fault) P Q so h = tt
 
--- ---- read
+-- ---- reading a text
 
--- a text whose map is not the map of a border is none
+-- a text is rejected if its map is not the map of a border
 pub wrong-grid : (m : Grid) (text : Coming) (fault : BorderFault) → Denotes text m → IsNoBorderMap m fault
     → IsBorderFault text fault
 wrong-grid m text (faults.Text fault) denotes wrong = absurd wrong
@@ -44,7 +44,7 @@ wrong-grid m text (faults.End place) denotes wrong = (m, denotes, wrong)
 wrong-grid m text (faults.Pair fault) denotes wrong = (m, denotes, wrong)
 wrong-grid m text faults.Memory denotes wrong = tt
 
--- one whose map is, is that border's
+-- a text whose map is the map of a border spells that border
 pub spelled-so : (m : Grid) (j : Joining) (tile : RegionValue) (border : Border) (text : Coming)
     → IsGridOf m j tile border → Denotes text m → SpellsBorder text j tile border
 spelled-so m j tile border text h denotes =
@@ -52,7 +52,7 @@ spelled-so m j tile border text h denotes =
     ap (λ (l : finmap.FinMap int_cmp (List ℕ)). record m { labels = l }) denotes.labels in
     subst (λ (x : Grid). Denotes text x) (same ∙ h.is) denotes
 
--- no side is wrong by an error that no side has
+-- an error that no side has is not an error of the sides
 of-no-side : (m : Grid) (places : List (ℕ × List ℕ)) (fault : BorderFault)
     → ((row : ℕ) (most : List ℕ) → AreRowsWrong m row most fault → ⊥) → AreSidesWrong m places fault → ⊥
 of-no-side m [] fault none wrong = wrong
@@ -76,7 +76,7 @@ wrong-side m j tile begun (faults.End place) both wrong = (j, tile, begun, both,
 wrong-side m j tile begun (faults.Pair fault) both wrong = (j, tile, begun, both, wrong (λ e. cc))
 wrong-side m j tile begun faults.Memory both wrong = tt
 
--- ---- written
+-- ---- writing a text
 
 pub made-so : (j : Joining) (m made : Grid) (text : Coming) → IsMapOfBorder j m made → Denotes text m
     → IsMadeOfText j text made

@@ -19,13 +19,13 @@ use Rattle.cell_join_borders.specs.declared.border_fault.BorderFault.TheVariants
 abbrev pub most_clumps : ℕ
 most_clumps = 2147483647
 
--- ---- the largest number allowed for a cell of a side: the number of clumps that begin in the cell's row or above it
+-- ---- the largest number allowed for a cell: the number of clumps that begin in the cell's row or above it
 
--- for the cells in a row of the tile
+-- the largest number allowed for each cell in a row of the tile
 abbrev pub most_in_row : ℕ → List ℕ → ℕ → List ℕ
 most_in_row cols begun row = replicate cols (begun_before begun (row + 1))
 
--- for the cells in a column of the tile
+-- the largest number allowed for each cell in a column of the tile
 abbrev pub most_down : List ℕ → List ℕ
 most_down begun = map (λ k. begun_before begun (k + 1)) (range_with_len 0 (length begun))
 
@@ -87,8 +87,8 @@ pub record AreRowsRight (m : Grid) (row : ℕ) (most : List ℕ) : Type 0 where
   pub numbers : AreNullFrom (length most) (row_at m (row + 1))
   pub fit : AreLinesFit most (row_at m row) (row_at m (row + 1))
 
--- why the two rows do not contain a side: a cell after the end, or else a number after the end, or else a cell and a
--- number that do not match
+-- the first reason why the two rows do not contain a side: a cell after the end, a number after the end, or a cell and
+-- a number that do not match
 abbrev pub AreRowsWrong : Grid → (row : ℕ) → (most : List ℕ) → BorderFault → Type 0
 AreRowsWrong m row most (End place) = ((place.row ≡ row) × IsFirstBehind (length most) (row_at m row) place.col) ⊎ ((place.row ≡ row + 1) × AreNullFrom (length most) (row_at m row) × IsFirstBehind (length most) (row_at m (row + 1)) place.col)
 AreRowsWrong m row most (Pair fault) = (fault.row ≡ row + 1) × AreNullFrom (length most) (row_at m row) × AreNullFrom (length most) (row_at m (row + 1)) × IsFirstPair most (row_at m row) (row_at m (row + 1)) fault.col fault.kind
@@ -127,7 +127,7 @@ IsNoBorderMap m (End place) = HasWrongSide m (End place)
 IsNoBorderMap m (Pair fault) = HasWrongSide m (Pair fault)
 IsNoBorderMap m Memory = Unit {0}
 
--- the first error in a text that is not a grid, or why its map is not the map of a border
+-- the first error in a text that is not a grid; if the text is a grid, why its map is not the map of a border
 abbrev pub IsBorderFault : Coming → BorderFault → Type 0
 IsBorderFault text (Text fault) = text_fault text ≡ Some fault
 IsBorderFault text Rows = (m : Grid) × Denotes text m × IsNoBorderMap m Rows

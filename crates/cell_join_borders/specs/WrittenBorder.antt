@@ -29,7 +29,7 @@ pub record HasWrittenBorder (j : Joining) (text : Coming) (before now : Option (
   pub taken : now ≡ append_known before (border_text j m.region border)
   pub count : written ≡ length (border_text j m.region border)
 
--- the sink accepted a prefix of that text, and `written` is its length
+-- the sink accepted a prefix of the text of the border of a map, and `written` is its length
 pub record HasBorderPrefix (j : Joining) (text : Coming) (before now : Option (List ℕ)) (written : ℕ) : Type 0 where
   pub m : Grid
   pub border : Border

@@ -176,7 +176,7 @@ pub fn write_border<R: Source + Drop, W: Sink>(
         (λ text. IsMapFault text fault)) }
     ensures untouched { IfSome result.fault (λ fault. fault ≢ MapFault.Write
         → (out.new ≡ out.old) × (result.written ≡ 0)) }
-    // After a failed write, the sink has accepted a prefix of that text.
+    // After a failed write, the sink has accepted a prefix of the text of the border.
     ensures cut { result.fault ≡ Some MapFault.Write → IfSome (R.coming map) (λ text.
         HasBorderPrefix joining text (W.taken out.old) (W.taken out.new) result.written) }
     // Without an error, no call of the sink failed, and it was flushed once. If no call had failed before, `Write`
