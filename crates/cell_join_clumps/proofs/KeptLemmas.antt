@@ -1,4 +1,4 @@
--- What is kept of tiles, whatever their texts are.
+-- The properties of the borders kept, for any texts.
 use Rattle.std.proofs.Common.{zero, suc, List, [], ◌∷◌, ◌++◌, Option, Some, None, sym, ◌∙◌}
 use Rattle.std.proofs.Common.{subst, arith, inl, inr}
 use Rattle.std.specs.List.{AllZip}
@@ -14,7 +14,7 @@ use Rattle.cell_join_clumps.specs.parts.ReadTiles.{IsTileAdded}
 use Rattle.cell_join_clumps.specs.declared.tile_grid.TileGrid.{TileGrid}
 use Rattle.cell_join_clumps.proofs.RowLemmas.{beside-push, push-some, zip-push}
 
--- tiles side by side have as many rows as the one on their left
+-- tiles side by side have as many rows as the tile on their left
 even-after : (left : RegionValue) (row : List RegionValue) (borders : List Border) → LieBeside (Some left) row
     → AllZip HasRowsOf row borders → AreEven left.rows (border_values borders)
 even-after left [] [] lie have c within = absurd (omega (arith, within))

@@ -1,4 +1,4 @@
--- Lemmas on texts of borders that are joined.
+-- Lemmas on joining the texts of borders.
 pub mod SideLemmas
 pub mod RowLemmas
 pub mod KeptLemmas

@@ -1,4 +1,4 @@
--- Where a tile goes, by the tiles that it has to lie right of or below.
+-- The place of a tile, given the tiles on its left and above it.
 use Rattle.std.proofs.Common.{◌≡◌, ◌≢◌, ◌==◌, ◌-◌, ◌<◌, ◌≤◌, ℕ, true, false, nat_lt, List, [], ◌∷◌, ◌++◌, length}
 use Rattle.std.proofs.Common.{get_or, Option, Some, None, Result, Ok, Err}
 use Rattle.std.proofs.Common.{refl, sym, ap, ◌∙◌, subst, arith, inl, inr}
@@ -30,7 +30,7 @@ use Rattle.cell_join_clumps.specs.declared.clumps_fault.ClumpsFault.TheVariants.
 use Rattle.cell_join_clumps.specs.declared.tile_grid.TileGrid.{TileGrid}
 use Rattle.cell_join_clumps.proofs.RowLemmas.{last-get}
 
--- what is found at a place of a list
+-- a place within a list has an item
 pub got : (xs : List RegionValue) (i : ℕ) (x : RegionValue) → true ≡ nat_lt i (length xs) → x ≡ get_or xs i x
     → slice_get xs i ≡ Some x
 got xs i x within is =
@@ -42,7 +42,7 @@ past xs i out =
     let least : length xs ≤ i = grind (arith, nat_tests) in
     slice_get_past xs i least
 
--- a row is whole, as its length was looked up above it
+-- a row is complete if the row above has no tile at the row's length
 pub whole-reported : (above row seen : List RegionValue) (place : ℕ) → seen ≡ above → place ≡ length row
     → nat_lt place (length seen) ≡ false → IsWhole above row
 whole-reported above row seen place is long out =
@@ -137,7 +137,7 @@ next-row above row first tile many (placements.NotBelow misfit back) some whole 
       },
     )
 
--- the same of lists that are equal
+-- a placement is the same for equal lists of tiles
 pub placement-at : (above upper row line : List RegionValue) (tile : RegionValue) (placement : TilePlacement)
     → above ≡ upper
     → row ≡ line
@@ -150,9 +150,9 @@ whole-row : (above row : List RegionValue) → (length row == 0) ≡ false → I
 whole-row above [] some whole = cc
 whole-row above (tile ∷ row) some whole = record { first = tile; whole = whole; first_is = refl }
 
--- ---- what does not continue
+-- ---- tiles that do not continue the grid
 
--- a text by the other connectivity
+-- a text with another connectivity than the joined texts is reported
 pub otherwise : (coming : Option Coming) (j : Joining) (place : ℕ) (tile : BorderText)
     → IfSome coming (λ text. SpellsBorder text tile.joining tile.region tile.border)
     → IsBorderFit tile.region tile.border → tile.joining ≢ j
@@ -168,7 +168,7 @@ otherwise (Some text) j place tile spelled fit other = (
   },
 )
 
--- a tile that goes nowhere
+-- a tile that fits nowhere is reported
 pub nowhere : (coming : Option Coming) (j : Joining) (place : ℕ) (above row : List RegionValue) (tile : BorderText)
     (fault : ClumpsFault)
     → IfSome coming (λ text. SpellsJoined j text tile) → GoesNowhere place above row tile.region fault
@@ -177,7 +177,7 @@ nowhere None j place above row tile fault spells wrong = tt
 nowhere (Some text) j place above row tile fault spells wrong =
     (refl, record { tile = tile; spells = spells; wrong = wrong })
 
--- the place of the tile that it is not below
+-- the error names the tile that the new tile is not below
 pub below-other : (place back other : ℕ) (above row : List RegionValue) (misfit : Misfit) (tile : RegionValue)
     → other ≡ place - back → IsTilePlacement above row tile (placements.NotBelow misfit back)
     → GoesNowhere place above row tile (NotBelow place other misfit)
@@ -219,7 +219,7 @@ unfinished read texts (Err fault) some whole wrong = by fault wrong
     by Memory w = tt
     by Write w = absurd w
 
--- a tile more that begins the next row
+-- a tile that begins the next row is added below
 pub begun : (j : Joining) (coming : Option Coming) (old : TileGrid) (tile : BorderText)
     (r : Result TileGrid ClumpsFault)
     → IfSome coming (λ t. SpellsJoined j t tile) → IsBorderFit tile.region tile.border

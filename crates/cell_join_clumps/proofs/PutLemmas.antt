@@ -1,4 +1,4 @@
--- A text put on a sink.
+-- Putting a text on a sink.
 use Rattle.std.proofs.Common.{◌≡◌, ℕ, List, [], Bool, true, false, Option, Some, None, refl, ap, sym}
 use Rattle.std.proofs.Common.{◌∙◌}
 use Rattle.std.specs.Prelude.{IfSome}

@@ -1,4 +1,4 @@
--- Texts read one after the other.
+-- Texts are read one after another.
 use Rattle.std.proofs.Common.{◌≡◌, ◌≢◌, ℕ, ◌+◌, ◌-◌, ◌≤◌, ◌^◌, List, [], ◌∷◌, ◌++◌, length, map, Option, Some, refl}
 use Rattle.std.proofs.Common.{ap, sym, ◌∙◌, subst, append-nil, append_assoc, inl, inr}
 use Rattle.std.specs.Prelude.{IfSome, slice_get}
@@ -36,7 +36,7 @@ use Rattle.cell_join_clumps.proofs.PlacementLemmas.{placement-at}
 if-known : (o : Option Coming) (c : Coming) (P : Coming → Type 0) → o ≡ Some c → IfSome o P → P c
 if-known o c P is so = rw is at so
 
--- ---- borders of a row
+-- ---- the borders of a row
 
 values-of : (row : List BorderText) → border_values (map (λ (tile : BorderText). tile.border) row) ≡ borders_of row
 values-of [] = refl
@@ -50,7 +50,7 @@ module _ (j : Joining) (texts : List Coming) (read : TileGrid) (so : HaveBeenRea
   held-values : border_values read.borders.items ≡ borders_of so.row
   held-values = ap border_values so.held.borders ∙ values-of so.row
 
-  -- these rows and the one that has begun
+  -- the complete rows and the unfinished row are all rows so far
   rows-and : border_rows_of so.rows ++ border_values read.borders.items ∷ [] ≡ border_rows_of (so.rows ++ so.row ∷ [])
   rows-and = ap (λ (l : List BorderValue). border_rows_of so.rows ++ l ∷ []) held-values
       ∙ sym (border_rows-push so.rows so.row)
@@ -73,7 +73,7 @@ module _ (j : Joining) (texts : List Coming) (read : TileGrid) (so : HaveBeenRea
       subst (λ (g : List (List BorderValue)). 2 ^ 64 ≤ clumps_in_grid (begun_in g)) rows-and
       (subst (λ (n : ℕ). 2 ^ 64 ≤ n) (sym both) many)
 
-  -- a tile more
+  -- one more tile is read
   module _ (text : Coming) (tile : BorderText) (new : TileGrid) (spells : SpellsJoined j text tile) where
     pub more-read : IsTileAdded tile read new → HaveBeenRead j (texts ++ text ∷ []) new
     more-read (inl (fits, added)) =
@@ -114,7 +114,7 @@ module _ (j : Joining) (texts : List Coming) (read : TileGrid) (so : HaveBeenRea
           };
         }
 
-  -- the whole of them joined
+  -- the borders of all texts are joined
   pub joined : (joiner : TileJoinerValue) → AreFinished read joiner → HaveBeenJoined j texts joiner
   joined joiner are = by so.row refl
     where
@@ -175,7 +175,7 @@ module _ (j : Joining) (texts : List Coming) (read : TileGrid) (so : HaveBeenRea
   too-short count Memory all short = tt
   too-short count Write all short = absurd short
 
--- the runs of all
+-- the runs of the joined tiles are the runs of the texts
 pub numbered : (j : Joining) (texts : List Coming) (joiner : TileJoinerValue) (runs : List Stretch)
     → HaveBeenJoined j texts joiner
     → ((grid : List (List BorderValue)) → AreJoinedTiles grid joiner → AreRunsOf joiner.joining grid runs)
@@ -294,7 +294,7 @@ module _ {R : Type 0} (j : Joining) (coming : R → Option Coming) (texts : List
           (sym (whole ∙ append-nil so.before)) so.so
       by (one ∷ others) give whole = cc
 
--- as many texts as sources
+-- there are as many texts as sources
 pub as-many : {R : Type 0} (coming : R → Option Coming) (sources : List R) (texts : List Coming)
     → Give coming sources texts → length sources ≡ length texts
 as-many coming sources texts give = sym (length-map sources coming) ∙ ap (λ (l : List (Option Coming)). length l) give

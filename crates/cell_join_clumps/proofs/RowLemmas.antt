@@ -1,4 +1,4 @@
--- One more tile after the tiles of a row, and one more row below others.
+-- Appending a tile to the tiles of a row, and a row below the others.
 use Rattle.std.proofs.Common.{◌≡◌, ◌-◌, ◌<◌, List, [], ◌∷◌, ◌++◌, length, Option, Some, None, refl}
 use Rattle.std.proofs.Common.{ap, sym, ◌∙◌, subst, append-nil, append_assoc, arith}
 use Rattle.std.specs.Prelude.{slice_get}
@@ -20,7 +20,7 @@ last-at : (tile : RegionValue) (row : List RegionValue) → slice_get (tile ∷ 
 last-at tile [] = refl
 last-at tile (next ∷ row) = last-at next row
 
--- the last tile of a row, by its place
+-- the last tile of a row is the tile at its last place
 pub last-get : (row : List RegionValue) → slice_get row (length row - 1) ≡ last_or None row
 last-get [] = refl
 last-get (tile ∷ row) =
@@ -50,7 +50,7 @@ row-under-push : (above row : List RegionValue) (tile : RegionValue) → RowFits
 row-under-push [] row tile lie fits = tt
 row-under-push (first ∷ above) row tile lie fits = under-push (first ∷ above) row tile fits.0 lie fits.1 fits.2
 
--- a row that has no tile more above it lies below the whole row
+-- a row is below the whole row above it if that row has no further tile
 under-whole : (above row : List RegionValue) → LieUnder above row → slice_get above (length row) ≡ None
     → AllZip IsBelow above row
 under-whole [] [] lie whole = tt
@@ -68,7 +68,7 @@ below-push : (above : List RegionValue) (rows : List (List RegionValue)) (row : 
 below-push above [] row lie fits = (fits, tt)
 below-push above (one ∷ rows) row lie fits = (lie.0, below-push one rows row lie.1 fits)
 
--- one more to two lists that go together
+-- two related lists stay related if a related pair is appended
 pub zip-push : {A B : Type 0} (R : A → B → Type 0) (xs : List A) (ys : List B) (x : A) (y : B) → AllZip R xs ys → R x y
     → AllZip R (xs ++ x ∷ []) (ys ++ y ∷ [])
 zip-push R [] [] x y are is = (is, tt)
@@ -102,7 +102,7 @@ under-first [] first tile is below = tt
 under-first (one ∷ row) first tile is below =
     let same : one ≡ first = cc in (subst (λ (u : RegionValue). IsBelow u tile) (sym same) below, tt)
 
--- before the first tile
+-- before the first tile, the grid is empty
 pub begun-none : (j : Joining) → AreGridSoFar j [] [] []
 begun-none j = record {
   spelled = tt;
@@ -118,7 +118,7 @@ begun-none j = record {
 
 module _ (j : Joining) (texts : List Coming) (rows : List (List BorderText)) (row : List BorderText)
     (begun : AreGridSoFar j texts rows row) where
-  -- if the row that has begun is full, it is one row more
+  -- a complete unfinished row is one more row of the grid
   rows-push : IsWholeRow (last_row [] (region_rows rows)) (regions_of row)
       → AreTileRows (region_rows (rows ++ row ∷ []))
   rows-push is = subst AreTileRows (sym (region_rows-push rows row)) (record {

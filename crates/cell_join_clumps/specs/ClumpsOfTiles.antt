@@ -22,14 +22,13 @@ use Rattle.cell_join_clumps.specs.declared.clumps_fault.ClumpsFault.TheVariants.
 
 -- ---- what is written
 
--- the runs of the clump numbers of tiles with these border texts, in every map, of any size, that is cut into these
--- tiles
+-- the runs of the tiles' clump numbers, in every map, of any size, that is cut into tiles with these border texts
 pub record AreRunsOfTexts (j : Joining) (texts : List Coming) (runs : List Stretch) : Type 0 where
   pub rows : List (List BorderText)
   pub are : AreGridOf j texts rows
   pub numbered : AreRunsOf j (border_rows_of rows) runs
 
--- the text of these runs
+-- the numbering is the text of these runs
 pub record IsNumberingOf (j : Joining) (texts : List Coming) (written : List ℕ) : Type 0 where
   pub runs : List Stretch
   pub are : AreRunsOfTexts j texts runs
@@ -42,7 +41,7 @@ pub record HasWrittenClumps (j : Joining) (texts : List Coming) (before now : Op
   pub taken : now ≡ append_known before text
   pub count : written ≡ capped_count (length text)
 
--- the sink accepted a prefix of the numbering
+-- the sink accepted a prefix of the numbering, and `written` is its length
 pub record HasClumpsPrefix (j : Joining) (texts : List Coming) (before now : Option (List ℕ)) (written : ℕ) : Type 0 where
   pub front : List ℕ
   pub rest : List ℕ
@@ -123,7 +122,8 @@ IsFaultOfTile j place above row text (NotBeside at misfit) = SpellsNowhere j pla
 IsFaultOfTile j place above row text (NotBelow at other misfit) = SpellsNowhere j place above row text (NotBelow at other misfit)
 IsFaultOfTile j place above row text fault = ⊥
 
--- the previous texts are the borders of an unfinished grid of tiles, and this is why the text does not continue it
+-- the previous texts are the borders of an unfinished grid of tiles, and the next text does not continue the grid for
+-- this reason
 pub record IsFirstTextFault (j : Joining) (texts : List Coming) (fault : ClumpsFault) : Type 0 where
   pub before : List Coming
   pub text : Coming

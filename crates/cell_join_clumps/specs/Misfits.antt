@@ -4,7 +4,7 @@ use Rattle.cell_core_values.specs.Region.{RegionValue}
 use Rattle.cell_join_clumps.specs.declared.clumps_fault.Misfit.{Misfit}
 use Rattle.cell_join_clumps.specs.declared.clumps_fault.Misfit.TheVariants.{WestEast, Rows, North, South, NorthSouth, Cols, West, East}
 
--- the values of two tiles, which differ
+-- `here` and `there` are the reported values of two tiles, and they differ
 pub record Differ {V : Type 0} (value other here there : V) : Type 0 where
   pub value_is : value ≡ here
   pub other_is : other ≡ there

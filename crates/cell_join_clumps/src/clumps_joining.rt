@@ -1,4 +1,4 @@
-//! Joins the borders of tiles to the numbering of the full map.
+//! Joins the borders of tiles into the numbering of the full map.
 
 ghost use Rattle.std.specs.Prelude.{◌≡◌, ◌≢◌, List, None, Some, IfErr, IfOk, IfSome, true, false};
 ghost use Rattle.cell_core_devices.specs.Device.{Coming, has_failed, after_flush};
@@ -27,7 +27,7 @@ pub struct ClumpsOutcome {
     pub fault: Option<ClumpsFault>,
 }
 
-// Reads the tiles of all texts, one after the other.
+// Reads the tiles of all texts, one after another.
 fn read_tiles<R: Source + Drop>(
     alloc: Global,
     joining: Joining,
@@ -111,7 +111,7 @@ fn put_runs<W: Sink>(out: &mut W, runs: &[Stretch]) -> ClumpsOutcome
 /// clump of each tile has in the full map. The full map may have any size. Tiles are numbered in the order of the
 /// texts.
 ///
-/// The texts are read one after the other. A tile is the next in its row if it is right of the previous tile, and
+/// The texts are read one after another. A tile is the next in its row if it is right of the previous tile, and
 /// begins the next row if it is below the first tile of a complete row. One row of tiles is held at a time; all other
 /// memory grows only with the seams. Nothing is written before all texts are read. The sink is flushed once at the end,
 /// unless a write fails.
@@ -125,9 +125,9 @@ pub fn join_border_texts<R: Source + Drop, W: Sink>(
     // the numbers that their clumps have in every map that is cut into these tiles.
     ensures joined { (all : List Coming) → Give R.coming texts.items all → result.fault ≡ None
         → HasWrittenClumps joining all (W.taken out.old) (W.taken out.new) result.written }
-    // If a text has an error, the previous texts are the borders of an unfinished grid of tiles, and this text is wrong
-    // in this way. Or all texts are borders of a grid, but the last row has fewer tiles than the row above, or there
-    // are too many clumps.
+    // If the error is in a text, the previous texts are the borders of an unfinished grid of tiles, and this text does
+    // not continue the grid for the reported reason. Otherwise, all texts are borders of a grid, but the last row has
+    // fewer tiles than the row above, or there are too many clumps.
     ensures fault { (all : List Coming) → Give R.coming texts.items all
         → IfSome result.fault (IsClumpsFault joining all) }
     // With any error other than a failed write, the sink is unchanged.
@@ -137,8 +137,8 @@ pub fn join_border_texts<R: Source + Drop, W: Sink>(
     ensures cut { (all : List Coming) → Give R.coming texts.items all
         → result.fault ≡ Some ClumpsFault.Write
         → HasClumpsPrefix joining all (W.taken out.old) (W.taken out.new) result.written }
-    // Without an error, no call of the sink failed, and it was flushed once. For `Write`, a call failed, in this run or
-    // before.
+    // Without an error, no call of the sink failed, and it was flushed once. If the error is `Write`, a call failed in
+    // this run or before.
     ensures sound { result.fault ≡ None
         → W.faults out.new ≡ after_flush (W.faults out.old) false }
     ensures write { result.fault ≡ Some ClumpsFault.Write

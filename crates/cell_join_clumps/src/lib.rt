@@ -1,4 +1,4 @@
-//! Joins the borders of a grid of tiles to a numbering, which lists the full map's clump for each clump of each tile.
+//! Joins the borders of a grid of tiles into a numbering, which lists the full map's clump for each clump of each tile.
 //! `rcell-join clumps` uses this crate.
 //!
 //! - `clumps_joining`: `join_border_texts`; the texts are given row by row, each row from the left

@@ -1,4 +1,4 @@
--- Tiles read from the texts of their borders, one after the other.
+-- Tiles are read from the texts of their borders, one after another.
 use Rattle.std.specs.Prelude.{ℕ, ◌≡◌, ◌≢◌, ◌+◌, ◌-◌, ◌≤◌, ◌^◌, ◌⊎◌, List, [], ◌∷◌, ◌++◌, length, map, Option, Some, None, IfSome, slice_get}
 use Rattle.std.specs.List.{AllZip}
 use Rattle.cell_core_devices.specs.Device.{Coming}
@@ -37,7 +37,7 @@ IsNoTile j place text (Connectivity at found) = (at ≡ place) × SpellsOtherwis
 IsNoTile j place text Memory = Unit {0}
 IsNoTile j place text fault = ⊥
 
--- ---- what a grid satisfies for any texts
+-- ---- properties of a grid for any texts
 
 -- the borders of a row all have the same number of rows
 pub record IsEvenRow (borders : List Border) : Type 0 where
@@ -90,7 +90,7 @@ pub record IsAddedBelow (tile : BorderText) (old new : TileGrid) : Type 0 where
 abbrev pub IsTileAdded : BorderText → (old new : TileGrid) → Type 0
 IsTileAdded tile old new = (IsTilePlacement old.above.items old.row.items tile.region InRow × IsAddedInRow tile old new) ⊎ (IsTilePlacement old.above.items old.row.items tile.region NextRow × IsAddedBelow tile old new)
 
--- a tile was added, which is the text's tile if the text is known
+-- a tile was added; if the text is known, it is the text's tile
 pub record HasAddedTile (j : Joining) (text : Option Coming) (old new : TileGrid) : Type 0 where
   pub tile : BorderText
   pub spells : IfSome text (λ t. SpellsJoined j t tile)
