@@ -1,4 +1,4 @@
--- Regions that make two grids, in one order, make one: they are arranged in the same rows.
+-- Two grids of the same regions in the same order have the same rows.
 use Rattle.std.proofs.Common.{◌≡◌, ℕ, ℤ, suc, ◌<◌, ◌≤◌, true, List, [], ◌∷◌, ◌++◌, length, Option, Some, None}
 use Rattle.std.proofs.Common.{inl, inr, ◌⊎◌, refl, ap, sym, ◌∙◌, subst, arith, append_assoc}
 use Rattle.std.specs.Prelude.{int_lt, slice_get}
@@ -9,14 +9,14 @@ use Rattle.cell_core_values.specs.Region.{RegionValue}
 use Rattle.cell_join_clumps.specs.BegunGrids.{RowFitsUnder, last_row}
 use Rattle.cell_join_clumps.specs.TileTexts.{IsBelow, IsBeside, LieBeside, RowFitsBelow}
 
--- the regions of rows of tiles, row by row
+-- the regions of a grid, row by row
 abbrev pub all_regions : List (List RegionValue) → List RegionValue
 all_regions [] = []
 all_regions (row ∷ rows) = row ++ all_regions rows
 
--- ---- of two lists one may continue
+-- ---- one of two lists may be longer
 
--- one list has the regions of another, and more
+-- the first list has the regions of the second, and more
 record GoesOn (a b x y : List RegionValue) : Type 0 where
   front : List RegionValue
   tile : RegionValue
@@ -25,7 +25,7 @@ record GoesOn (a b x y : List RegionValue) : Type 0 where
   same : front ≡ b
   next : y ≡ tile ∷ (back ++ x)
 
--- both have the same
+-- both lists have the same regions
 record AreOne (a b x y : List RegionValue) : Type 0 where
   same : a ≡ b
   rest : x ≡ y
@@ -61,7 +61,7 @@ compare (s ∷ a) (t ∷ b) x y e =
     let others : a ++ x ≡ b ++ y = cc in
     one-behind s t a b x y first (compare a b x y others)
 
--- ---- a row of tiles goes from the west to the east
+-- ---- the tiles of a row go from west to east
 
 abbrev pub IsWide : RegionValue → Type 0
 IsWide e = int_lt e.west e.east ≡ true
@@ -94,13 +94,13 @@ spread left (one ∷ front) tile back wide all lie =
     (subst (λ (z : ℤ). int_lt left.west z ≡ true) (sym lie.0.meet) wide)
     (spread one front tile back all.0 all.1 lie.1)
 
--- what comes next lies right below the first of a row
+-- the next region is directly below the first region of a row
 abbrev NextBelow : List RegionValue → List RegionValue → Type 0
 NextBelow row next =
     (first : RegionValue) (region : RegionValue) (more : List RegionValue) → slice_get row 0 ≡ Some first
     → next ≡ region ∷ more → IsBelow first region
 
--- a row continues after no tile that has a tile right below the row's first
+-- a row does not continue with a tile that is directly below its first tile
 not-on : (a front b : List RegionValue) (tile : RegionValue) (back : List RegionValue) (more y : List RegionValue)
     → AreWide a
     → LieBeside None a → 0 < length b → NextBelow b y → a ≡ front ++ tile ∷ back → front ≡ b
@@ -121,7 +121,7 @@ not-longer : (a b x y : List RegionValue) → AreWide a → LieBeside None a →
 not-longer a b x y wide lie some next on =
     not-on a on.front b on.tile on.back (on.back ++ x) y wide lie some next on.is on.same on.next
 
--- ---- rows of tiles
+-- ---- grids as rows of tiles
 
 pub record IsTileRow (above row : List RegionValue) : Type 0 where
   pub some : 0 < length row
@@ -154,7 +154,7 @@ not-empty : (row : List RegionValue) (x : List RegionValue) → 0 < length row �
 not-empty [] x some e = omega (arith, some)
 not-empty (t ∷ row) x some e = cc
 
--- ---- two grids of the same regions
+-- ---- two grids with the same regions
 
 one-rows : (r g : List RegionValue) (rows grid : List (List RegionValue)) (above other : List RegionValue)
     → AreRows above (r ∷ rows) → AreRows other (g ∷ grid)
@@ -177,20 +177,20 @@ same-rows above other (r ∷ rows) (g ∷ grid) are good e =
     one-rows r g rows grid above other are good (λ same. same-rows r g rows grid are.1 good.1 same)
     (compare r g (all_regions rows) (all_regions grid) e)
 
--- ---- where the next tile goes
+-- ---- the place of the next tile
 
--- in a row that has begun
+-- the region continues the row that has begun
 pub record GoesInRow (above row : List RegionValue) (region : RegionValue) : Type 0 where
   pub beside : (left : RegionValue) → last_or None row ≡ Some left → IsBeside left region
   pub under : (upper : RegionValue) → slice_get above (length row) ≡ Some upper → IsBelow upper region
   pub only : slice_get above (length row) ≡ None → above ≡ []
 
--- below a whole one
+-- the region begins a row below a complete one
 pub record BeginsRow (above row : List RegionValue) (region : RegionValue) : Type 0 where
   pub whole : slice_get above (length row) ≡ None
   pub below : (first : RegionValue) → slice_get row 0 ≡ Some first → IsBelow first region
 
--- the first of more tiles goes there; if there is none, the row is whole
+-- the next tile continues the row or begins a new one; without a next tile, the row is complete
 abbrev pub MayGoOn : (above row : List RegionValue) → List RegionValue → Type 0
 MayGoOn above row [] = slice_get above (length row) ≡ None
 MayGoOn above row (region ∷ more) = GoesInRow above row region ⊎ BeginsRow above row region
@@ -309,7 +309,7 @@ module _ (u v row g : List RegionValue) (grid : List (List RegionValue)) (above 
   goes-on rest wide lie (inr (inr on)) =
       subst (MayGoOn u row) (sym on.next) (inl (in-row on.front on.tile on.back on.is (sym on.same)))
 
--- what comes after a complete row of tiles that were reported
+-- after a complete row, the next tile is directly below the row's first tile
 next-reported : (r : List RegionValue) (rows : List (List RegionValue)) (row : List RegionValue) (rest : List RegionValue)
     → 0 < length row → AreRows r rows → RowFitsUnder (last_row r rows) row
     → NextBelow r (all_regions rows ++ (row ++ rest))
@@ -349,7 +349,7 @@ none-more u [] [] some e = slice_get_past u 0 (let none = some refl in subst (λ
 none-more u [] (region ∷ rest) some e = absurd (cc)
 none-more u (t ∷ row) rest some e = absurd (cc)
 
--- tiles that were reported, of complete rows and of one that has begun, are the tiles of a grid as far as they go
+-- if tiles read so far begin a grid, the next tile of the grid may follow them
 pub goes-there : (u v : List RegionValue) (rows : List (List RegionValue)) (row : List RegionValue)
     (grid : List (List RegionValue)) (rest : List RegionValue) → u ≡ v → AreRows u rows → AreWide row
     → LieBeside None row → RowFitsUnder (last_row u rows) row → (row ≡ [] → rows ≡ []) → (row ≡ [] → u ≡ [])

@@ -1,4 +1,4 @@
--- A text of a border denotes one map, and has no error.
+-- The text of a border denotes only one map, and it has no error.
 use Rattle.std.proofs.Common.{◌≡◌, ◌≢◌, ℕ, pos, ◌+◌, ◌-◌, ◌<◌, ◌≤◌, List, length, get_or, sum}
 use Rattle.std.proofs.Common.{take, map}
 use Rattle.std.proofs.Common.{Some, None, IsSome, ◌⊎◌, inl, inr, refl, ap, sym, ◌∙◌, subst, arith, ⊎_elim}
@@ -32,7 +32,7 @@ use Rattle.cell_join_borders.specs.declared.border_fault.BorderFault.TheVariants
 use Rattle.cell_join_borders.proofs.LineLemmas.{filled-long}
 use Rattle.cell_join_law.specs.ReadBorders.{IsBorderText}
 
--- ---- a text denotes one map
+-- ---- a text denotes only one map
 
 pub one-map : (text : Coming) (m n : Grid) → Denotes text m → Denotes text n → m ≡ n
 one-map text m n one other = by (texts_are_judged text)
@@ -48,7 +48,7 @@ no-fault text m fault denotes = λ is. by is (texts_are_judged text)
     by is (inl map) = let no : None ≡ Some fault = sym map.silent ∙ is in cc
     by is (inr none) = none.none m denotes
 
--- ---- rows that are filled up
+-- ---- rows filled up with null
 
 pub filled-at : (width : ℕ) (cells : List CellValue) (k : ℕ) → k < width
     → get_or (filled_row width cells) k None ≡ get_or cells k None
@@ -59,7 +59,7 @@ filled-past : (width : ℕ) (cells : List CellValue) (k : ℕ) → width ≤ k �
 filled-past width cells k past =
     get_or_past (filled_row width cells) k None (let long = filled-long width cells in omega (arith, long, past))
 
--- after its cells it is null
+-- a filled-up row is null after its cells
 pub filled-ends : (width : ℕ) (cells : List CellValue) → AreNullFrom (length cells) (filled_row width cells)
 filled-ends width cells k past =
     ⊎_elim (λ lt. filled-at width cells k lt ∙ get_or_past cells k None past)
@@ -72,7 +72,7 @@ none-some : (c : CellValue) → c ≡ None → IsSome c → ⊥
 none-some None none some = cc
 none-some (Some v) none some = cc
 
--- a side's rows go together, and end where it does
+-- the rows of a consistent side are correct
 side-right : (m : Grid) (row width : ℕ) (most : List ℕ) (side : Side) → length most ≤ width → IsSideFit most side
     → row_at m row ≡ filled_row width side.cells.items → row_at m (row + 1) ≡ filled_row width side.numbers.items
     → AreRowsRight m row most
@@ -89,7 +89,7 @@ side-right m row width most side few fit cells numbers = record {
       ∙ fit.fit col lt;
 }
 
--- rows that are right are not wrong
+-- correct rows have no error
 right-not-wrong : (m : Grid) (row : ℕ) (most : List ℕ) (f : BorderFault) → AreRowsRight m row most
     → AreRowsWrong m row most f → ⊥
 right-not-wrong m row most (End place) right (inl wrong) =
@@ -106,7 +106,7 @@ right-not-wrong m row most Counts right wrong = wrong
 right-not-wrong m row most Sum right wrong = wrong
 right-not-wrong m row most Memory right wrong = wrong
 
--- ---- the map of a border that goes together
+-- ---- the map of a consistent border
 
 one-connectivity : (i j : Joining) → connectivity i ≡ connectivity j → i ≡ j
 one-connectivity Edges Edges same = refl
@@ -158,7 +158,7 @@ module _ (j : Joining) (tile : RegionValue) (border : Border) (fit : IsBorderFit
         (length-map border.begun.items (λ (n : ℕ). Some (pos n)) ∙ fit.long);
   }
 
-  -- it has no other size, and no other counts
+  -- the map of a border has only one size and one number of clumps
   pub one-size : (i : Joining) (t : RegionValue) (clumps : ℕ) → HasSize (border_grid j tile border) i t clumps
       → (i ≡ j) × (t ≡ tile) × (clumps ≡ sum border.begun.items)
   one-size i t clumps h =
@@ -235,7 +235,7 @@ module _ (j : Joining) (tile : RegionValue) (border : Border) (fit : IsBorderFit
   map-right (Pair f) not wrong = wrong-side (Pair f) wrong.0 wrong.1 wrong.2 wrong.3 wrong.4
   map-right Memory not wrong = not refl
 
--- no error is one of a text of a border that goes together
+-- the text of a consistent border has no error
 pub none-wrong : (text : Coming) (j : Joining) (tile : RegionValue) (border : Border) → IsBorderText text j tile border
     → (fault : BorderFault) → fault ≢ Memory → IsBorderFault text fault → ⊥
 none-wrong text j tile border is fault not wrong = by fault not wrong
@@ -256,9 +256,9 @@ none-wrong text j tile border is fault not wrong = by fault not wrong
     by (Pair f) other reported = right (Pair f) other reported.0 reported.1 reported.2
     by Memory other reported = other refl
 
--- ---- a text is the text of one border
+-- ---- a text is the text of only one border
 
--- cells that are filled up alike are alike
+-- lists of the same length that fill up to the same row are equal
 filled-one : (w v : ℕ) (x y : List CellValue) → w ≡ v → length x ≡ length y → length x ≤ w
     → filled_row w x ≡ filled_row v y → x ≡ y
 filled-one w v x y wide long few same =

@@ -1,4 +1,4 @@
--- The table of the numbers of a tile lists the entries of its runs.
+-- The table of a tile's numbers lists the entries of its runs.
 use Rattle.std.proofs.Common.{◌≡◌, ℕ, zero, suc, pos, ◌+◌, ◌-◌, ◌≤◌, ◌==◌, List, [], ◌∷◌, ◌++◌, length, map, take, drop}
 use Rattle.std.proofs.Common.{Bool, true, false, cond, Some, None, refl, ap, sym, ◌∙◌, arith, length-append}
 use Rattle.std.proofs.Common.{length-drop}
@@ -20,7 +20,7 @@ use Rattle.cell_join_sizes.specs.SizeTexts.{number_entries, sizes_of_parts, stre
 use Rattle.cell_join_law.proofs.WholeLemmas.{same-entries}
 use Rattle.cell_join_law.specs.ExistingSizes.{table_read}
 
--- ---- entries of numbers in two parts
+-- ---- the entries of numbers in two parts
 
 number-split : (n : ℕ) (xs ys : List ℕ)
     → number_entries n (xs ++ ys) ≡ number_entries n xs ++ number_entries (n + length xs) ys
@@ -37,12 +37,12 @@ number-parts n k m sizes few next =
     ap (λ (i : ℕ). number_entries n (take k sizes) ++ number_entries i (drop k sizes)) long
     ∙ sym (number-split n (take k sizes) (drop k sizes)) ∙ ap (number_entries n) (take-append-drop k sizes)
 
--- ---- the stretches of a band
+-- ---- the runs of a tile
 
 abbrev IsOf : ℕ → Stretch → Type 0
 IsOf band s = s.band ≡ band
 
--- runs of a tile, whose clumps from the first on have these sizes
+-- the runs of a tile, whose clumps have the given sizes in order
 record AreOfBand (band first : ℕ) (sizes : List ℕ) (stretches : List Stretch) : Type 0 where
   own : All (λ (s : Stretch). s.band ≡ band) stretches
   many : length sizes ≡ length (numbers_read stretches)
@@ -98,9 +98,9 @@ in-band : (band : ℕ) (ns sizes : List ℕ) → length sizes ≡ length ns → 
 in-band band [] sizes many = none-left band 1 sizes many
 in-band band (n ∷ ns) sizes many = behind ns band 1 1 n n sizes (omega arith) (omega (arith, many))
 
--- ---- the table of a band
+-- ---- the table of a tile
 
--- a table lists count sizes, and then null
+-- the table lists one size per clump, and then null
 pub record Lists (skip : Skip) (count : ℕ) (table : Pairs) : Type 0 where
   pub sizes : List ℕ
   pub nulls : ℕ
@@ -130,7 +130,7 @@ table-of-band skip band count own table lists long =
       whole = refl;
     }
 
--- ---- the tables of bands from one on
+-- ---- the tables of tiles from a given tile on
 
 pub record HaveParts (band : ℕ) (counts numbers : List ℕ) (tables : List Pairs) : Type 0 where
   pub parts : List BandSizes

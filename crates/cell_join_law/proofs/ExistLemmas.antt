@@ -1,4 +1,4 @@
--- A numbering and the tables of its tiles have sizes: the sizes of the clumps of the full map.
+-- A numbering and its tiles' tables have sizes: the sizes of the clumps of the full map.
 use Rattle.std.proofs.Common.{◌≡◌, ℕ, ◌+◌, ◌<◌, ◌≤◌, ◌*◌, List, [], ◌∷◌, length, map, flat_map, get_or, None}
 use Rattle.std.proofs.Common.{pos, suc, Some}
 use Rattle.std.proofs.Common.{refl, ap, sym, ◌∙◌, subst, arith, length-append}
@@ -34,9 +34,9 @@ use Rattle.cell_join_law.specs.ExistingSizes.{HaveSizesUpTo, table_read}
 use Rattle.cell_join_law.proofs.EntryLemmas.{Lists, have-parts}
 use Rattle.cell_join_law.proofs.WholeLemmas.{has-size, parts-list}
 
--- ---- the table of a part
+-- ---- the table of a tile
 
--- a clumped map that is counted lists the sizes of its clumps
+-- the table of a clump map lists the sizes of its clumps
 pub lists : (j : Joining) (m numbered : Grid) → IsClumping j m numbered → IsFilled m.region m.rows → (areas : ℕ)
     → HasAreas j m areas → (skip : Skip) (table : Pairs)
     → IsTable skip (cells_of numbered m.region.rows m.region.cols) table → Lists skip areas table
@@ -97,7 +97,7 @@ module _ (j : Joining) (whole numbered : Grid) (is : IsClumping j whole numbered
   most = All-from_get_or (λ (n : ℕ). n ≤ whole.region.rows * whole.region.cols) sizes 0
       (λ i lt. omega (arith, at i lt, size-few numbered whole.region.rows whole.region.cols (i + 1)))
 
--- where each number has in the full map as many cells as its sizes are together, there are sizes
+-- if the sizes of each number add up to its cells in the full map, the numbering and tables have sizes
 pub have-sizes : (j : Joining) (whole numbered : Grid) → IsClumping j whole numbered
     → IsFilled whole.region whole.rows → (skip : Skip) (counts numbers : List ℕ) (tables : List Pairs)
     → length numbers ≡ sum counts → AllZip (Lists skip) counts tables
@@ -130,7 +130,7 @@ have-sizes j whole numbered is filled skip counts numbers tables many are area g
       most = most j whole numbered is filled numbers listed area good;
     }
 
--- ---- no more areas than cells
+-- ---- there are at most as many areas as cells
 
 some-counted : (table : Pairs) → All (λ (e : Combination × ℕ). 0 < e.1) table
     → length table ≤ sum_by (λ (e : Combination × ℕ). e.1) table

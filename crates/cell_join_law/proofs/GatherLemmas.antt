@@ -1,4 +1,4 @@
--- Texts that denote the borders of tiles that make a grid are the borders of the tiles of one, and of no other.
+-- Texts of the borders of a grid's tiles are the texts of that grid only.
 use Rattle.std.proofs.Common.{◌≡◌, ◌<◌, true, false, Bool, not, List, [], ◌∷◌, ◌++◌, length, Ok, Err}
 use Rattle.std.proofs.Common.{None, if◌then◌else◌, refl, ap, sym, ◌∙◌, subst}
 use Rattle.std.specs.Prelude.{All, int_lt}
@@ -20,7 +20,7 @@ use Rattle.cell_join_law.specs.TileGrids.{NumberedTile, all_tiles, map_regions, 
 use Rattle.cell_join_law.proofs.ArrangeLemmas.{AreRows, AreWide, IsWide, all_regions, wide-back, wide-front}
 use Rattle.cell_join_law.proofs.BorderLemmas.{one-border}
 
--- ---- the regions of tiles that texts are the borders of
+-- ---- the regions of the tiles whose borders the texts are
 
 region-wide : (e : RegionValue) → region_fault e ≡ Ok e → IsWide e
 region-wide e good = by (is_rectangle e) (is_side e.rows) (is_side e.cols) (is_countable e) refl good
@@ -52,7 +52,7 @@ module _ (j : Joining) where
   spelled-wide (text ∷ texts) (tile ∷ tiles) spelled =
       (region-wide tile.region spelled.0.tile_is.fit.good, spelled-wide texts tiles spelled.1)
 
-  -- two lists of tiles that texts are the borders of have the same regions
+  -- two lists of tiles with the same texts have the same regions
   pub same-regions : (texts : List Coming) (a b : List BorderText) → AllZip (SpellsJoined j) texts a
       → AllZip (SpellsJoined j) texts b → regions_of a ≡ regions_of b
   same-regions [] [] [] one other = refl
@@ -89,10 +89,10 @@ rows-good above (row ∷ rows) some beside below wide = (
 pub grid-good : (rows : List (List RegionValue)) → AreTileRows rows → AreWide (all_regions rows) → AreRows [] rows
 grid-good rows lie wide = rows-good [] rows lie.some lie.beside lie.below wide
 
--- ---- the borders that texts denote, row by row
+-- ---- the borders of the texts, row by row
 
 module _ (j : Joining) where
-  -- the tiles that texts of a row are the borders of, and the texts after them
+  -- the texts begin with the borders of a row of tiles, and the other texts follow
   record IsRowReported (row others : List NumberedTile) (texts : List Coming) : Type 0 where
     reported : List BorderText
     regions : regions_of reported ≡ map_regions row

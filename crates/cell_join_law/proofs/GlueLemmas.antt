@@ -1,4 +1,4 @@
--- The cells of tiles, side by side and row by row, are the cells of the map that is cut into them.
+-- The cells of tiles, side by side and row by row, are the cells of the map cut into these tiles.
 use Rattle.std.proofs.Common.{◌≡◌, ℕ, zero, suc, ◌+◌, ◌<◌, List, [], ◌∷◌, length, take, get_or}
 use Rattle.std.proofs.Common.{Some, None}
 use Rattle.std.proofs.Common.{IsSome, refl, ap, sym, ◌∙◌, subst, arith, length-append, ⊎_elim}
@@ -17,18 +17,18 @@ use Rattle.cell_parts.specs.AreaParts.{IsTile, moved_position}
 use Rattle.cell_join_tiles.specs.Beginnings.{tile_place}
 use Rattle.cell_join_law.specs.TileGrids.{NumberedTile, row_height, rows_beside, rows_of_tiles, tile_heights}
 
--- a tile of height rows and width columns
+-- a filled tile with the given height and width
 pub record IsSized (height : ℕ) (tile : NumberedTile) (width : ℕ) : Type 0 where
   pub filled : IsFilled tile.map.region tile.map.rows
   pub rows : tile.map.region.rows ≡ height
   pub cols : tile.map.region.cols ≡ width
 
--- rows of tiles; the tiles of each row have one height and the given widths
+-- the tiles of each row of tiles have the same height, and the given widths
 abbrev pub AreSized : List ℕ → List (List NumberedTile) → Type 0
 AreSized widths [] = Unit {0}
 AreSized widths (row ∷ tiles) = AllZip (IsSized (row_height row)) row widths × AreSized widths tiles
 
--- ---- a row of the tiles of a row of tiles
+-- ---- a row of cells across a row of tiles
 
 abbrev line : List NumberedTile → ℕ → List CellValue
 line row r = flat_map (λ (tile : NumberedTile). row_at tile.map r) row
@@ -84,7 +84,7 @@ module _ (height r : ℕ) (inside : r < height) where
       ∙ get_or-append-add (row_at t.map r) (line row r) (sum (take c widths) + k) None
       ∙ line-at row widths are.1 c tile there k lt
 
--- ---- all rows
+-- ---- all rows of tiles
 
 beside-long : (row : List NumberedTile) → length (rows_beside row) ≡ row_height row
 beside-long row = length-map-range_with_len (line row) 0 (row_height row)
@@ -140,7 +140,7 @@ tiles-wide widths (row ∷ tiles) are =
     ap (λ (l : List CellValue). length l) (beside-at row r less) ∙ line-long (row_height row) r less row widths are.0))
     (tiles-wide widths tiles are.1))
 
--- ---- cells within
+-- ---- cells inside a tile
 
 none-some : (c : CellValue) → c ≡ None → IsSome c → ⊥
 none-some None none some = cc
@@ -161,7 +161,7 @@ cell-within rows height width high wide row col some =
     (ap (λ (l : List CellValue). get_or l col None) (get_or_past rows row [] out)) some))
     (cases_lt row (length rows))
 
--- ---- a tile
+-- ---- one tile
 
 sized-at : (height : ℕ) (row : List NumberedTile) (widths : List ℕ) → AllZip (IsSized height) row widths → (c : ℕ)
     (tile : NumberedTile) → slice_get row c ≡ Some tile → IsSized height tile (get_or widths c 0)

@@ -1,4 +1,4 @@
--- Texts of borders that go together are rejected for no error of theirs.
+-- Texts of borders that fit together are not rejected.
 use Rattle.std.proofs.Common.{◌≡◌, ◌+◌, ◌*◌, ◌≤◌, ◌^◌, ℕ, List, [], ◌∷◌, ◌++◌, length, sum, Some}
 use Rattle.std.proofs.Common.{None}
 use Rattle.std.proofs.Common.{inl, inr, ◌⊎◌, refl, ap, sym, ◌∙◌, subst, arith, append_assoc, append-nil, length-append}
@@ -35,7 +35,7 @@ use Rattle.cell_join_law.proofs.BorderLemmas.{none-wrong, one-border}
 use Rattle.cell_join_law.proofs.GatherLemmas.{all-regions, border-text-of, grid-good, one-region, spelled-wide}
 use Rattle.cell_join_law.proofs.NumberingLemmas.{begun_of, count-row, tile_clumps}
 
--- ---- a tile that goes somewhere
+-- ---- a tile that fits
 
 not-beside : (left tile : RegionValue) (misfit : Misfit) → IsBeside left tile → IsBesideMisfit left tile misfit → ⊥
 not-beside left tile (WestEast west east) is wrong = wrong.apart is.meet
@@ -57,7 +57,7 @@ not-below above tile (Cols cols other) is wrong = wrong.0.apart is.cols
 not-below above tile (West west other) is wrong = wrong.0.apart is.west
 not-below above tile (East east other) is wrong = wrong.0.apart is.east
 
--- a tile that has a place is not rejected
+-- a tile that continues the row or begins the next row is not rejected
 goes-somewhere : (place : ℕ) (above row : List RegionValue) (tile : RegionValue) (f : ClumpsFault)
     → GoesInRow above row tile ⊎ BeginsRow above row tile → GoesNowhere place above row tile f → ⊥
 goes-somewhere place above row tile (Apart at beside below) (inl goes) wrong =
@@ -83,10 +83,10 @@ goes-somewhere place above row tile TooManyClumps goes wrong = wrong
 goes-somewhere place above row tile Memory goes wrong = wrong
 goes-somewhere place above row tile Write goes wrong = wrong
 
--- ---- texts after others
+-- ---- texts that follow others
 
 module _ (j : Joining) where
-  -- the tiles of texts that come after others
+  -- the tiles of the following texts complete the tiles read
   record AreThen (after : List Coming) (reported all : List BorderText) : Type 0 where
     more : List BorderText
     spelled : AllZip (SpellsJoined j) after more
@@ -109,7 +109,7 @@ no-tile [] none = refl
 no-tile (t ∷ row) none = absurd (cc)
 
 module _ (j : Joining) (texts : List Coming) (grid : List (List BorderText)) (are : AreGridOf j texts grid) where
-  -- where more texts go after the texts of tiles that were read
+  -- texts that follow the texts of tiles that were read
   module _ (before after : List Coming) (rows : List (List BorderText)) (row : List BorderText)
       (all : texts ≡ before ++ after) (begun : AreGridSoFar j before rows row) where
     behind : AreThen j after (tiles_in rows ++ row) (tiles_in grid)
@@ -134,7 +134,7 @@ module _ (j : Joining) (texts : List Coming) (grid : List (List BorderText)) (ar
         ∙ ap (λ (l : List RegionValue). l ++ regions_of behind.more) (sym split)
         ∙ behind.same ∙ all-regions grid)
 
-  -- the tile of the next text
+  -- the next text has a tile that continues the row or begins the next row
   record HasNext (text : Coming) (above row : List RegionValue) : Type 0 where
     tile : BorderText
     spells : SpellsJoined j text tile
@@ -183,7 +183,7 @@ module _ (j : Joining) (texts : List Coming) (grid : List (List BorderText)) (ar
       sym whole ∙ ap (slice_get (last_row [] (region_rows few.rows))) long ∙ few.above_is in
       cc
 
--- ---- there are not too many clumps
+-- ---- the number of clumps is within its limit
 
 clumps-of-rows : (rows : List (List BorderText))
     → clumps_in_grid (begun_in (border_rows_of rows)) ≡ sum (tile_clumps (tiles_in rows))

@@ -1,4 +1,4 @@
--- Lemmas on texts of borders, on the grids of their tiles, and on what they are joined to.
+-- Lemmas on texts of borders, the grids of their tiles, and the result of joining them.
 pub mod ArrangeLemmas
 pub mod BorderLemmas
 pub mod GatherLemmas

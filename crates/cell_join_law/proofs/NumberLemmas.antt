@@ -1,4 +1,4 @@
--- The number of a cell is one of as many as there are clumps.
+-- The number of a cell is at most the number of clumps.
 use Rattle.std.proofs.Common.{ℕ, ◌<◌, ◌≤◌, List, [], ◌∷◌, length}
 use Rattle.std.proofs.Common.{arith}
 use Rattle.std.specs.Prelude.{Contains}

@@ -30,7 +30,7 @@ use Rattle.cell_join_law.specs.SizeLaw.{size_of_number, sizes_of_areas}
 use Rattle.cell_join_law.specs.NumberTables.{entries_from, entry_of_null, number_table, NumbersAreListed}
 use Rattle.cell_join_law.proofs.SizeLemmas.{equal-itself, equal-only}
 
--- ---- the entries in order
+-- ---- entries in order
 
 number-less : (n m : ℕ) → n < m → combination_cmp (Some (pos n) ∷ []) (Some (pos m) ∷ []) ≡ Less
 number-less n m lt = rw (lt-ltb n m lt) refl
@@ -72,7 +72,7 @@ entries-ascend n [] skip nulls = null-ascends skip nulls
 entries-ascend n (size ∷ sizes) skip nulls =
     (above-from n (n + 1) sizes skip nulls (omega arith), entries-ascend (n + 1) sizes skip nulls)
 
--- ---- what the entries are
+-- ---- the counts of the entries
 
 pub record IsEntry (from : ℕ) (sizes : List ℕ) (k : Combination) (n : ℕ) : Type 0 where
   pub place : ℕ
@@ -154,7 +154,7 @@ number-kept Nothing n = refl
 number-kept AnyNull n = refl
 number-kept AllNull n = refl
 
--- ---- the table of a clump map, in rows and columns that have all its areas
+-- ---- the table of a clump map, counted in rows and columns that contain all its areas
 
 module _ (j : Joining) (m numbers : Grid) (is : IsClumping j m numbers) (areas : ℕ) (has : HasAreas j m areas)
     (rows cols : ℕ)
@@ -177,7 +177,7 @@ module _ (j : Joining) (m numbers : Grid) (is : IsClumping j m numbers) (areas :
   size-is : (i k : ℕ) → i < areas → 1 + i ≡ k → get_or sizes i 0 ≡ count_of (Some (pos k) ∷ []) cells
   size-is i k within e = get_or-map-range_with_len (size_of_number numbers rows cols) 1 areas i k 0 within e
 
-  -- a clump has a cell
+  -- each clump has a cell
   some-cells : (k : ℕ) → 1 ≤ k → k ≤ areas → 0 < count_of (Some (pos k) ∷ []) cells
   some-cells k least most =
       let occurs = (numbers_count_areas j m numbers is has.0 has.1 k).1 (least, omega (arith, most, has.2)) in
@@ -203,7 +203,7 @@ module _ (j : Joining) (m numbers : Grid) (is : IsClumping j m numbers) (areas :
     (omega (arith, e.some, e.count), e.count ∙ ap (λ (x : Combination). count_of x cells) (sym e.cell)),
   )
 
-  -- what is counted is a number, or null
+  -- each counted combination is a number or null
   counted-there : (c : CellValue) (p : Position) → cell_at_position numbers p ≡ c →
       IsCounted (c ∷ []) (count_of (c ∷ []) cells) →
       Contains (number_table skip sizes nulls) (c ∷ [], count_of (c ∷ []) cells)

@@ -1,4 +1,4 @@
--- The numbers of a tile, replaced by the numbers of the full map.
+-- The numbers of a tile are replaced by the numbers of the full map.
 use Rattle.std.proofs.Common.{◌≡◌, ℕ, zero, suc, pos, negsuc, ◌-◌, map, [], ◌∷◌, List, get_or, Some, None, refl, ap, sym, ◌∙◌}
 use Rattle.cell_core.specs.Grid.{Grid, CellValue}
 use Rattle.cell_cats_areas.specs.declared.clump.Joining.{Joining}
@@ -6,13 +6,13 @@ use Rattle.cell_cats_areas.specs.Areas.{Position, cell_at_position, HasNumber, I
 use Rattle.cell_cats_areas.proofs.LawLemmas.{HasNumber-one}
 use Rattle.cell_parts.proofs.AreaLemmas.{is-some}
 
--- the number of a cell in the full map, of its number in a tile whose clumps have these numbers there
+-- the full map's number for a cell's number in a tile; the list gives the numbers of the tile's clumps
 abbrev pub number_there : List ℕ → CellValue → CellValue
 number_there numbers None = None
 number_there numbers (Some (pos n)) = Some (pos (get_or numbers (n - 1) 0))
 number_there numbers (Some (negsuc n)) = None
 
--- the numbers of a tile, replaced by the numbers of the full map
+-- a tile's map of numbers, with each number replaced by the full map's number
 abbrev pub renumbered : List ℕ → Grid → Grid
 renumbered numbers m = record m { rows = map (map (number_there numbers)) m.rows }
 
@@ -33,7 +33,7 @@ pub cell-renumbered : (numbers : List ℕ) (m : Grid) (p : Position) →
 cell-renumbered numbers m p = rows-mapped (number_there numbers) refl m.rows p.row p.col
 
 module _ (j : Joining) (whole numbered : Grid) (clumping : IsClumping j whole numbered) where
-  -- a cell of a tile has, by its own number, the number of the full map
+  -- replacing the number of a tile's cell gives its number in the full map
   pub number-here : (m numbers_map : Grid) → IsClumping j m numbers_map → (numbers : List ℕ) (p q : Position) →
       cell_at_position whole q ≡ cell_at_position m p →
       ((k : ℕ) → cell_at_position numbers_map p ≡ Some (pos k) → HasNumber j whole q (get_or numbers (k - 1) 0)) →

@@ -1,4 +1,4 @@
--- The numbering that borders of the tiles of a map are joined to is the numbering of the full map.
+-- Joining the borders of a map's tiles gives the numbering of the full map.
 use Rattle.std.proofs.Common.{◌≡◌, ℕ, pos, zero, suc, ◌+◌, ◌-◌, ◌<◌, List, [], ◌∷◌, ◌++◌, length, map, take}
 use Rattle.std.proofs.Common.{get_or, Some, None, refl, ap, sym, ◌∙◌, subst, arith}
 use Rattle.std.specs.Prelude.{All, slice_get, slice_index, sum, sum_by}
@@ -47,7 +47,7 @@ use Rattle.cell_join_law.proofs.PlaceLemmas.{got, map-to, zip-long, zip-right}
 use Rattle.cell_join_law.proofs.SizedLemmas.{Each, IsTileOfRegion, grid-sized, numbered-filled}
 use Rattle.cell_join_law.proofs.SizedLemmas.{numbered-regions, some-heights, some-widths}
 
--- ---- a border is the border of a map, whichever map has the numbers of its clumps
+-- ---- a border belongs to every map with the same numbers for its clumps
 
 numbers-alike : (j : Joining) (m a b : Grid) → IsClumping j m a → IsClumping j m b → (p : Position)
     → cell_at_position a p ≡ cell_at_position b p
@@ -86,9 +86,9 @@ border-too j rows cols m a b border own has =
       };
     }
 
--- ---- the tiles that texts are the borders of are the tiles of the map
+-- ---- the tiles whose borders the texts are, and the tiles of the map
 
--- a tile has the border of a text
+-- the tile has the border that was read, and as many clumps as it counts
 record HasReported (j : Joining) (tile : NumberedTile) (reported : BorderText) : Type 0 where
   has : HasBorder j tile.map.region.rows tile.map.region.cols tile.map tile.numbers (border_value reported.border)
   clumps : HasAreas j tile.map (sum reported.border.begun.items)
@@ -140,7 +140,7 @@ module _ (j : Joining) where
     all-read tiles texts reported are.1 (All-tail (IsNumberedTile j) tile tiles numbered) spelled.1,
   )
 
-  -- row by row
+  -- the borders of a grid are cut into the borders of its first row and of its other rows
   cut-row : (row : List NumberedTile) (reported : List BorderText) (others : List NumberedTile) (more : List BorderText)
       → regions_of reported ≡ map_regions row → AllZip (HasReported j) (row ++ others) (reported ++ more)
       → AllZip (HasReported j) row reported × AllZip (HasReported j) others more
@@ -167,7 +167,7 @@ module _ (j : Joining) where
       (subst (AllZip (HasReported j) (all_tiles (row ∷ tiles))) (flat_map-cons (λ (r : List BorderText). r) t reported) all)) in
       (both.0, cut-rows tiles reported rest both.1)
 
--- ---- counts of clumps
+-- ---- numbers of clumps
 
 abbrev pub tile_clumps : List BorderText → List ℕ
 tile_clumps row = map (λ (t : BorderText). sum t.border.begun.items) row
@@ -261,7 +261,7 @@ before-is reported r c =
     let own = count-at-row reported r c in
     omega (arith, above, own)
 
--- ---- the map is cut into tiles that have these borders
+-- ---- a map cut into tiles with these borders
 
 no_map : Grid
 no_map = record {
@@ -350,7 +350,7 @@ module _ (j : Joining) (whole : Grid) (tiles : List (List NumberedTile)) (report
     tiles = border-there;
   }
 
--- ---- what is written
+-- ---- the text that is written
 
 pub joined-borders-number : JoinedBordersNumber
 joined-borders-number j whole tiles texts denote numbered make rows text is = record {

@@ -1,4 +1,4 @@
--- What is in one place of two lists.
+-- Items at the same place of two lists.
 use Rattle.std.proofs.Common.{◌≡◌, ℕ, zero, suc, List, [], ◌∷◌, ◌++◌, length, map, get_or, Some, refl, ap, sym}
 use Rattle.std.proofs.Common.{◌∙◌, subst}
 use Rattle.std.specs.Prelude.{All, flat_map, slice_get}
@@ -29,7 +29,7 @@ module _ {A B : Type 0} (R : A → B → Type 0) where
   zip-append (x ∷ a) c [] d one other = absurd one
   zip-append (x ∷ a) c (y ∷ b) d one other = (one.0, zip-append a c b d one.1 other)
 
-  -- all of rows that go together
+  -- if two lists of rows are related row by row, the joined rows are related item by item
   pub zip-flat : (xs : List (List A)) (ys : List (List B)) → AllZip (AllZip R) xs ys
       → AllZip R (flat_map (λ (row : List A). row) xs) (flat_map (λ (row : List B). row) ys)
   zip-flat [] [] all = tt
@@ -53,7 +53,7 @@ got xs i d x there =
     let is : Some (get_or xs i d) ≡ Some x = sym (slice_get-get_or xs i d (slice_get_within xs i x there)) ∙ there in
     cc
 
--- ---- what holds of all
+-- ---- properties of all items
 
 module _ {A : Type 0} (P : A → Type 0) where
   pub one-of : (xs : List A) (i : ℕ) (x : A) → All P xs → slice_get xs i ≡ Some x → P x

@@ -1,4 +1,4 @@
--- What holds of a map that a text denotes: its region is one, and its cells are in the range of categories.
+-- A map denoted by a text has a valid region, and its cells are in the range of categories.
 use Rattle.std.proofs.Common.{◌≡◌, ◌≢◌, ℕ, ℤ, pos, ◌+◌, ◌*◌, ◌<◌, ◌≤◌, Bool, true, false, not, List, [], length}
 use Rattle.std.proofs.Common.{get_or, Option, Some, None, Result, Ok, Err, refl, ap, sym, ◌∙◌, subst}
 use Rattle.std.proofs.Common.{arith, option_map}
@@ -19,7 +19,7 @@ use Rattle.cell_ascii_meaning.specs.declared.grid_fault.GridKind.{GridKind}
 use Rattle.cell_ascii_meaning.specs.declared.grid_fault.GridKind.TheVariants.{CellRange}
 use Rattle.cell_ascii_law.proofs.WritingNumberLemmas.{in_range_low, whole_back}
 
--- null, or a category in range
+-- the cell is null or a category in range
 abbrev pub InRange : CellValue → Type 0
 InRange cell = IfSome cell (λ category. IsTrue (is_in_range category))
 
@@ -107,7 +107,7 @@ denoted-filled text m denotes =
 pub number-in : (n : ℕ) → n ≤ 2147483647 → InRange (Some (pos n))
 number-in n few = le-leb n 2147483647 few
 
--- no category is spelled as this word, which is not a number
+-- no category is spelled as the null text, since the null text is not a number
 module _ (null_text : List ℕ) (no_number : whole_number null_text ≡ None) where
   abbrev IsApart : CellValue → Type 0
   IsApart cell = IfSome cell (λ category. signed_decimal category ≢ null_text)

@@ -1,4 +1,4 @@
--- If a numbering and tables have sizes, they are read side by side as these say, and nothing else is met.
+-- A numbering and tables that have sizes are read together without an error.
 use Rattle.std.proofs.Common.{◌≡◌, ◌≢◌, ℕ, zero, suc, pos, ◌+◌, ◌-◌, ◌^◌, ◌<◌, ◌≤◌, ◌==◌, List, [], ◌∷◌, ◌++◌, length}
 use Rattle.std.proofs.Common.{map, take, drop, Bool, true, false, cond, Option, Some, None, refl, ap}
 use Rattle.std.proofs.Common.{sym, ◌∙◌, subst, arith, append-nil, append_assoc, length-append, length-drop, inl}
@@ -40,12 +40,12 @@ use Rattle.cell_join_sizes.specs.parts.Counting.{area_entry}
 use Rattle.cell_join_sizes.proofs.TallyLemmas.{size-behind}
 use Rattle.cell_join_law.specs.RightTexts.{IsOfNoText, RightTextsAreAddedUp}
 
--- runs that have clumps
+-- each run has at least one clump
 abbrev pub AreForward : List Stretch → Type 0
 AreForward [] = Unit {0}
 AreForward (s ∷ stretches) = (s.first ≤ s.last) × AreForward stretches
 
--- runs of which the first is of another tile
+-- the first run, if there is one, belongs to another tile
 abbrev IsOtherBand : ℕ → List Stretch → Type 0
 IsOtherBand band [] = Unit {0}
 IsOtherBand band (s ∷ stretches) = s.band ≢ band
@@ -54,9 +54,9 @@ forward-behind : (before after : List Stretch) → AreForward (before ++ after) 
 forward-behind [] after is = is
 forward-behind (s ∷ before) after is = forward-behind before after is.1
 
--- ---- the numbers that stretches show
+-- ---- the numbers of runs
 
--- the number of the last clump of a run is reported
+-- the number of a run's last clump is among the numbers read
 last-reported : (stretches : List Stretch) (place : ℕ) (s : Stretch) → AreForward stretches → slice_get stretches place ≡ Some s
     → Contains (numbers_read stretches) (last_number s)
 last-reported [] place s on at = cc
@@ -83,7 +83,7 @@ same-counts (s ∷ stretches) = omega (
   same-counts stretches,
 )
 
--- how many of the numbers are from 1 to n
+-- how many of the numbers are between 1 and n
 abbrev up_to : ℕ → List ℕ → ℕ
 up_to n numbers = sum_by (λ k. cond (nat_lt 0 k && nat_lt k (n + 1)) 1 0) numbers
 
@@ -142,13 +142,13 @@ all-up-to (suc count) numbers all =
       ap (λ n. up_to n numbers) one,
     )
 
--- numbers of which there are as many as these, each of them
+-- if numbers contain each number from 1 to a count, there are at least that many of them
 all-fit : (count : ℕ) (numbers : List ℕ) → ((n : ℕ) → n < count → Contains numbers (n + 1)) → count ≤ length numbers
 all-fit count numbers all = omega (arith, all-up-to count numbers all, few-up-to count numbers)
 
--- ---- entries of areas, one list after another
+-- ---- the entries of areas, one list after another
 
--- entries of fewer clumps, and then others
+-- the entries of the sizes not yet counted, followed by other entries
 record IsCutAt (a : ℕ) (xs ys : List ℕ) (rest others : Pairs) : Type 0 where
   more : List ℕ
   all : ys ≡ xs ++ more
@@ -176,7 +176,7 @@ many-first s stretches =
     length-append (stretch_numbers s) (numbers_read stretches)
     ∙ ap (λ (k : ℕ). k + length (numbers_read stretches)) (length-range_with_len s.number (stretch_areas s))
 
--- the numbers of fewer runs
+-- the entries of the remaining runs, followed by other entries
 record AreCutAt (stretches : List Stretch) (xs ys : List ℕ) (more : List Stretch) (rest others : Pairs) : Type 0 where
   sizes : List ℕ
   all : ys ≡ xs ++ sizes
@@ -234,7 +234,7 @@ cut-areas (s ∷ stretches) xs ys more rest others many all is =
     no-length [] e = refl
     no-length (x ∷ l) e = absurd (omega arith)
 
--- the entries of clumps begin with one that is not of null
+-- if at most an entry of null remains, no run is left
 no-areas : (more : List Stretch) (sizes : List ℕ) (nulls others : Pairs) → AreForward more
     → length sizes ≡ length (numbers_read more) → IsNullEntry nulls
     → nulls ≡ entries_of_areas more sizes ++ others → more ≡ []
@@ -254,7 +254,7 @@ no-areas (s ∷ more) (size ∷ sizes) nulls others forward many null is = absur
         cc
     by (suc n) some (entry ∷ next ∷ nulls) null e = null
 
--- ---- stretches of a band before the stretches of another
+-- ---- the runs of a tile before the runs of another tile
 
 record IsPrefix (front whole rest behind : List Stretch) : Type 0 where
   more : List Stretch
@@ -290,9 +290,9 @@ other-band least band (part ∷ parts) (reading ∷ readings) are less =
     by (s ∷ stretches) own others = λ same. let is = All-head (λ (t : Stretch). t.band ≡ band) s stretches own in absurd
         (omega arith)
 
--- ---- tables that are read, next to all of them
+-- ---- the tables read so far and all tables
 
--- the parts after those that were read
+-- the tables that are still to be read, with their runs and sizes
 record HasWalked (band : ℕ) (before rest : List TableReading) (behind : List Stretch)
     (parts all : List BandSizes) : Type 0 where
   post : List BandSizes
@@ -353,7 +353,7 @@ walk band (reading ∷ before) rest behind (part ∷ parts) (own ∷ all) good a
     no-length [] e = refl
     no-length (x ∷ l) e = absurd (omega arith)
 
--- ---- numbers
+-- ---- numbers up to a count
 
 record IsRangeCut (a count n : ℕ) : Type 0 where
   more : List ℕ
@@ -378,7 +378,7 @@ all-after : (P : ℕ → Type 0) (before after : List ℕ) → All P (before ++ 
 all-after P [] after all = all
 all-after P (n ∷ before) after all = all-after P before after (All-tail P n (before ++ after) all)
 
--- ---- where a reading is
+-- ---- a place in the reading
 
 all-behind : (P : Stretch → Type 0) (before after : List Stretch) → All P (before ++ after) → All P after
 all-behind P [] after all = all
@@ -388,7 +388,7 @@ forward-front : (before after : List Stretch) → AreForward (before ++ after) �
 forward-front [] after is = tt
 forward-front (s ∷ before) after is = (is.0, forward-front before after is.1)
 
--- what is still to come of the tile: its runs, their sizes, and an entry of null or none
+-- the rest of a tile: its runs, their sizes, and at most one entry of null
 record IsToCome (place : ReadingPlace) (table : TableReading) (counted all : List ℕ) : Type 0 where
   more : List Stretch
   behind : List Stretch
@@ -406,7 +406,7 @@ record IsToCome (place : ReadingPlace) (table : TableReading) (counted all : Lis
   later : List ℕ
   in_all : all ≡ counted ++ (sizes ++ later)
 
--- the entry of the next clump is there, with its size
+-- the next clump has an entry with its size
 record HasNext (place : ReadingPlace) (area : ℕ) (to_come : List ℕ) : Type 0 where
   size : ℕ
   entry : IsEntryOf area size place.left.entries
@@ -556,7 +556,7 @@ module _ (areas : AreasReading) (tables : List TableReading) (sizes : List ℕ) 
                 ∙ sym (append_assoc (sizes_of_parts read.parts) read.part.sizes (cut.sizes ++ sizes_of_parts post));
           }
 
-  -- ---- what is not met
+  -- ---- errors that do not occur
 
   no-table-fault : (place : ReadingPlace) (fault : TableFault) → AreReadTo areas tables place
       → HasTableFault place fault → ⊥
@@ -575,7 +575,7 @@ module _ (areas : AreasReading) (tables : List TableReading) (sizes : List ℕ) 
       by [] are e = cc
       by (part ∷ post) are e = are
 
-  -- ---- the number that comes next
+  -- ---- the next number
 
   abbrev stretches_before : {place : ReadingPlace} → AreReadTo areas tables place → List Stretch
   stretches_before {place} read = stretches_of_parts read.parts ++ read.part.stretches
@@ -613,7 +613,7 @@ module _ (areas : AreasReading) (tables : List TableReading) (sizes : List ℕ) 
                 (range_with_len s.number (length place.counted)) (number ∷ (cut.more ++ numbers_read stretches)));
           }
 
-  -- each number up to the largest is reported, so that none is above the count
+  -- each number up to the largest occurs, so no number is above the count
   no-line-beyond : (line : ℕ) → IsLineBeyond areas.stretches line → ⊥
   no-line-beyond line is =
       let numbers = numbers_read areas.stretches in
@@ -704,7 +704,7 @@ module _ (areas : AreasReading) (tables : List TableReading) (sizes : List ℕ) 
   no-text fit Memory is = tt
   no-text fit Write is = tt
 
--- ---- the stretches that a text is read as
+-- ---- the runs that a text is read as
 
 forward-of : (before : Option Stretch) (entry : Combination × ℕ) (s : Stretch) → next_stretch before entry ≡ Ok s
     → s.first ≤ s.last

@@ -1,4 +1,4 @@
--- The cells of a clump of the full map are the cells of the clumps of tiles that have its number.
+-- The cells of a clump in the full map are the cells of the tiles' clumps with its number.
 use Rattle.std.proofs.Common.{◌≡◌, ℕ, zero, suc, pos, negsuc, ◌+◌, ◌-◌, ◌<◌, ◌≤◌, map, [], ◌∷◌, List}
 use Rattle.std.proofs.Common.{get_or, Some, None, Bool, true, false, ◌&&◌, ◌||◌, ◌==◌, cond, refl, ap, sym}
 use Rattle.std.proofs.Common.{◌∙◌, arith, zero-add, eqb-true, eq-eqb}
@@ -23,7 +23,7 @@ use Rattle.cell_join_sizes.specs.Sizes.{size_for, size_of_area}
 use Rattle.cell_join_law.specs.SizeLaw.{sizes_of_areas}
 use Rattle.cell_join_law.proofs.NumberedTiles.{number_there, renumbered, cell-renumbered}
 
--- ---- tests
+-- ---- counts of cells that pass tests
 
 pub equal-itself : (a b : Combination) → a ≡ b → eq_by_cmp combination_cmp a b ≡ true
 equal-itself a b same = ap (eq_by_cmp combination_cmp a) (sym same) ∙ ap is_eq (tied_itself combination_cmp_total a)
@@ -54,7 +54,7 @@ one-or : (a b : Bool) → (a ≡ true → b ≡ false) → one-if (a || b) ≡ o
 one-or true b apart = let here : one-if b ≡ 0 = ap one-if (apart refl) in omega (arith, here)
 one-or false b apart = sym (zero-add (one-if b))
 
--- tests that no cell passes both of
+-- if no cell passes both tests, the counts of the tests add up
 count-either : (t u : Combination → Bool) (cells : List Combination) →
     ((x : Combination) → t x ≡ true → u x ≡ false) →
     count_by (λ x. t x || u x) cells ≡ count_by t cells + count_by u cells
@@ -69,9 +69,9 @@ count-either t u (x ∷ cells) apart =
       count-either t u cells apart,
     )
 
--- ---- cells of a band, by their numbers in the full map
+-- ---- cells of a tile, by their numbers in the full map
 
--- a cell has a number of the tile, from one on, that stands for this one in the full map
+-- the cell's number, counted from the given first one, stands for number n of the full map
 abbrev stands_for : ℕ → List ℕ → (from count : ℕ) → Combination → Bool
 stands_for n [] from count x = false
 stands_for n (number ∷ numbers) from zero x = false
@@ -149,7 +149,7 @@ stands-from n (number ∷ numbers) from (suc count) x some s =
           is = is;
         }))
 
--- a number that is not of the first stands for none of the others
+-- a cell with the first number does not stand for n through a later number
 stands-apart : (n number : ℕ) (numbers : List ℕ) (from count : ℕ) (x : Combination) →
     (n == number && eq_by_cmp combination_cmp (Some (pos from) ∷ []) x) ≡ true →
     stands_for n numbers (from + 1) count x ≡ false
@@ -173,7 +173,7 @@ stands-apart n number numbers from count x here = by (stands_for n numbers (from
         number-of : {a b : ℕ} → Some (pos a) ∷ [] ≡ Some (pos b) ∷ [] → a ≡ b
         number-of e = ap (λ (k : Combination). number-in (first-cell k)) e
 
--- the cells that stand for a number are as many as the cells of its clumps
+-- the cells that stand for a number through one clump are that clump's cells, if the clump has the number
 count-first : (n number from : ℕ) (cells : List Combination) →
     count_by (λ x. n == number && eq_by_cmp combination_cmp (Some (pos from) ∷ []) x) cells
     ≡ size_for n number (count_of (Some (pos from) ∷ []) cells)
@@ -207,7 +207,7 @@ count-stands n (number ∷ numbers) from (suc count) cells =
 
 module _ (j : Joining) (m numbers_map : Grid) (is : IsClumping j m numbers_map) (areas : ℕ)
     (has : HasAreas j m areas) (numbers : List ℕ) (n : ℕ) (some : 1 ≤ n) where
-  -- a cell has the number in the full map exactly if its own stands for it
+  -- a cell has number n in the full map exactly if its own number stands for n
   stands-there : (c : CellValue) (p : Position) → cell_at_position numbers_map p ≡ c →
       number_there numbers c ≡ Some (pos n) → StandsFor n numbers 1 areas (c ∷ [])
   stands-there None p here e = cc
@@ -242,7 +242,7 @@ module _ (j : Joining) (m numbers_map : Grid) (is : IsClumping j m numbers_map) 
       (λ e. equal-itself (Some (pos n) ∷ []) (d ∷ []) (ap (λ (x : CellValue). x ∷ [])
       (sym (same_there ∙ there-stands c (stands-only n numbers 1 areas (c ∷ []) e)))))
 
-  -- so a tile has as many of its cells as its clumps of that number have
+  -- a tile has as many cells with a number as its clumps with that number have
   pub tile-count : (rows cols : ℕ) →
       count_of (Some (pos n) ∷ []) (cells_of (renumbered numbers numbers_map) rows cols)
       ≡ size_of_area n numbers (sizes_of_areas areas numbers_map rows cols)

@@ -1,4 +1,4 @@
--- Tiles whose regions make a grid have the rows of their row of tiles and the columns of their column.
+-- The tiles of a grid have the rows of their row of tiles and the columns of their column.
 use Rattle.std.proofs.Common.{◌≡◌, ℕ, ◌<◌, List, [], ◌∷◌, ◌++◌, length, map, None, Some, refl, ◌∙◌, subst}
 use Rattle.std.proofs.Common.{arith}
 use Rattle.std.specs.Prelude.{All}
@@ -14,7 +14,7 @@ use Rattle.cell_join_law.specs.TileGrids.{IsNumberedTile, NumberedTile, all_tile
 use Rattle.cell_join_law.specs.TileGrids.{tile_heights, tile_regions, tile_widths}
 use Rattle.cell_join_law.proofs.GlueLemmas.{AreSized, IsSized}
 
--- each of some tiles
+-- each tile of the list has the property
 abbrev pub Each : (NumberedTile → Type 0) → List NumberedTile → Type 0
 Each P [] = Unit {0}
 Each P (tile ∷ tiles) = P tile × Each P tiles
@@ -28,7 +28,7 @@ module _ (P : NumberedTile → Type 0) where
   each-back [] b all = all
   each-back (tile ∷ a) b all = each-back a b all.1
 
-  -- of the first row of tiles, and of the others
+  -- a property of all tiles holds of the first row and of the other rows
   pub each-row : (row : List NumberedTile) (tiles : List (List NumberedTile)) → Each P (all_tiles (row ∷ tiles))
       → Each P row × Each P (all_tiles tiles)
   each-row row tiles all =
@@ -40,7 +40,7 @@ module _ (P : NumberedTile → Type 0) where
   each-of [] all = tt
   each-of (tile ∷ tiles) all = (All-head P tile tiles all, each-of tiles (All-tail P tile tiles all))
 
--- its map is filled, and of a region
+-- the tile's map is filled, and has a valid region
 abbrev pub IsFilledTile : NumberedTile → Type 0
 IsFilledTile tile = IsFilled tile.map.region tile.map.rows
 
@@ -56,7 +56,7 @@ module _ (j : Joining) where
   numbered-regions tiles all =
       each-of IsTileOfRegion tiles (All-weaker (IsNumberedTile j) IsTileOfRegion (λ tile is. is.region) tiles all)
 
--- ---- columns of one width
+-- ---- the tiles of a column have the same width
 
 abbrev IsAsWide : NumberedTile → ℕ → Type 0
 IsAsWide tile width = tile.map.region.cols ≡ width
@@ -80,7 +80,7 @@ below-wide : (above row : List NumberedTile) (widths : List ℕ) → 0 < length 
 below-wide [] row widths some below wide = absurd (omega (arith, some))
 below-wide (upper ∷ above) row widths some below wide = zip-wide (upper ∷ above) row widths below wide
 
--- ---- a row of one height
+-- ---- the tiles of a row have the same height
 
 high-row : (left : RegionValue) (height : ℕ) (row : List NumberedTile) (widths : List ℕ) → left.rows ≡ height
     → Each IsFilledTile row → LieBeside (Some left) (map_regions row) → AllZip IsAsWide row widths
@@ -104,7 +104,7 @@ sized-row (tile ∷ row) (w ∷ widths) filled go wide = (
   high-row tile.map.region tile.map.region.rows row widths refl filled.1 go.1 wide.1,
 )
 
--- ---- all rows
+-- ---- all rows of tiles
 
 abbrev IsSome : List RegionValue → Type 0
 IsSome row = 0 < length row
@@ -142,7 +142,7 @@ grid-sized (row ∷ tiles) filled make =
           (All-tail (LieBeside None) (map_regions row) (tile_regions tiles) make.beside) make.below.1,
     )
 
--- ---- none is empty
+-- ---- no tile is empty
 
 pub some-heights : (tiles : List (List NumberedTile)) → Each IsTileOfRegion (all_tiles tiles)
     → All IsSome (tile_regions tiles)

@@ -1,4 +1,4 @@
--- What the table of the numbers of a tile lists.
+-- The entries of the table of a tile's numbers.
 use Rattle.std.proofs.Common.{◌≡◌, ℕ, zero, suc, pos, negsuc, ◌+◌, [], ◌∷◌, ◌++◌, List}
 use Rattle.std.proofs.Common.{Some, None, Bool, true, false, cond, refl, ap, sym, ◌∙◌}
 use Rattle.std.specs.Ordering.{eq_by_cmp}
@@ -18,7 +18,7 @@ use Rattle.cell_join_law.specs.NumberTables.{entries_from, entry_of_null, listed
 use Rattle.cell_join_law.proofs.NumberedTiles.{number_there, renumbered, cell-renumbered}
 use Rattle.cell_join_law.proofs.SizeLemmas.{equal-itself, equal-only, same-answer}
 
--- ---- what a table of numbers lists
+-- ---- the entries of a table of numbers
 
 null-lists : (skip : Skip) (nulls : ℕ) → listed_sizes (entry_of_null skip nulls) ≡ []
 null-lists skip zero = refl
@@ -33,7 +33,7 @@ pub table-lists : (n : ℕ) (sizes : List ℕ) (skip : Skip) (nulls : ℕ) →
 table-lists n [] skip nulls = null-lists skip nulls
 table-lists n (size ∷ sizes) skip nulls = ap (λ (l : List ℕ). size ∷ l) (table-lists (n + 1) sizes skip nulls)
 
--- the count of null, if it is not left out
+-- the table counts the null cells, unless null is left out
 null-counts : (skip : Skip) (nulls : ℕ) → is_left_out skip (None ∷ []) ≡ false →
     count_in (None ∷ []) (entry_of_null skip nulls) ≡ nulls
 null-counts skip zero kept_in = refl
@@ -58,7 +58,7 @@ same-null skip one other same = by (is_left_out skip (None ∷ [])) refl
     by true left = null-left-out skip one left ∙ sym (null-left-out skip other left)
     by false kept_in = ap (entry_of_null skip) (same kept_in)
 
--- ---- the cells of a tile that are null
+-- ---- the null cells of a tile
 
 module _ (j : Joining) (m numbers_map : Grid) (is : IsClumping j m numbers_map) (numbers : List ℕ) where
   null-there : (c : CellValue) (p : Position) → cell_at_position numbers_map p ≡ c → number_there numbers c ≡ None →

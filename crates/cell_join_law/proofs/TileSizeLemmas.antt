@@ -1,4 +1,4 @@
--- The sizes that the tables of tiles list, added up, are the sizes of the full map.
+-- The sizes in the tables of tiles add up to the sizes of the full map.
 use Rattle.std.proofs.Common.{◌≡◌, ℕ, zero, suc, pos, ◌+◌, ◌<◌, ◌≤◌, map, [], ◌∷◌, ◌++◌, List, length, Some, None}
 use Rattle.std.proofs.Common.{false}
 use Rattle.std.proofs.Common.{flat_map, refl, ap, sym, ◌∙◌, subst, arith, zero-add}
@@ -33,7 +33,7 @@ use Rattle.cell_join_law.proofs.SizeLemmas.{tile-count}
 use Rattle.cell_join_law.proofs.NumberTableLemmas.{one-number-table, numbers-are-listed}
 use Rattle.cell_join_law.proofs.TableLemmas.{table-lists, table-counts, same-null, tile-nulls}
 
--- ---- the numbers of tiles, replaced by the numbers of the full map, are parts of the numbers of the full map
+-- ---- tiles numbered with the numbers of the full map are parts of the full map's numbers
 
 abbrev part_of : JoinedTile → Part
 part_of t = record { place = place_of_tile t; maps = renumbered t.there t.numbered.numbers ∷ [] }
@@ -71,7 +71,7 @@ module _ (j : Joining) (whole numbered : Grid) (clumping : IsClumping j whole nu
         cells = tile-parts tiles are.joined;
       }) (0 ∷ []) k
 
--- ---- sizes
+-- ---- adding up the sizes of tiles
 
 size-both : (n : ℕ) (numbers others sizes more : List ℕ) → length numbers ≡ length sizes →
     size_of_area n (numbers ++ others) (sizes ++ more) ≡ size_of_area n numbers sizes + size_of_area n others more
@@ -118,7 +118,7 @@ tile-sizes-count-cells j whole rows cols tiles are numbered clumping areas sizes
     ∙ tile-sizes j whole (i + 1) some tiles are.joined)
     ∙ sym (get_or-map-range_with_len size 1 areas i (i + 1) 0 low next))
 
--- ---- tables
+-- ---- adding up the tables of tiles
 
 module _ (j : Joining) (whole : Grid) (skip : Skip) where
   abbrev nulls_of_tile : JoinedTile → ℕ

@@ -1,4 +1,4 @@
--- Sizes added up with a numbering are the sizes of the clumps of the full map.
+-- Sizes added up with a numbering are the sizes of the full map's clumps.
 use Rattle.std.proofs.Common.{◌≡◌, ℕ, zero, suc, pos, ◌+◌, ◌-◌, ◌<◌, ◌≤◌, List, [], ◌∷◌, ◌++◌, length, map, flat_map, filter, get_or, sum, take, drop, Bool, true, false, cond, not, Some, None, refl, ap, sym, ◌∙◌, subst, arith, append-nil, append_assoc, length-append, length-drop, ⊎_elim}
 use Rattle.std.specs.Prelude.{All}
 use Rattle.std.specs.List.{Contains}
@@ -30,13 +30,13 @@ use Rattle.cell_join_sizes.specs.SizeTexts.{AreTablesOfBands, BandSizes, HasTall
 use Rattle.cell_join_sizes.proofs.TallyLemmas.{size-other, size-some, reported-with-size}
 use Rattle.cell_join_law.specs.ExistingSizes.{table_read}
 
--- ---- the entries of numbers are listed as they are printed
+-- ---- the entries of numbers are listed in the order in which they are printed
 
 pub same-entries : (n : ℕ) (sizes : List ℕ) → number_entries n sizes ≡ entries_from n sizes
 same-entries n [] = refl
 same-entries n (size ∷ sizes) = ap (λ (l : Pairs). (Some (pos n) ∷ [], size) ∷ l) (same-entries (n + 1) sizes)
 
--- ---- the sizes that tables list
+-- ---- the sizes in the tables
 
 null-lists : (nulls : Pairs) → IsNullEntry nulls → listed_sizes nulls ≡ []
 null-lists [] is = refl
@@ -85,7 +85,7 @@ some-listed (e ∷ table) all = by (not (is_left_out AnyNull e.0)) (some-listed 
     by true rest = All-cons IsSome e.1 (listed_sizes table) (All-head (λ (p : Combination × ℕ). 0 < p.1) e table all) rest
     by false rest = rest
 
--- nor is any that a table lists
+-- no size that a table lists is 0
 pub table-some : (skip : Skip) (cells : List Combination) (table : Pairs) → IsTable skip cells table
     → All (λ (n : ℕ). 0 < n) (listed_sizes table)
 table-some skip cells table is =
@@ -93,7 +93,7 @@ table-some skip cells table is =
     (All-weaker (Contains table) (λ (e : Combination × ℕ). 0 < e.1) (λ e there. ((is.counted e.0 e.1).0 there).1.0) table
     (All-contains_itself table))
 
--- ---- as many as the whole has
+-- ---- as many numbers as the full map has clumps
 
 no-null : (nulls : ℕ) → entry_of_null AnyNull nulls ≡ []
 no-null zero = refl
@@ -112,7 +112,7 @@ module _ (j : Joining) (whole numbered : Grid) (is : IsClumping j whole numbered
       (ap (λ (l : Pairs). entries_from 1 own_sizes ++ l) (no-null (count_of (None ∷ []) cells)) ∙ append-nil (entries_from 1 own_sizes))
       ((numbers-are-listed j whole numbered is filled areas has AnyNull (number_table AnyNull own_sizes (count_of (None ∷ []) cells))).1 refl)
 
-  -- a number that some cell has is one of them
+  -- the number of any cell is at most the number of clumps
   pub at-most : (n : ℕ) → 0 < n → 0 < size_of_number numbered whole.region.rows whole.region.cols n → n ≤ areas
   at-most n one some =
       let there : Contains (entries_from 1 own_sizes) (Some (pos n) ∷ [], size_of_number numbered whole.region.rows whole.region.cols n) =
@@ -121,7 +121,7 @@ module _ (j : Joining) (whole numbered : Grid) (is : IsClumping j whole numbered
       let number : n ≡ 1 + entry.place = let e : Some (pos n) ∷ [] ≡ Some (pos (1 + entry.place)) ∷ [] = entry.number in cc in
       omega (arith, number, entry.few, length-map-range_with_len (size_of_number numbered whole.region.rows whole.region.cols) 1 areas)
 
-  -- each of them some cell has
+  -- each number up to the number of clumps belongs to some cell
   pub has-cell : (n : ℕ) → n < areas → 0 < size_of_number numbered whole.region.rows whole.region.cols (1 + n)
   has-cell n few =
       let long : length own_sizes ≡ areas = length-map-range_with_len (size_of_number numbered whole.region.rows whole.region.cols) 1 areas in
@@ -129,9 +129,9 @@ module _ (j : Joining) (whole numbered : Grid) (is : IsClumping j whole numbered
       let counted = (own-table.counted (Some (pos (1 + n)) ∷ []) (get_or own_sizes n 0)).0 there in
       subst (λ (k : ℕ). 0 < k) (get_or-map-range_with_len (size_of_number numbered whole.region.rows whole.region.cols) 1 areas n (1 + n) 0 few refl) counted.1.0
 
--- ---- the sizes that were added up
+-- ---- the sums of the sizes
 
--- they are added up by the numbers of all clumps
+-- sizes that fit a numbering are sums by the numbers of all clumps
 pub tally-of : (areas numbers : List ℕ) → length numbers ≡ sum areas → (tables : List Pairs) (sizes : List ℕ)
     → HaveSizes (record { stretches = stretches_of areas numbers; fault = None }) (map table_read tables) sizes
     → HasTally numbers (flat_map listed_sizes tables) sizes
@@ -140,7 +140,7 @@ tally-of areas numbers many tables sizes have =
     (subst (λ (l : List ℕ). HasTally l (flat_map (λ (part : BandSizes). part.sizes) have.parts) sizes)
     (numbers-are-read areas numbers many) have.tally)
 
--- if each number has in the full map as many cells as its sizes add up to, they are listed as its table
+-- if each number's sizes add up to its cells in the full map, the sums are the full map's table
 module _ (j : Joining) (whole numbered : Grid) (is : IsClumping j whole numbered)
     (filled : IsFilled whole.region whole.rows) (numbers listed sizes : List ℕ) (tally : HasTally numbers listed sizes)
     (some : All (λ (n : ℕ). 0 < n) listed)
@@ -191,9 +191,9 @@ module _ (j : Joining) (whole numbered : Grid) (is : IsClumping j whole numbered
       (sym (same-entries 1 sizes ∙ ap (entries_from 1) same-sizes))
       (own-table j whole numbered is filled areas has)
 
--- ---- no number is left out
+-- ---- every number has a size
 
--- each number from 1 to the count of clumps has a cell in the full map, and so a size
+-- each number from 1 to the number of clumps has a cell in the full map, and so a size
 pub has-size : (j : Joining) (whole numbered : Grid) → IsClumping j whole numbered → IsFilled whole.region whole.rows
     → (areas : ℕ) → HasAreas j whole areas → (numbers sizes : List ℕ)
     → ((n : ℕ) → 0 < n

@@ -1,4 +1,4 @@
--- Texts that were written of the borders of maps denote them.
+-- The texts written for the borders of maps denote these borders.
 use Rattle.std.proofs.Common.{◌≡◌, ℕ, zero, suc, pos, negsuc, ◌+◌, ◌-◌, ◌<◌, ◌≤◌, ◌==◌, Bool, true, false}
 use Rattle.std.proofs.Common.{if◌then◌else◌, List, [], ◌∷◌, ◌++◌, length, get_or, sum, take, Some, None}
 use Rattle.std.proofs.Common.{refl, sym, subst, arith, ⊎_elim}
@@ -62,7 +62,7 @@ filled-in width cells each =
     All-map InRange (λ col. get_or cells col None) (range_with_len 0 width)
     (λ i d lt. each (get_or (range_with_len 0 width) i d))
 
--- a number that goes with a cell
+-- a number that fits a cell is in range
 pair-in : (most : ℕ) (cell number : CellValue) → most ≤ most_clumps → pair_fault most cell number ≡ None
     → InRange number
 pair-in most None None few fits = tt

@@ -47,6 +47,6 @@ pub record IsNumberingOfGrid (j : Joining) (whole : Grid) (tiles : List (List Nu
   pub is : text ≡ areas_text (stretches_of (all_counts counts) numbers)
   pub are : AreNumbersOfTiles j whole tiles counts numbers
 
--- these texts are joined to the numbering of every map, of any size, whose rows are the rows of the tiles
+-- joining these texts gives the numbering of every map, of any size, whose rows are the rows of the tiles
 abbrev pub JoinedBordersNumber : Type 0
 JoinedBordersNumber = (j : Joining) (whole : Grid) (tiles : List (List NumberedTile)) (texts : List Coming) → DenoteBorders j (all_tiles tiles) texts → All (IsNumberedTile j) (all_tiles tiles) → AreTileRows (tile_regions tiles) → whole.rows ≡ rows_of_tiles tiles → (text : List ℕ) → IsNumberingOf j texts text → IsNumberingOfGrid j whole tiles text

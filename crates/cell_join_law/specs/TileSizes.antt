@@ -24,7 +24,7 @@ pub record JoinedTile : Type 0 where
 abbrev pub place_of_tile : JoinedTile → Rectangle
 place_of_tile t = t.numbered.tile.place
 
--- a tile with its clumps; in the full map, each cell has the number that is listed for its clump
+-- a tile whose clumps have the listed numbers in the full map
 pub record IsJoinedTile (j : Joining) (whole : Grid) (t : JoinedTile) : Type 0 where
   pub cells : IsTile whole t.numbered.tile
   pub clumping : IsClumping j t.numbered.tile.map t.numbered.numbers
@@ -32,7 +32,7 @@ pub record IsJoinedTile (j : Joining) (whole : Grid) (t : JoinedTile) : Type 0 w
   pub reports : (p : Position) (k : ℕ) → cell_at_position t.numbered.numbers p ≡ Some (pos k)
       → HasNumber j whole (moved_position (place_of_tile t) p) (slice_index t.there (k - 1))
 
--- tiles that contain each of `rows` × `cols` cells once
+-- the tiles contain each of the map's `rows` × `cols` cells exactly once
 pub record AreTilesOfWhole (j : Joining) (whole : Grid) (rows cols : ℕ) (tiles : List JoinedTile) : Type 0 where
   pub tiling : AreTiling rows cols (map place_of_tile tiles)
   pub joined : All (IsJoinedTile j whole) tiles

@@ -1,4 +1,4 @@
-//! Which border texts are read, and what they denote.
+//! The border texts that are read, and the borders that they denote.
 
 ghost use Rattle.cell_join_law.specs.GoodBorders.{GoodBordersAreJoined};
 ghost use Rattle.cell_join_law.specs.JoinedGrids.{BordersMakeGrids, JoinedBordersNumber};
@@ -26,7 +26,7 @@ pub fn borders_make_grids()
     ensures { BordersMakeGrids }
 {}
 
-/// If the tiles are cut from a map of any size, their texts are joined to the numbering of the map's clumps. In the
+/// If the tiles are cut from a map of any size, joining their texts gives the numbering of the map's clumps. In the
 /// full map, each cell of a tile has the number that the numbering lists for its clump.
 pub fn joined_borders_number()
     ensures { JoinedBordersNumber }
