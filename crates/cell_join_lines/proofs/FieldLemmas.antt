@@ -1,4 +1,4 @@
--- Fields of a line, one after the other.
+-- The fields of a line, one after another.
 use Rattle.std.proofs.Common.{◌≡◌, ℕ, ◌<◌, List, [], ◌∷◌, ◌++◌, length, Bool, true, false, Some, None, Result, Ok, Err, refl, ap, sym, ◌∙◌, cond, ◌==◌}
 use Rattle.std.proofs.lemmas.List.{append_assoc, append-nil}
 use Rattle.std.proofs.lemmas.List.Splits.{slice_split_first}
@@ -10,7 +10,7 @@ use Rattle.cell_join_lines.specs.declared.table_fault.TableKind.{TableKind}
 use Rattle.cell_join_lines.specs.declared.table_fault.TableKind.TheVariants.{BadCell, BadCount}
 use Rattle.cell_join_lines.proofs.PlaceLemmas.{split-none}
 
--- cells before what the fields after them spell
+-- an entry read from the remaining fields, with the given cells before its own
 abbrev pub with_cells : Combination → Result (Combination × ℕ) TableKind → Result (Combination × ℕ) TableKind
 with_cells cells (Err kind) = Err kind
 with_cells cells (Ok entry) = Ok (cells ++ entry.0, entry.1)
@@ -23,7 +23,7 @@ pub with_cells-one : (cells : Combination) (cell : CellValue) (r : Result (Combi
 with_cells-one cells cell (Err kind) = refl
 with_cells-one cells cell (Ok entry) = ap (λ (k : Combination). let r : Result (Combination × ℕ) TableKind = Ok (k, entry.1) in r) (sym (append_assoc cells (cell ∷ []) entry.0))
 
--- a text has a part
+-- the fields of a line are read as the first field's cell, then the other fields
 fields-cons : (null_text field : List ℕ) (p : ℕ → Bool) (text : List ℕ) → entry_of_fields null_text (field ∷ slice_split p text) ≡ cell_before (cell_of_field null_text field) (entry_of_fields null_text (slice_split p text))
 fields-cons null_text field p [] = refl
 fields-cons null_text field p (b ∷ bs) = by (p b) (slice_split p bs)
@@ -33,7 +33,7 @@ fields-cons null_text field p (b ∷ bs) = by (p b) (slice_split p bs)
     by false [] = refl
     by false (part ∷ parts) = refl
 
--- at the start
+-- before the first field, there are no cells
 pub fields-start : (null_text : List ℕ) (separator : ℕ) (line : List ℕ) → with_cells [] (entry_of_line separator null_text line) ≡ entry_of_line separator null_text line
 fields-start null_text separator line = with_cells-none (entry_of_line separator null_text line)
 
@@ -44,20 +44,20 @@ module _ (separator : ℕ) (null_text rest : List ℕ) where
   cut : position_or_len is_separator rest < length rest → entry_of_line separator null_text rest ≡ cell_before (cell_of_field null_text (before_first is_separator rest)) (entry_of_line separator null_text (after_first is_separator rest))
   cut h = ap (entry_of_fields null_text) (slice_split_first is_separator rest 0 h) ∙ fields-cons null_text (before_first is_separator rest) is_separator (after_first is_separator rest)
 
-  -- one more cell
+  -- reading a field appends its cell
   pub fields-cell : (cells : Combination) (cell : CellValue) → position_or_len is_separator rest < length rest → cell_of_field null_text (before_first is_separator rest) ≡ Some cell → with_cells cells (entry_of_line separator null_text rest) ≡ with_cells (cells ++ cell ∷ []) (entry_of_line separator null_text (after_first is_separator rest))
   fields-cell cells cell h is =
       ap (with_cells cells) (cut h ∙ ap (λ c. cell_before c (entry_of_line separator null_text (after_first is_separator rest))) is)
       ∙ with_cells-one cells cell (entry_of_line separator null_text (after_first is_separator rest))
 
-  -- a field that is not a cell
+  -- a field that is not a cell is an error
   pub fields-bad : (cells : Combination) → position_or_len is_separator rest < length rest → cell_of_field null_text (before_first is_separator rest) ≡ None → with_cells cells (entry_of_line separator null_text rest) ≡ Err BadCell
   fields-bad cells h is = ap (with_cells cells) (cut h ∙ ap (λ c. cell_before c (entry_of_line separator null_text (after_first is_separator rest))) is)
 
   last : (cells : Combination) → position_or_len is_separator rest ≡ length rest → with_cells cells (entry_of_line separator null_text rest) ≡ with_cells cells (with_count (count_of_field rest))
   last cells h = ap (λ fields. with_cells cells (entry_of_fields null_text fields)) (split-none is_separator rest h)
 
-  -- the last field
+  -- the last field is read as the count
   pub fields-count : (cells : Combination) (n : ℕ) → position_or_len is_separator rest ≡ length rest → count_of_field rest ≡ Some n → with_cells cells (entry_of_line separator null_text rest) ≡ Ok (cells, n)
   fields-count cells n h is = last cells h ∙ ap (λ count. with_cells cells (with_count count)) is ∙ ap (λ (k : Combination). let r : Result (Combination × ℕ) TableKind = Ok (k, n) in r) (append-nil cells)
 

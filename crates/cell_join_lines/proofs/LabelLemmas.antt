@@ -1,4 +1,4 @@
--- What is on lines before their counts, line by line.
+-- The cells and labels before the counts of lines, line by line.
 use Rattle.std.proofs.Common.{◌≡◌, ℕ, zero, suc, ◌+◌, ◌<◌, List, [], ◌∷◌, length, take, get_or}
 use Rattle.std.proofs.Common.{Bool, true, false, Option, Some, None, Result, Ok, Err, refl, ap, ◌∙◌, arith}
 use Rattle.std.proofs.Common.{cond, ◌==◌, nat_lt, MatchOption}
@@ -20,7 +20,7 @@ use Rattle.cell_join_lines.specs.declared.table_fault.TheConstants.{MOST_BYTES}
 use Rattle.cell_join_lines.proofs.TextLemmas.{cut-end}
 use Rattle.memchr.specs.Find.{IsLastByte, is_byte}
 
--- ---- up to the last separator
+-- ---- the bytes up to the last separator
 
 module _ (separator : ℕ) where
   none-before : (line : List ℕ) → ((k : ℕ) → k < length line → (get_or line k 0 == separator) ≡ true → ⊥)
@@ -51,7 +51,7 @@ module _ (separator : ℕ) where
       by [] some = absurd (omega (arith, some))
       by (x ∷ xs) some = refl
 
-  -- what `memrchr` finds
+  -- if `memrchr` finds the last separator, the bytes up to it come before the count
   pub last-found : (line : List ℕ) (found : Option ℕ) → IsLastByte (is_byte separator) line found
       → MatchOption found (before_count separator line ≡ []) (λ place. (place < length line)
       × (before_count separator line ≡ take (place + 1) line))
@@ -62,10 +62,10 @@ module _ (separator : ℕ) where
         ∙ (let one : suc place ≡ place + 1 = omega arith in ap (λ n. take n line) one),
   )
 
--- ---- what lines have
+-- ---- the cells and labels of lines
 
 module _ (format : FormatValue) where
-  -- a line with others after it
+  -- the labels of lines are the first line's labels, then the labels of the other lines
   pub more-labelled : (line bytes : List ℕ) → labelled_in_lines format (line ∷ slice_split is_newline bytes)
       ≡ labelled_then format line (spelled_entry format line) (labelled_in format bytes)
   more-labelled line [] = refl
@@ -116,7 +116,7 @@ module _ (format : FormatValue) where
       by false false false true within e = cc
       by false false false false within e = cc
 
-  -- a line was read that spells an entry
+  -- a line that spells an entry gives its cells and labels
   pub line-labelled : (old : Option Coming) (new : LinesValue) (e : Combination × ℕ) → IsFirstLine old (Ok true) new
       → spelled_entry format new.line ≡ Ok e
       → option_map (λ (c : Coming). labelled_in format c.bytes) old ≡ option_map (λ (rest : Coming).
@@ -134,7 +134,7 @@ module _ (format : FormatValue) where
           ap Some (cut-labelled c rest new.line one
           ∙ ap (λ r. labelled_then format new.line r (labelled_in format rest.bytes)) spelled)
 
-  -- there is none at the end
+  -- at the end of the text, no labels remain
   pub end-labelled : (old : Option Coming) (new : LinesValue) → IsFirstLine old (Ok false) new
       → option_map (λ (c : Coming). labelled_in format c.bytes) old ≡ option_map (λ (rest : Coming). [])
       (lines_coming new)

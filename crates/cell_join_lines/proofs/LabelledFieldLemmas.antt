@@ -1,4 +1,4 @@
--- Fields of a line with labels, a cell and its label at a time.
+-- The fields of a line with labels, read as pairs of a cell and its label.
 use Rattle.std.proofs.Common.{◌≡◌, ℕ, ◌<◌, List, [], ◌∷◌, ◌++◌, length, Bool, true, false, Some, None}
 use Rattle.std.proofs.Common.{Result, Ok, Err, refl, ap, sym, ◌∙◌, cond, ◌==◌}
 use Rattle.std.proofs.lemmas.List.{append-nil}
@@ -13,7 +13,7 @@ use Rattle.cell_join_lines.specs.declared.table_fault.TableKind.TheVariants.{Bad
 use Rattle.cell_join_lines.proofs.FieldLemmas.{with_cells, with_cells-none, with_cells-one}
 use Rattle.cell_join_lines.proofs.PlaceLemmas.{split-none}
 
--- a text has a part
+-- the fields of a line are read as the first cell and its label, then the other fields
 pub labelled-cons : (null_text field label : List ℕ) (p : ℕ → Bool) (text : List ℕ)
     → entry_of_labelled null_text (field ∷ label ∷ slice_split p text) ≡ cell_before (labelled_cell null_text field
     label) (entry_of_labelled null_text (slice_split p text))
@@ -34,7 +34,7 @@ module _ (separator : ℕ) (null_text : List ℕ) where
   abbrev spells : List ℕ → Result (Combination × ℕ) TableKind
   spells rest = labelled_entry_of_line separator null_text rest
 
-  -- at the start
+  -- before the first field, there are no cells
   pub labelled-start : (line : List ℕ) → with_cells [] (spells line) ≡ spells line
   labelled-start line = with_cells-none (spells line)
 
@@ -43,7 +43,7 @@ module _ (separator : ℕ) (null_text : List ℕ) where
     cut : slice_split is_separator rest ≡ field ∷ slice_split is_separator others
     cut = slice_split_first is_separator rest 0 h ∙ (λ i. sym is i ∷ slice_split is_separator (sym left i))
 
-    -- no label, and so no count
+    -- a line without a label after its cell has no count either
     pub labelled-short : (cells : Combination) → position_or_len is_separator others ≡ length others
         → with_cells cells (spells rest) ≡ Err BadCount
     labelled-short cells none = ap (λ fields. with_cells cells (entry_of_labelled null_text fields)) (cut
@@ -57,13 +57,13 @@ module _ (separator : ℕ) (null_text : List ℕ) where
           ∙ (λ i. sym labelled i ∷ slice_split is_separator (sym last i))))
           ∙ labelled-cons null_text field label is_separator behind
 
-      -- one more cell
+      -- reading a cell and its label appends the cell
       pub labelled-more : (cells : Combination) (cell : CellValue) → labelled_cell null_text field label ≡ Some cell
           → with_cells cells (spells rest) ≡ with_cells (cells ++ cell ∷ []) (spells behind)
       labelled-more cells cell so = ap (with_cells cells) (cut-both ∙ ap (λ c. cell_before c (spells behind)) so)
           ∙ with_cells-one cells cell (spells behind)
 
-      -- fields that are not cells
+      -- fields that are not a cell and its label are an error
       pub labelled-bad : (cells : Combination) → labelled_cell null_text field label ≡ None
           → with_cells cells (spells rest) ≡ Err BadCell
       labelled-bad cells so = ap (with_cells cells) (cut-both ∙ ap (λ c. cell_before c (spells behind)) so)
@@ -72,7 +72,7 @@ module _ (separator : ℕ) (null_text : List ℕ) where
     last-field : with_cells cells (spells rest) ≡ with_cells cells (with_count (count_of_field rest))
     last-field = ap (λ fields. with_cells cells (entry_of_labelled null_text fields)) (split-none is_separator rest h)
 
-    -- the last field
+    -- the last field is read as the count
     pub labelled-count : (n : ℕ) → count_of_field rest ≡ Some n → with_cells cells (spells rest) ≡ Ok (cells, n)
     labelled-count n is = last-field ∙ ap (λ count. with_cells cells (with_count count)) is
         ∙ ap (λ (k : Combination). let r : Result (Combination × ℕ) TableKind = Ok (k, n) in r) (append-nil cells)

@@ -1,4 +1,4 @@
--- The number of the line with which a text continues.
+-- The number of the line from which a text continues.
 use Rattle.std.proofs.Common.{◌≡◌, ◌≢◌, ℕ, ◌+◌, ◌-◌, ◌^◌, List, [], ◌∷◌, ◌++◌, length, min, Option, Some, None}
 use Rattle.std.proofs.Common.{refl, ap, sym, ◌∙◌, arith, option_map, append_assoc}
 use Rattle.cell_core_devices.specs.Device.{Coming}
@@ -25,7 +25,7 @@ module _ (format : FormatValue) where
   abbrev labelled_by : List ℕ → Combination × ℕ → Labelled
   labelled_by line entry = (entry.0, before_count format.separator line)
 
-  -- the line of a head, and those after it
+  -- the line of the head, followed by the remaining lines
   record HasHeadLine (head : Option (Combination × ℕ)) (line : List ℕ) (coming : Option Coming)
       (left : List Labelled) : Type 0 where
     own : Labelled
@@ -47,7 +47,7 @@ module _ (format : FormatValue) where
     lines = (let same : labelled_from_head format (Some e) line c ≡ left = cc in sym same);
   }
 
-  -- a text whose first line was read
+  -- a text with line number 2 has read its first line
   pub first-behind : (lines : List Labelled) (text : TextValue) → labelled_from format text ≡ Some lines
       → text.number ≡ 2 → IsBehind format lines text
   first-behind lines text known number = record {
@@ -58,7 +58,7 @@ module _ (format : FormatValue) where
     number = number ∙ (omega arith);
   }
 
-  -- the next one was read
+  -- reading the next line advances the line number by 1
   pub next-behind : (lines : List Labelled) (old new : TextValue) → old.head ≢ None
       → labelled_behind format old ≡ labelled_from format new → new.number ≡ line_after old.number
       → IsBehind format lines old → IsBehind format lines new
@@ -73,7 +73,7 @@ module _ (format : FormatValue) where
             ∙ ap (λ (n : ℕ). min (n + 2) (2 ^ 64 - 1)) (sym (more-lines was.passed at.own));
       }
 
-  -- its head is on the line before its number
+  -- the head is on the line before the text's line number
   pub head-numbered : (lines : List Labelled) (text : TextValue) (own : Labelled) (n : ℕ) → IsBehind format lines text
       → option_map (labelled_by text.line) text.head ≡ Some own → n ≡ text.number - 1 → IsNumberedLine lines n own
   head-numbered lines text own n was head number =

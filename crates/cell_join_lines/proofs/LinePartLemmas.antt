@@ -1,4 +1,4 @@
--- A line gathered from the parts that a buffer holds.
+-- A line is gathered from the parts that a buffer holds.
 use Rattle.std.proofs.Common.{◌≡◌, ◌≢◌, ℕ, ◌+◌, ◌-◌, ◌<◌, ◌≤◌, List, [], ◌++◌, length, take, drop, Bool, true, false, Option, Some, None, Result, Ok, Err, refl, ap, sym, ◌∙◌, arith, cond, ◌==◌, nat_lt, not, subst, ⊎_elim}
 use Rattle.std.proofs.Math.Seq.{drop-append-add, take-append-add}
 use Rattle.std.proofs.lemmas.Bool.{cases_lt, lt-ltb, ne_eqb}
@@ -16,14 +16,14 @@ use Rattle.cell_join_lines.specs.declared.table_fault.TableKind.{TableKind}
 use Rattle.cell_join_lines.specs.declared.table_fault.TableKind.TheVariants.{LongLine, CutOff, Read}
 use Rattle.cell_join_lines.specs.declared.table_fault.TheConstants.{MOST_BYTES}
 
--- what is held after a place
+-- dropping the bytes up to a found place leaves the bytes after it
 pub passed-rest : (p : ℕ → Bool) (text : List ℕ) (at place : ℕ) → position_or_len p (drop at text) ≡ place → drop (at + (place + 1)) text ≡ after_first p (drop at text)
 passed-rest p text at place e = sym (drop-drop (place + 1) at text) ∙ ap (λ k. drop (k + 1) (drop at text)) (sym e)
 
 pub passed-part : (p : ℕ → Bool) (held : List ℕ) (place : ℕ) → position_or_len p held ≡ place → take place held ≡ before_first p held
 passed-part p held place e = ap (λ k. take k held) (sym e)
 
--- what is held, as a slice and as a list
+-- the bytes held are the same as a slice and as a list
 pub held-is : (at filled : ℕ) (items whole : List ℕ) → at ≤ filled → whole ≡ items → take (filled - at) (drop at whole) ≡ drop at (take filled items)
 held-is at filled items whole le same =
     let sum : at + (filled - at) ≡ filled = omega arith in
@@ -36,7 +36,7 @@ module _ (p : ℕ → Bool) where
   at-length : (xs : List ℕ) → position_or_len p xs ≡ length xs → (position_or_len p xs == length xs) ≡ true
   at-length xs e = (Decides-eqb (position_or_len p xs) (length xs)).1 e
 
-  -- no byte of the first part passes
+  -- if no byte of the first part passes, the place is in the second part
   place-behind : (xs ys : List ℕ) → position_or_len p xs ≡ length xs → position_or_len p (xs ++ ys) ≡ length xs + position_or_len p ys
   place-behind xs ys e = prefix_len-append (λ b. not (p b)) xs ys ∙ ap (λ t. cond t (length xs + position_or_len p ys) (position_or_len p xs)) (at-length xs e)
 
@@ -48,7 +48,7 @@ module _ (p : ℕ → Bool) where
       let sum : (length xs + position_or_len p ys) + 1 ≡ length xs + (position_or_len p ys + 1) = omega arith in
       ap (λ k. drop (k + 1) (xs ++ ys)) (place-behind xs ys e) ∙ ap (λ k. drop k (xs ++ ys)) sum ∙ drop-append-add xs ys (position_or_len p ys + 1)
 
-  -- a byte of the first part passes
+  -- if a byte of the first part passes, the place is in the first part
   place-within : (xs ys : List ℕ) → position_or_len p xs ≢ length xs → position_or_len p (xs ++ ys) ≡ position_or_len p xs
   place-within xs ys e = prefix_len-append (λ b. not (p b)) xs ys ∙ ap (λ t. cond t (length xs + position_or_len p ys) (position_or_len p xs)) (ne_eqb (position_or_len p xs) (length xs) e)
 
@@ -66,7 +66,7 @@ module _ (p : ℕ → Bool) where
       cases_lt-then : (m n : ℕ) → m ≤ n → m ≢ n → m + 1 ≤ n
       cases_lt-then m n most other = ⊎_elim (λ less. omega arith) (λ more. absurd (other (omega arith))) (cases_lt m n)
 
--- the first line of what is to come
+-- a first line with more bytes than allowed is rejected
 first-long : (coming : Coming) → MOST_BYTES < length (before_first is_newline coming.bytes) → first_line coming ≡ Err LongLine
 first-long coming h = ap (λ t. cond t (Err LongLine) (cond (nat_lt (position_or_len is_newline coming.bytes) (length coming.bytes)) (Ok (Some (before_first is_newline coming.bytes, record { bytes = after_first is_newline coming.bytes; fails = coming.fails }))) (cond coming.fails (Err Read) (cond (length coming.bytes == 0) (Ok None) (Err CutOff))))) (lt-ltb MOST_BYTES (length (before_first is_newline coming.bytes)) h)
 
@@ -93,7 +93,7 @@ from-reported : (two : LinesValue) (old : Option Coming) (t : Bool) → option_m
 from-reported two old true e = λ n. if-some old (lines_coming two) e
 from-reported two old false e = e
 
--- a line feed among the bytes held
+-- a line feed among the bytes held ends the line
 pub whole-reported : (old : Option Coming) (one two : LinesValue) (r : Result Bool TableKind) → lf one.line ≡ length one.line → old ≡ option_map (held_before one.line) (lines_coming one) → IsPassed one true two → two.rest ≡ one.rest → r ≡ cond (nat_lt MOST_BYTES (length two.line)) (Err LongLine) (Ok true) → IsFirstLine old r two
 whole-reported old one two r clean is passed same reported =
     subst (λ (x : Result Bool TableKind). IsFirstLine old x two) (sym reported) (from-reported two old (nat_lt MOST_BYTES (length two.line)) (ap (option_map first_line) is ∙ by one.rest ∙ ap (λ o. option_map (whole_line two.line) (option_map (held_before two.held) o)) (sym same)))
@@ -108,7 +108,7 @@ whole-reported old one two r clean is passed same reported =
         let most : lf one.held < length one.held = ⊎_elim (λ less. less) (λ more. absurd (passed.0 (let l = low is_newline one.held in omega arith))) (cases_lt (lf one.held) (length one.held)) in
         ap Some (first-whole (held_before one.line (held_before one.held c)) two.line (two.held ++ c.bytes) before behind (omega (arith, place, length-append one.line bytes, length-append one.held c.bytes, most)))
 
--- none among them
+-- without a line feed among the bytes held, the gathered line has none
 pub part-clean : (one two : LinesValue) → lf one.line ≡ length one.line → IsPassed one false two → lf two.line ≡ length two.line
 part-clean one two clean passed = ap lf passed.1 ∙ place-behind is_newline one.line one.held clean ∙ ap (λ n. length one.line + n) passed.0 ∙ sym (length-append one.line one.held) ∙ ap length (sym passed.1)
 
@@ -122,7 +122,7 @@ part-same old one two is passed same = is ∙ by one.rest ∙ ap (λ o. option_m
         sym (append_assoc one.line one.held c.bytes) ∙ ap (λ line. line ++ c.bytes) (sym passed.1) ∙ ap (λ held. two.line ++ (held ++ c.bytes)) (sym passed.2) in
         ap (λ (all : List ℕ). let o : Option Coming = Some (record { bytes = all; fails = c.fails }) in o) bytes
 
--- more bytes than a line may have
+-- a line gathered beyond the most bytes allowed is rejected
 pub long-reported : (old : Option Coming) (one : LinesValue) → lf one.line ≡ length one.line → old ≡ option_map (held_before one.line) (lines_coming one) → MOST_BYTES < length one.line → IfSome old (λ coming. first_line coming ≡ Err LongLine)
 long-reported old one clean is most = subst (λ (o : Option Coming). IfSome o (λ coming. first_line coming ≡ Err LongLine)) (sym is) (by (lines_coming one))
   where

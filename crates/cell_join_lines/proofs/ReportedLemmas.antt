@@ -1,4 +1,4 @@
--- The runs of tiles show their numbers.
+-- The runs of tiles give the numbers of their clumps.
 use Rattle.std.proofs.Common.{◌≡◌, ℕ, zero, suc, ◌+◌, ◌-◌, ◌≤◌, ◌==◌, List, [], ◌∷◌, ◌++◌, length, take, drop, sum, Bool, true, false, cond, refl, ap, sym, ◌∙◌, arith, add-one, append-nil, append_assoc, length-append, length-drop}
 use Rattle.std.specs.List.{range_with_len}
 use Rattle.std.proofs.lemmas.Bool.Decides.{Decides-eqb}

@@ -1,4 +1,4 @@
--- What is wrong with a run: it is not that the text cannot be read on, and on the first line nothing is read.
+-- The errors of runs: none is a reading error, and an error in the first line leaves nothing read.
 use Rattle.std.proofs.Common.{◌≡◌, ℕ, Bool, true, false, cond, Option, Some, None, Result, Ok, Err, refl, ap, sym, ◌∙◌, subst, option_map}
 use Rattle.std.specs.Prelude.{IfSome, nat_lt}
 use Rattle.cell_core_devices.specs.Device.{Coming}
@@ -50,7 +50,7 @@ head-unread before (Some entry) kind is = by (stretch_of_entry entry)
     by (Err own) unread e = reported own kind (unread own refl) cc
     by (Ok s) unread e = then s (in_sequence before s) refl e
 
--- a text whose first line spells no run
+-- a text whose first line does not spell a run stops at line 1
 pub begin-stops : (known : Option Coming) (text : TextValue) (kind : AreasKind)
     → option_map (reading_of areas_format 3) known ≡ reading_from areas_format text
     → stretch_of_head None text.head ≡ Err kind → IfSome known (λ coming. areas_reading_of coming ≡ areas_stopped 1 kind)

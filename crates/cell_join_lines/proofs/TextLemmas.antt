@@ -1,4 +1,4 @@
--- A text read line by line.
+-- A text is read line by line.
 use Rattle.std.proofs.Common.{◌≡◌, ℕ, ◌<◌, ◌≤◌, List, [], ◌∷◌, ◌++◌, length, take, get_or}
 use Rattle.std.proofs.Common.{Bool, true, false, Option, Some, None, Result, Ok, Err, refl, ap, sym, ◌∙◌, arith}
 use Rattle.std.proofs.Common.{cond, ◌==◌, nat_lt, not, ⊎_elim}
@@ -35,7 +35,7 @@ module _ (format : FormatValue) (width number : ℕ) (last : Option Combination)
   abbrev pub one_line : Bool → List ℕ → List (List ℕ) → TableReading
   one_line fails line lines = cond (nat_lt MOST_BYTES (length line)) (stopped number LongLine) (then_reads number (next_entry format width last line) (λ entry. reading_of_lines format width fails (line_after number) (Some entry.0) lines))
 
-  -- a line with others after it
+  -- the lines of a text are read as the first line, then the other lines
   pub more-lines : (fails : Bool) (line bytes : List ℕ) → by_lines fails (line ∷ slice_split is_newline bytes) ≡ one_line fails line (slice_split is_newline bytes)
   more-lines fails line [] = refl
   more-lines fails line (b ∷ bs) = by (is_newline b) (slice_split is_newline bs)
@@ -86,7 +86,7 @@ module _ (format : FormatValue) (width number : ℕ) (last : Option Combination)
           ∙ ap (λ (bytes : List ℕ). reading_by format width number last (cond (nat_lt MOST_BYTES (length bytes)) (Err LongLine) (broken coming))) all
           ∙ ap (λ t. reading_by format width number last (by_tests coming (nat_lt MOST_BYTES (length (before_first is_newline coming.bytes))) t)) (sym (le-ltb (position_or_len is_newline coming.bytes) (length coming.bytes) h))
 
-  -- the same of a text that may be known
+  -- a text that may be unknown is also read by its first line
   pub by-first-known : (known : Option Coming) → option_map (reading_of_rest format width number last) known ≡ option_map (reading_by format width number last) (option_map first_line known)
   by-first-known None = refl
   by-first-known (Some coming) = ap Some (by-first coming)
@@ -96,14 +96,14 @@ module _ (format : FormatValue) (width number : ℕ) (last : Option Combination)
   twice f g (Some x) = refl
 
   module _ (old : Option Coming) (new : LinesValue) where
-    -- a line was read
+    -- a line that spells an entry is read as that entry
     pub line-read : (e : Combination × ℕ) → IsFirstLine old (Ok true) new → next_entry format width last new.line ≡ Ok e → option_map (reading_of_rest format width number last) old ≡ option_map (λ rest. with_entry e (reading_of_rest format width (line_after number) (Some e.0) rest)) (lines_coming new)
     line-read e first is =
         by-first-known old ∙ ap (option_map (reading_by format width number last)) first
         ∙ twice (reading_by format width number last) (λ rest. Ok (Some (new.line, rest))) (lines_coming new)
         ∙ ap (λ r. option_map (λ rest. then_reads number r (λ entry. reading_of_rest format width (line_after number) (Some entry.0) rest)) (lines_coming new)) is
 
-    -- there is none
+    -- at the end of the text, nothing is read
     pub end-read : IsFirstLine old (Ok false) new → option_map (reading_of_rest format width number last) old ≡ option_map (λ rest. ended) (lines_coming new)
     end-read first = by-first-known old ∙ ap (option_map (reading_by format width number last)) first ∙ twice (reading_by format width number last) (λ rest. Ok None) (lines_coming new)
 
@@ -112,19 +112,19 @@ module _ (format : FormatValue) (width number : ℕ) (last : Option Combination)
     reported kind (Some r) None e = cc
     reported kind (Some r) (Some c) e = cc
 
-    -- one was read that spells no entry
+    -- a line that does not spell an entry stops the reading
     pub line-refused : (kind : TableKind) → IsFirstLine old (Ok true) new → next_entry format width last new.line ≡ Err kind → IfSome (option_map (reading_of_rest format width number last) old) (λ reading. reading ≡ stopped number kind)
     line-refused kind first is =
         reported kind (option_map (reading_of_rest format width number last) old) (lines_coming new) (by-first-known old ∙ ap (option_map (reading_by format width number last)) first
         ∙ twice (reading_by format width number last) (λ rest. Ok (Some (new.line, rest))) (lines_coming new)
         ∙ ap (λ r. option_map (λ rest. then_reads number r (λ entry. reading_of_rest format width (line_after number) (Some entry.0) rest)) (lines_coming new)) is)
 
-  -- none was read
+  -- an error in the first line stops the reading
   pub first-refused : (old : Option Coming) (kind : TableKind) → IfSome old (λ coming. first_line coming ≡ Err kind) → IfSome (option_map (reading_of_rest format width number last) old) (λ reading. reading ≡ stopped number kind)
   first-refused None kind h = tt
   first-refused (Some coming) kind h = by-first coming ∙ ap (reading_by format width number last) h
 
--- ---- the bytes of a line
+-- ---- the bytes of lines
 
 line-feed-at : (bytes : List ℕ) → position_or_len is_newline bytes < length bytes
     → bytes ≡ (before_first is_newline bytes ++ 10 ∷ []) ++ after_first is_newline bytes
@@ -201,7 +201,7 @@ cut-end coming is = by (nat_lt MOST_BYTES (length (before_first is_newline comin
     by false false false true zero e = empty coming.bytes zero
     by false false false false zero e = cc
 
--- the bytes of a line that was read, and of those after it
+-- the bytes of a text are the first line, a line feed and the bytes after it
 pub line-bytes : (old : Option Coming) (new : LinesValue) → IsFirstLine old (Ok true) new
     → option_map (λ (c : Coming). c.bytes) old ≡ option_map (λ (rest : Coming). (new.line ++ 10 ∷ []) ++ rest.bytes)
     (lines_coming new)
@@ -216,7 +216,7 @@ line-bytes old new first = by old (lines_coming new) first
     by (Some c) (Some rest) e = let one : first_line c ≡ Ok (Some (new.line, rest)) = cc in ap Some (cut-line c rest
         new.line one)
 
--- there are none at the end
+-- at the end of the text, no bytes remain
 pub end-bytes : (old : Option Coming) (new : LinesValue) → IsFirstLine old (Ok false) new
     → option_map (λ (c : Coming). c.bytes) old ≡ option_map (λ (rest : Coming). []) (lines_coming new)
 end-bytes old new first = by old (lines_coming new) first
@@ -228,7 +228,7 @@ end-bytes old new first = by old (lines_coming new) first
     by (Some c) None e = cc
     by (Some c) (Some rest) e = let one : first_line c ≡ Ok None = cc in ap Some (cut-end c one)
 
--- ---- an entry that comes next is what its line spells
+-- ---- the next entry is the entry that its line spells
 
 same-entry : (o : Ordering) (x e : Combination × ℕ) → ordered_entry o x ≡ Ok e → x ≡ e
 same-entry Less x e is = cc

@@ -1,4 +1,4 @@
--- A text that is written part by part.
+-- Text written part by part.
 use Rattle.std.proofs.Common.{◌≡◌, ℕ, ◌+◌, ◌<◌, ◌≤◌, List, [], ◌∷◌, ◌++◌, length, get_or, take, drop, min, Bool, true, false, cond, ◌==◌, refl, ap, sym, ◌∙◌, subst, Option, append_assoc, append-nil, arith}
 use Rattle.std.proofs.lemmas.List.{at_drop_more, drop_min, take_min, take_more}
 use Rattle.std.proofs.lemmas.List.Concat.{flat_map-append}
@@ -13,7 +13,7 @@ module _ {S : Type 0} {taken : S → Option (List ℕ)} {faults : S → Faults} 
   pub rest-all : (text rest : List ℕ) → rest ≡ text → HasRest taken faults old block old block text rest
   rest-all text rest e = record { done = []; appends = appends_none; whole = e }
 
-  -- the next part of the rest was appended
+  -- appending the next part leaves a shorter rest
   pub rest-less : {mid now : S} {middle new : BlockValue} (text rest part left : List ℕ) → HasRest taken faults old block mid middle text rest
       → Appends taken faults mid middle part now new → rest ≡ part ++ left → HasRest taken faults old block now new text left
   rest-less text rest part left so adds e = record {
@@ -22,14 +22,14 @@ module _ {S : Type 0} {taken : S → Option (List ℕ)} {faults : S → Faults} 
     whole = append_assoc so.done part left ∙ ap (λ (l : List ℕ). so.done ++ l) (sym e) ∙ so.whole;
   }
 
-  -- the rest is none
+  -- once the rest is empty, the text was appended completely
   pub rest-none : {now : S} {new : BlockValue} (text rest : List ℕ) → HasRest taken faults old block now new text rest → rest ≡ []
       → Appends taken faults old block text now new
   rest-none {now} {new} text rest so e =
       subst (λ (l : List ℕ). Appends taken faults old block l now new)
       (sym (append-nil so.done) ∙ ap (λ (l : List ℕ). so.done ++ l) (sym e) ∙ so.whole) so.appends
 
--- ---- the lines of stretches
+-- ---- the lines of runs
 
 pub stretch-more : {S : Type 0} {taken : S → Option (List ℕ)} {faults : S → Faults} {old mid now : S}
     {block middle new : BlockValue} (stretches : List Stretch) (i : ℕ) (d : Stretch)

@@ -72,7 +72,7 @@ abbrev pub comes_next : Option Stretch → Stretch → Bool
 comes_next None s = s.first == 1
 comes_next (Some before) s = if before.band == s.band then s.first == before.last + 1 else s.first == 1
 
--- the run, if it may follow the previous run
+-- the run if it may follow the previous run, and otherwise an error
 abbrev pub in_sequence : Option Stretch → Stretch → Result Stretch AreasKind
 in_sequence before s = if nat_lt s.last s.first then Err areas_kinds.Reversed else (if comes_next before s then Ok s else Err areas_kinds.NotNext)
 
@@ -85,32 +85,32 @@ pub record AreasReading : Type 0 where
   pub stretches : List Stretch
   pub fault : Option AreasFault
 
--- the end of the text
+-- the reading at the end of the text
 abbrev pub areas_ended : AreasReading
 areas_ended = record { stretches = []; fault = None }
 
--- an error in this line
+-- the reading of an error in this line
 abbrev pub areas_stopped : ℕ → AreasKind → AreasReading
 areas_stopped line kind = record { stretches = []; fault = Some (record { line = line; kind = kind }) }
 
--- a run, and then the rest
+-- a run, followed by the rest of the reading
 abbrev pub with_stretch : Stretch → AreasReading → AreasReading
 with_stretch s others = record { stretches = s ∷ others.stretches; fault = others.fault }
 
--- a run and what is read after it, or an error
+-- a run, followed by the reading after it, or an error
 abbrev pub then_stretches : ℕ → Result Stretch AreasKind → (Stretch → AreasReading) → AreasReading
 then_stretches line (Err kind) more = areas_stopped line kind
 then_stretches line (Ok s) more = with_stretch s (more s)
 
--- entries, from this line on, after the previous run, if any, and the error after them
+-- the reading of entries from this line on, after the previous run, if any, followed by their error, if any
 abbrev pub stretches_read : ℕ → Option Stretch → Pairs → Option TableFault → AreasReading
 stretches_read line before [] fault = record { stretches = []; fault = option_map areas_fault fault }
 stretches_read line before (entry ∷ entries) fault = then_stretches line (next_stretch before entry) (λ s. stretches_read (line_after line) (Some s) entries fault)
 
--- a table with three columns, from this line on
+-- the reading of a table with three columns, from this line on
 abbrev pub areas_read : ℕ → Option Stretch → TableReading → AreasReading
 areas_read line before reading = stretches_read line before reading.entries reading.fault
 
--- a complete text
+-- the reading of a complete text
 abbrev pub areas_reading_of : Coming → AreasReading
 areas_reading_of coming = areas_read 1 None (reading_of areas_format 3 coming)

@@ -33,7 +33,7 @@ cell_before None others = Err BadCell
 cell_before (Some cell) (Err kind) = Err kind
 cell_before (Some cell) (Ok entry) = Ok (cell ∷ entry.0, entry.1)
 
--- an entry with only a count
+-- an entry that has only this count
 abbrev pub with_count : Option ℕ → Result (Combination × ℕ) TableKind
 with_count None = Err BadCount
 with_count (Some n) = Ok ([], n)

@@ -10,7 +10,7 @@ use Rattle.cell_join_lines.specs.LineReading.{is_newline}
 use Rattle.cell_join_lines.specs.TextReading.{TextValue}
 use Rattle.cell_join_lines.specs.declared.table_fault.TableKind.{TableKind}
 
--- a byte followed by other bytes, or a single separator
+-- the byte and the bytes after it; if there are none, the byte only if it is the separator
 abbrev pub up_to_separator : ℕ → ℕ → List ℕ → List ℕ
 up_to_separator separator b [] = if b == separator then b ∷ [] else []
 up_to_separator separator b (next ∷ bytes) = b ∷ next ∷ bytes

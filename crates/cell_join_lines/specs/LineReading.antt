@@ -19,7 +19,7 @@ use Rattle.cell_join_lines.specs.declared.table_fault.TheConstants.{MOST_BYTES}
 abbrev pub is_newline : ℕ → Bool
 is_newline b = b == byte (codes "\n")
 
--- there are as many cells as wanted or, if `wanted` is 0, at least one
+-- there are as many cells as wanted or, if `wanted` is 0, at least one cell
 abbrev pub is_as_wide : ℕ → ℕ → Bool
 is_as_wide wanted count = if wanted == 0 then nat_lt 0 count else count == wanted
 
@@ -43,15 +43,15 @@ pub record TableReading : Type 0 where
   pub entries : Pairs
   pub fault : Option TableFault
 
--- the end of the text
+-- the reading at the end of the text
 abbrev pub ended : TableReading
 ended = record { entries = []; fault = None }
 
--- an error in this line
+-- the reading of an error in this line
 abbrev pub stopped : ℕ → TableKind → TableReading
 stopped line kind = record { entries = []; fault = Some (record { line = line; kind = kind }) }
 
--- an entry, and then the rest
+-- an entry, followed by the rest of the reading
 abbrev pub with_entry : Combination × ℕ → TableReading → TableReading
 with_entry entry others = record { entries = entry ∷ others.entries; fault = others.fault }
 
@@ -59,25 +59,25 @@ with_entry entry others = record { entries = entry ∷ others.entries; fault = o
 abbrev pub line_after : ℕ → ℕ
 line_after line = min (line + 1) (2 ^ 64 - 1)
 
--- the bytes after the last line feed: a complete text has none
+-- the reading of the bytes after the last line feed; a complete text has none
 abbrev pub at_text_end : Bool → ℕ → List ℕ → TableReading
 at_text_end fails line bytes = if fails then stopped line Read else (if length bytes == 0 then ended else stopped line CutOff)
 
--- an entry and what is read after it, or an error
+-- an entry, followed by the reading after it, or an error
 abbrev pub then_reads : ℕ → Result (Combination × ℕ) TableKind → (Combination × ℕ → TableReading) → TableReading
 then_reads line (Err kind) more = stopped line kind
 then_reads line (Ok entry) more = with_entry entry (more entry)
 
--- lines, from this number on, after the previous combination, if any; the last line has no line feed
+-- the reading of lines from this number on, after the previous combination, if any; the last line has no line feed
 abbrev pub reading_of_lines : FormatValue → ℕ → Bool → ℕ → Option Combination → List (List ℕ) → TableReading
 reading_of_lines format width fails number last [] = ended
 reading_of_lines format width fails number last (line ∷ []) = if nat_lt MOST_BYTES (length line) then stopped number LongLine else at_text_end fails number line
 reading_of_lines format width fails number last (line ∷ next ∷ lines) = if nat_lt MOST_BYTES (length line) then stopped number LongLine else then_reads number (next_entry format width last line) (λ entry. reading_of_lines format width fails (line_after number) (Some entry.0) (next ∷ lines))
 
--- the rest of a text
+-- the reading of the rest of a text
 abbrev pub reading_of_rest : FormatValue → ℕ → ℕ → Option Combination → Coming → TableReading
 reading_of_rest format width number last coming = reading_of_lines format width coming.fails number last (slice_split is_newline coming.bytes)
 
--- a text of combinations with `width` cells or, if `width` is 0, with the same number of cells
+-- the reading of a text whose combinations have `width` cells or, if `width` is 0, all have the same number of cells
 abbrev pub reading_of : FormatValue → ℕ → Coming → TableReading
 reading_of format width coming = reading_of_rest format width 1 None coming

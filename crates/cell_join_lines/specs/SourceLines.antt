@@ -1,4 +1,4 @@
--- The lines of a source, one after the other.
+-- The lines of a source, one after another.
 use Rattle.std.specs.Prelude.{ℕ, ◌≡◌, ◌≢◌, ◌==◌, nat_lt, true, false, Bool, List, [], ◌++◌, length, Option, Some, None, IfSome, Result, Ok, Err, if◌then◌else◌}
 use Rattle.std.specs.List.{position_or_len, before_first, after_first}
 use Rattle.std.specs.Option.{option_map}
@@ -24,11 +24,11 @@ held_before bytes coming = record { bytes = bytes ++ coming.bytes; fails = comin
 abbrev pub lines_coming : LinesValue → Option Coming
 lines_coming lines = option_map (held_before lines.held) lines.rest
 
--- a source whose bytes, if known, are used up
+-- the bytes of the source, if known, are used up
 abbrev pub HasEnded : Bool → Option Coming → Type 0
 HasEnded fails known = IfSome known (λ coming. (coming.bytes ≡ []) × (coming.fails ≡ fails))
 
--- the first line, without its line feed, and what follows it; or the end; or an error
+-- the first line, without its line feed, and the bytes after it; or the end of the text; or an error
 abbrev pub first_line : Coming → Result (Option (List ℕ × Coming)) TableKind
 first_line coming =
     if nat_lt MOST_BYTES (length (before_first is_newline coming.bytes)) then Err LongLine
@@ -36,7 +36,7 @@ first_line coming =
     else (if coming.fails then Err Read
     else (if length coming.bytes == 0 then Ok None else Err CutOff)))
 
--- the result of reading the first line: a line was read, there is none, or an error
+-- the result of reading the first line: whether there was a line, or an error
 abbrev pub IsFirstLine : Option Coming → Result Bool TableKind → LinesValue → Type 0
 IsFirstLine old (Ok true) new = option_map first_line old ≡ option_map (λ rest. Ok (Some (new.line, rest))) (lines_coming new)
 IsFirstLine old (Ok false) new = option_map first_line old ≡ option_map (λ rest. Ok None) (lines_coming new)

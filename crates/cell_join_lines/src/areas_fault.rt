@@ -7,7 +7,7 @@ ghost use Rattle.cell_join_lines.specs.SourceLines.{is_read_fault};
 use crate::table_fault::TableKind;
 use thiserror::Error;
 
-/// What is wrong with a numbering.
+/// The error in a line of a numbering.
 #[derive(Clone, Copy, Debug, PartialEq, Eq, Error)]
 pub enum AreasKind {
     /// The line does not contain four printed numbers, the first three from 1 to 2147483647 and the last from 1 to 2^64

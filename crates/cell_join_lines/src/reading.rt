@@ -161,7 +161,7 @@ impl<R: Source> AreasText<R> {
         ensures line { IfOk result (λ areas. areas.line ≡ 2) }
         ensures sequence { IfOk result (λ areas. IfSome areas.head
             (λ stretch. in_sequence None stretch ≡ Ok stretch)) }
-        // The source is read only while it continues, and its read error is reported as `Read`. No error has occurred
+        // The source is read only until it ends or fails, and its failure is reported as `Read`. No error has occurred
         // so far.
         ensures heard { IfOk result (λ areas. areas.heard ≡ heard_first (R.asked source)) }
     {
@@ -205,7 +205,7 @@ impl<R: Source> AreasText<R> {
         ensures line { OnOk result (self.new.line ≡ line_after self.old.line) }
         ensures sequence { OnOk result (IfSome self.new.head
             (λ stretch. in_sequence self.old.head stretch ≡ Ok stretch)) }
-        // The source is read only while it continues, and its read error is reported as `Read`.
+        // The source is read only until it ends or fails, and its failure is reported as `Read`.
         ensures heard { self.new.heard ≡ hears (says_read_areas result) self.old.heard }
     {
         let line = self.line;

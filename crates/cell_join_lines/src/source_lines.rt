@@ -1,4 +1,4 @@
-//! Reads the lines of a source, one after the other.
+//! Reads the lines of a source, one after another.
 
 ghost use Rattle.std.specs.Prelude.{◌≡◌, ◌<◌, ◌≤◌, ◌==◌, nat_le, nat_lt, if◌then◌else◌, [], false, true, length, IfOk, OnErr, Ok, Err, is_err};
 ghost use Rattle.cell_core_devices.specs.Asking.{hears, heard_first};
@@ -170,7 +170,7 @@ impl<R: Source> Lines<R> {
     /// error, `next_line` must not be called again.
     pub fn next_line(&mut self) -> Result<bool, TableKind>
         ensures first { IsFirstLine (lines_coming self.old) result self.new }
-        // The source is read only while it continues, and its read error is reported as `Read`.
+        // The source is read only until it ends or fails, and its failure is reported as `Read`.
         ensures heard { self.new.heard ≡ hears (says_read result) self.old.heard }
     {
         self.line.clear();

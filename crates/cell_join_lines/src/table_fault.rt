@@ -5,7 +5,7 @@ use thiserror::Error;
 /// Maximum length of a line in bytes, without its line feed.
 pub const MOST_BYTES: usize = 4096;
 
-/// What is wrong with the text of a table.
+/// The error in a line of a table.
 #[derive(Clone, Copy, Debug, PartialEq, Eq, Error)]
 pub enum TableKind {
     /// A field before the last is neither the null text nor a printed category, or has no label.

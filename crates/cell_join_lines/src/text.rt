@@ -1,4 +1,4 @@
-//! Reads the entries of a table, one after the other.
+//! Reads the entries of a table, one after another.
 
 ghost use Rattle.std.specs.Prelude.{◌≡◌, ◌≢◌, ℕ, length, Ok, Err, IfOk, IfErr, IfSome, None, OnOk, MatchResult, false, option_map};
 ghost use Rattle.cell_core_devices.specs.Asking.{hears, heard_first};
@@ -181,7 +181,7 @@ impl<R: Source> TableText<R> {
             ≡ labelled_from format.now text) }
         ensures width { IfOk result (λ text. text.width ≡ width) }
         ensures number { IfOk result (λ text. text.number ≡ 2) }
-        // The source is read only while it continues, and its read error is reported as `Read`. No error has occurred
+        // The source is read only until it ends or fails, and its failure is reported as `Read`. No error has occurred
         // so far.
         ensures heard { IfOk result (λ text. text.heard ≡ heard_first (R.asked source)) }
         ensures fault { IfErr result (λ fault. fault.kind ≢ TableKind.Memory → IfSome (R.coming
@@ -243,7 +243,7 @@ impl<R: Source> TableText<R> {
             (labelled_behind format.now self.old ≡ labelled_from format.now self.new) }
         ensures width { self.new.width ≡ self.old.width }
         ensures number { OnOk result (self.new.number ≡ line_after self.old.number) }
-        // The source is read only while it continues, and its read error is reported as `Read`.
+        // The source is read only until it ends or fails, and its failure is reported as `Read`.
         ensures heard { self.new.heard ≡ hears (says_read_fault result) self.old.heard }
         ensures fault { IfErr result (λ fault. fault.kind ≢ TableKind.Memory → IfSome
             (reading_behind format.now self.old) (λ reading. reading ≡ stopped fault.line
