@@ -1,4 +1,4 @@
--- The number of a cell, of the labels of a map.
+-- The number of a cell, computed from the labels of a map.
 use Rattle.std.proofs.Common.{◌≡◌, ℕ, zero, suc, ℤ, true, false, ◌+◌, ◌<◌, ◌≤◌, [], ◌∷◌, ◌++◌, List, Some, IsSome, length, get_or, refl, ap, sym, ◌∙◌, arith, subst, inl, inr, ⊎_elim, ◌⊎◌, eq-eqb, eqb-true}
 use Rattle.std.specs.Prelude.{if◌then◌else◌}
 use Rattle.std.specs.List.{Contains, AllPairs}
@@ -28,7 +28,7 @@ before-then p q s (inr a) (inr b) = inr (a.0 ∙ b.0, omega (arith, a.1, b.1))
 pub is-some : (m : Grid) (p : Position) (v : ℤ) → cell_at_position m p ≡ Some v → IsSome (cell_at_position m p)
 is-some m p v is = rw is refl
 
--- the cells of the open ones of the first labels
+-- the first cells of the open labels below a count
 abbrev firsts-below : (ℕ → Position) → List ℕ → ℕ → List Position
 firsts-below start table zero = []
 firsts-below start table (suc k) = if is_open table k then firsts-below start table k ++ start k ∷ [] else firsts-below start table k
@@ -87,7 +87,7 @@ module _ (j : Joining) (m : Grid) (starts : List Position) (label_of : Position 
   not-before : (p : Position) → IsSome (cell_at_position m p) → ¬ IsEarlierCell p (start (label_of p))
   not-before p some before = labelled.early p some (subst (λ (s : Position). IsEarlierCell p s) (sym (start-is (label_of p) p (labelled.few p some))) before)
 
-  -- ---- what labels lead to
+  -- ---- the label that each label leads to
 
   abbrev Linked : ℕ → ℕ → Type 0
   Linked a b = (a ≡ b) ⊎ AreJoined j m (start a) (start b)
@@ -127,7 +127,7 @@ module _ (j : Joining) (m : Grid) (starts : List Position) (label_of : Position 
       (λ far. AreJoined-trans j m (start (f (label_of p))) (start (label_of p)) p (AreJoined-sym j m (start (label_of p)) (start (f (label_of p))) far) (joined-to p some))
       (linked (label_of p))
 
-  -- ---- open labels, in a table
+  -- ---- open labels of a table
 
   module _ (table : List ℕ) (lead : LeadTo table f) (size : length table ≡ length starts) where
     inside : (p : Position) → IsSome (cell_at_position m p) → label_of p < length table
@@ -148,7 +148,7 @@ module _ (j : Joining) (m : Grid) (starts : List Position) (label_of : Position 
     open-is-first : (p : Position) → IsSome (cell_at_position m p) → is_open table (f (label_of p)) ≡ true
     open-is-first p some = eq-eqb _ _ (lead.reports.is_open (label_of p) (inside p some))
 
-    -- what comes before the cell of a label has a smaller one
+    -- each cell before the first cell of a label has a smaller label
     label-before : (k : ℕ) (p : Position) → k < length table → IsSome (cell_at_position m p) → IsEarlierCell p (start k) → label_of p < k
     label-before k p lt some before =
         ⊎_elim (λ less. less)
@@ -189,14 +189,14 @@ module _ (j : Joining) (m : Grid) (starts : List Position) (label_of : Position 
         (λ no'. subst (AllPairs IsEarlierCell) (sym (firsts-same start table n no')) (in-order-below n (omega (arith, le))))
         (cases_Bool (is_open table n))
 
-    -- a first cell is the first cell of its own open label
+    -- the label of a first cell leads to itself
     first-own : (p : Position) → IsFirst j m p → label_of p ≡ f (label_of p)
     first-own p first =
         let below = low p first.category in
         let in_table = inside p first.category in
         ap label_of (sym (first-is p first)) ∙ label-own (f (label_of p)) (omega (arith, below, in_table))
 
-    -- the number of a cell is the number of its label
+    -- a cell has the number of its label
     pub has-number : (p : Position) → IsSome (cell_at_position m p)
         → HasNumber j m p (label_number table (f (label_of p)))
     has-number p some =
@@ -234,7 +234,7 @@ module _ (j : Joining) (m : Grid) (starts : List Position) (label_of : Position 
           count = firsts-count start table (suc g);
         }
 
-    -- the open labels are as many as areas
+    -- there are as many open labels as areas
     pub all-firsts : (firsts : List Position) × AreFirsts j m firsts × (length firsts ≡ length (open_below table (length table)))
     all-firsts = (
       firsts-below start table (length table),

@@ -1,4 +1,4 @@
--- Numbers in place of the nodes of paired labels.
+-- Numbers replace the nodes of the paired labels.
 use Rattle.std.proofs.Common.{◌≡◌, ℕ, suc, ◌+◌, ◌-◌, ◌<◌, ◌≤◌, List, length, get_or, set, refl, ap, sym, ◌∙◌, arith, subst, ltb, ⊎_elim, eq-eqb, get_or-set_other, get_or-set_same}
 use Rattle.std.proofs.lemmas.List.Sums.{count_by-le-length}
 use Rattle.std.proofs.lemmas.Bool.{cases_lt, ne_eqb, cond-false}
@@ -8,7 +8,7 @@ use Rattle.cell_join_numbers.specs.SparseNumbers.{AreBelow, ArePlacesNumbered, A
 use Rattle.cell_join_numbers.proofs.OpenLemmas.{count-more, open-same}
 use Rattle.cell_join_numbers.proofs.SparseLemmas.{sparse-places-number, sparse-labels-number}
 
--- the number of a paired label, by the place that its own leads to
+-- the number of the paired label at place k, in terms of the joined places
 abbrev number_to : (paired joined : List ℕ) → ℕ → ℕ
 number_to paired joined k = (get_or paired k 0 - k) + label_number joined k
 
@@ -64,7 +64,7 @@ module _ (labels : ℕ) (pairs : List (ℕ × ℕ)) (paired joined table : List 
       ap (length {A = ℕ}) (open-same joined place (ne_eqb _ _ (λ e. absurd (omega (arith, e, less, same_up))))) in
       written (get_or table up 0) count number (omega (arith, same, h.counted))
 
--- before the first place
+-- at the start, no place is numbered
 pub places-first : (labels : ℕ) (pairs : List (ℕ × ℕ)) (paired joined : List ℕ) → AreTouching labels pairs paired → IsSparse pairs paired joined → ArePlacesNumbered labels pairs paired joined 0 joined 0
 places-first labels pairs paired joined touching is = record {
   touching = touching;
@@ -74,7 +74,7 @@ places-first labels pairs paired joined touching is = record {
   counted = refl;
 }
 
--- all places
+-- once every place is numbered, the pairs are numbered
 pub number-pairs : (most : ℕ) (pairs : List (ℕ × ℕ)) (paired joined numbers roots : List ℕ) (count : ℕ)
     → ((labels : ℕ) → AreBelow labels pairs → AreTouching labels pairs paired)
     → ArePlacesNumbered most pairs paired joined (length paired) numbers count
@@ -106,7 +106,7 @@ number-pairs most pairs paired joined numbers roots count touching h are =
     few-labels : (ts : List ℕ) (l : ℕ) → labels_before ts l ≤ length ts
     few-labels ts l = count_by-le-length (λ k. ltb k l) ts
 
--- a number is no larger than its label
+-- each number is at most its label
 pub low-set : (table paired : List ℕ) (place v : ℕ) → place < length table → v ≤ get_or paired place 0 → ((k : ℕ) → k < place → get_or table k 0 ≤ get_or paired k 0) → (k : ℕ) → k < place + 1 → get_or (set table place v) k 0 ≤ get_or paired k 0
 low-set table paired place v inside le low k lt =
     ⊎_elim

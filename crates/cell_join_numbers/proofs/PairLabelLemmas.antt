@@ -1,4 +1,4 @@
--- The labels of pairs, each once.
+-- The labels of pairs, each listed once.
 use Rattle.std.proofs.Common.{◌≡◌, ℕ, zero, suc, ◌<◌, ◌≤◌, List, [], ◌∷◌, ◌++◌, take, drop, length, get_or, refl, ap, sym, ◌∙◌, arith}
 use Rattle.std.specs.Prelude.{All, Contains, sum}
 use Rattle.std.proofs.lemmas.List.Sums.{sum_by-cons}
@@ -18,7 +18,7 @@ pub record HasBoth (labels : List ℕ) (pair : ℕ × ℕ) : Type 0 where
   pub one : Contains labels pair.0
   pub other : Contains labels pair.1
 
--- both labels of a pair are among them
+-- both labels of a pair are in the list
 pair-labels : (pairs : List (ℕ × ℕ)) (i : ℕ) (d : ℕ × ℕ) → i < length pairs → HasBoth (labels_of_pairs pairs) (get_or pairs i d)
 pair-labels [] i d lt = absurd (omega (arith, lt))
 pair-labels (x ∷ pairs) zero d lt = record { one = (0, omega arith, refl); other = (1, omega arith, refl) }
@@ -48,7 +48,7 @@ few-paired n pairs paired few are i d lt =
 pub are-touching : (n : ℕ) (pairs : List (ℕ × ℕ)) (paired : List ℕ) → AllPairs ◌<◌ paired → AreLabelsOf pairs paired → All (λ pair. (pair.0 < n) × (pair.1 < n)) pairs → AreTouching n pairs paired
 are-touching n pairs paired order are few = record { in_order = order; few = few-paired n pairs paired few are; paired = all-paired pairs paired are }
 
--- whatever the labels are, there are more numbers than they
+-- each element of a list is at most the sum of the list
 element-le : (xs : List ℕ) (i d : ℕ) → i < length xs → get_or xs i d ≤ sum xs
 element-le [] i d lt = absurd (omega (arith, lt))
 element-le (x ∷ xs) zero d lt = omega (arith, sum_by-cons (λ (n : ℕ). n) x xs)
@@ -57,7 +57,7 @@ element-le (x ∷ xs) (suc i) d lt = omega (arith, sum_by-cons (λ (n : ℕ). n)
 pub all-touching : (pairs : List (ℕ × ℕ)) (paired : List ℕ) → AllPairs ◌<◌ paired → AreLabelsOf pairs paired → AreTouching (suc (sum paired)) pairs paired
 all-touching pairs paired order are = record { in_order = order; few = λ i d lt. omega (arith, element-le paired i d lt); paired = all-paired pairs paired are }
 
--- no label yet
+-- in an empty table, each label leads to itself
 pub no-labels : LeadTo [] (λ k. k)
 no-labels = record {
   reports = record {
@@ -69,11 +69,11 @@ no-labels = record {
   beyond = λ k le. refl;
 }
 
--- what is written over a whole list is all there is then
+-- overwriting a whole list leaves only the new elements
 pub written-whole : (n : ℕ) (new old : List ℕ) → length new ≡ n → take n (new ++ drop (length new) old) ≡ new
 written-whole n new old size = ap (λ (m : ℕ). take m (new ++ drop (length new) old)) (sym size) ∙ take-append_seam new (drop (length new) old)
 
--- one more number
+-- appending a number leaves the earlier numbers unchanged
 pub push-before : (xs ys : List ℕ) (y k : ℕ) → ys ≡ xs ++ y ∷ [] → k < length xs → get_or ys k 0 ≡ get_or xs k 0
 push-before xs ys y k e lt = ap (λ (l : List ℕ). get_or l k 0) e ∙ get_or_append_left xs (y ∷ []) 0 k lt
 

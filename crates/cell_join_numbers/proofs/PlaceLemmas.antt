@@ -1,4 +1,4 @@
--- Numbers in ascending order, and the place of each among them.
+-- Numbers in ascending order, and the place of each number among them.
 use Rattle.std.proofs.Common.{◌≡◌, ℕ, zero, suc, ◌+◌, ◌<◌, ◌≤◌, ◌||◌, List, [], ◌∷◌, length, get_or, Bool, true}
 use Rattle.std.proofs.Common.{false}
 use Rattle.std.proofs.Common.{ltb, eqb, max, min, refl, ap, sym, ◌∙◌, arith, ⊎_elim, eq-eqb, eqb-true}
@@ -10,7 +10,7 @@ use Rattle.std.proofs.lemmas.List.Elements.{All-head, All-tail}
 use Rattle.cell_join_numbers.proofs.CountLemmas.{one-if, count_by-cons}
 use Rattle.cell_join_numbers.specs.SparseLabels.{labels_before, is_touching}
 
--- ---- one label more
+-- ---- one more label
 
 before-cons : (t : ℕ) (ts : List ℕ) (l : ℕ) → labels_before (t ∷ ts) l ≡ one-if (ltb t l) + labels_before ts l
 before-cons t ts l = count_by-cons (λ k. ltb k l) t ts
@@ -41,7 +41,7 @@ later-greater t ts order k d within = order 0 (suc k) d (omega arith) (omega (ar
 later-order : (t : ℕ) (ts : List ℕ) → AllPairs ◌<◌ (t ∷ ts) → AllPairs ◌<◌ ts
 later-order t ts order i k d less within = order (suc i) (suc k) d (omega (arith, less)) (omega (arith, within))
 
--- ---- places
+-- ---- the places of labels
 
 pub place-is : (ts : List ℕ) → AllPairs ◌<◌ ts → (r d : ℕ) → r < length ts → labels_before ts (get_or ts r d) ≡ r
 place-is [] order r d within = absurd (omega (arith, within))
@@ -59,7 +59,7 @@ touching-at (t ∷ ts) zero d within = ap (λ b. b || is_touching ts t) (eq-eqb 
 touching-at (t ∷ ts) (suc r) d within =
     or_right (eqb (get_or ts r d) t) (is_touching ts (get_or ts r d)) (touching-at ts r d (omega (arith, within)))
 
--- the place of a label of the list
+-- a label in the list, with its place
 pub record HasPlace (ts : List ℕ) (l : ℕ) : Type 0 where
   pub inside : labels_before ts l < length ts
   pub label : get_or ts (labels_before ts l) 0 ≡ l
@@ -129,7 +129,7 @@ few-before ts order (suc l) =
     at-most-one true = omega arith
     at-most-one false = omega arith
 
--- ---- two places
+-- ---- the places of two labels
 
 module _ (ts : List ℕ) (order : AllPairs ◌<◌ ts) where
   abbrev at : ℕ → ℕ

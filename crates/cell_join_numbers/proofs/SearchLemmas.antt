@@ -1,4 +1,4 @@
--- How many labels in ascending order come before another, and where a search finds it.
+-- How many of the ascending labels come before a label, and where a search finds the label.
 use Rattle.std.proofs.Common.{◌≡◌, ℕ, zero, suc, ◌+◌, ◌-◌, ◌<◌, ◌≤◌, List, length, get_or, Ok, Err, Bool, true, false, ltb, refl, ap, sym, ◌∙◌, arith, ⊎_elim}
 use Rattle.std.specs.List.{AllPairs}
 use Rattle.std.specs.List.Sorted.{IsBinarySearchResult}
@@ -24,7 +24,7 @@ module _ (ts : List ℕ) (order : AllPairs ◌<◌ ts) where
       let same : labels_before ts (l + (m - l)) ≡ labels_before ts m = ap (labels_before ts) (omega (arith, le)) in
       omega (arith, same, before-up l (m - l))
 
-  -- no label is passed
+  -- a label is not listed if as many labels come before the next number as before it
   pub alone-here : (l : ℕ) → labels_before ts (suc l) ≡ labels_before ts l → is_touching ts l ≡ false
   alone-here l same = by (is_touching ts l) refl
     where
@@ -34,7 +34,7 @@ module _ (ts : List ℕ) (order : AllPairs ◌<◌ ts) where
           let one : one-if (is_touching ts l) ≡ 1 = ap one-if e in
           absurd (omega (arith, one, next-before ts order l, same))
 
-  -- the label at a place is not before another
+  -- the label at the place found is at least the label searched for
   pub label-above : (l place : ℕ) → labels_before ts l ≡ place → place < length ts → l ≤ get_or ts place 0
   label-above l place is within =
       ⊎_elim
@@ -54,7 +54,7 @@ module _ (ts : List ℕ) (order : AllPairs ◌<◌ ts) where
       let same : labels_before ts (l + 1) ≡ labels_before ts (suc l) = ap (labels_before ts) (omega arith) in
       omega (arith, own, one, same, next-before ts order l)
 
-  -- none is left before an end
+  -- if no listed label is left before an end, the count at the end is the place
   pub before-end : (l place end : ℕ) → labels_before ts l ≡ place → l ≤ end
       → ((place < length ts) × (get_or ts place 0 < end) → ⊥) → labels_before ts end ≡ place
   before-end l place end is le none =
@@ -71,7 +71,7 @@ module _ (ts : List ℕ) (order : AllPairs ◌<◌ ts) where
 pub place-low : (ts : List ℕ) → AllPairs ◌<◌ ts → (place : ℕ) → place < length ts → place ≤ get_or ts place 0
 place-low ts order place within = omega (arith, place-is ts order place 0 within, few-before ts order (get_or ts place 0))
 
--- ---- a search
+-- ---- a binary search
 
 rises : (found : List ℕ) → AllPairs ◌<◌ found → (i j : ℕ) → i ≤ j → j < length found
     → get_or found i 0 ≤ get_or found j 0
@@ -81,7 +81,7 @@ rises found order i j le within =
     omega (arith, same))
     (cases_lt i j)
 
--- it was found, or the place is the one where it would be
+-- a search finds a label at its place, or at the place where it would be inserted
 pub place-found : (found : List ℕ) (label : ℕ) → AllPairs ◌<◌ found → (i : ℕ)
     → IsBinarySearchResult (λ y. nat_cmp y label) found (Ok i)
     → i ≡ labels_before found label

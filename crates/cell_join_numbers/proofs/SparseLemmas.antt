@@ -1,4 +1,4 @@
--- A table of the labels that touch a cut shows the numbers of all labels.
+-- A table of only the labels that touch a cut gives the numbers of all labels.
 use Rattle.std.proofs.Common.{◌≡◌, ℕ, zero, suc, ◌+◌, ◌-◌, ◌<◌, ◌≤◌, List, [], ◌∷◌, map, length, get_or, set, Bool}
 use Rattle.std.proofs.Common.{true}
 use Rattle.std.proofs.Common.{false, eqb, max, min, refl, ap, sym, ◌∙◌, arith, subst, ⊎_elim, eq-eqb, eqb-true}
@@ -25,7 +25,7 @@ use Rattle.cell_join_numbers.proofs.PlaceLemmas.{HasPlace, contained-place, touc
 use Rattle.cell_join_numbers.proofs.PlaceLemmas.{place-is, next-before, before-zero, before-all, few-before}
 use Rattle.cell_join_numbers.proofs.PlaceLemmas.{one-place, max-at, min-at}
 
--- ---- labels are joined as their places are
+-- ---- labels are joined as their places are joined
 
 module _ (ts : List ℕ) (order : AllPairs ◌<◌ ts) where
   abbrev place : ℕ → ℕ
@@ -34,7 +34,7 @@ module _ (ts : List ℕ) (order : AllPairs ◌<◌ ts) where
   abbrev label : ℕ → ℕ
   label r = get_or ts r 0
 
-  -- what labels lead to follows from what their places do
+  -- a listed label leads to the label at the place that its own place leads to, and other labels to themselves
   record Follows (f g : ℕ → ℕ) : Type 0 where
     stays : (l : ℕ) → is_touching ts l ≡ false → f l ≡ l
     leads : (r : ℕ) → r < length ts → f (label r) ≡ label (g r)
@@ -123,7 +123,7 @@ module _ (ts : List ℕ) (order : AllPairs ◌<◌ ts) where
       (follows-after f g h p.0 p.1 (contained-place ts order p.0 both.0) (contained-place ts order p.1 both.1))
       (All-tail (λ (pair : ℕ × ℕ). Contains ts pair.0 × Contains ts pair.1) p pairs paired)
 
--- ---- a table of all labels
+-- ---- a table with all labels
 
 first-table : (n : ℕ) → LeadTo (range_with_len 0 n) (λ k. k)
 first-table n = record {
@@ -139,7 +139,7 @@ first-table n = record {
     own : (k : ℕ) → k < n → get_or (range_with_len 0 n) k 0 ≡ k
     own k lt = let is = get_or-range_with_len 0 n k 0 lt in omega (arith, is)
 
--- some table shows where labels lead to once the labels of each pair were joined
+-- a table that gives, for each label, the label it leads to after the pairs were joined
 record HasTable (n : ℕ) (f : ℕ → ℕ) : Type 0 where
   table : List ℕ
   long : length table ≡ n
@@ -161,7 +161,7 @@ joined-table n (p ∷ pairs) f few h =
       leads = LeadTo-joined h.table p.0 p.1 (f p.0) (f p.1) high low f one other h.leads refl refl refl refl;
     })
 
--- an open label leads to itself, and only such a label is open
+-- a label is open exactly if it leads to itself
 open-is : (table : List ℕ) (f : ℕ → ℕ) → LeadTo table f → (k : ℕ) → k < length table → is_open table k ≡ eqb (f k) k
 open-is table f lead k within =
     same-answer (is_open table k) (eqb (f k) k)
@@ -185,7 +185,7 @@ open-step table k = by (is_open table k) refl
         let same = ap (length {A = ℕ}) (open-same table k e) in
         omega (arith, none, same)
 
--- ---- the numbers
+-- ---- the numbers of labels
 
 module _ (n : ℕ) (pairs : List (ℕ × ℕ)) (ts sparse : List ℕ) (touching : AreTouching n pairs ts)
     (is : IsSparse pairs ts sparse) where
@@ -212,7 +212,7 @@ module _ (n : ℕ) (pairs : List (ℕ × ℕ)) (ts sparse : List ℕ) (touching 
           follows.stays l e
           ∙ sym (cond-false (is_touching ts l) (get_or ts (place_leads (labels_before ts l)) 0) l e)
 
-  -- the label at a place
+  -- the number of the label at a place, computed from the place that it leads to
   place-number : (r : ℕ) → r < length ts →
       sparse_number pairs ts sparse (get_or ts r 0)
       ≡ (get_or ts (place_leads r) 0 - place_leads r) + label_number sparse (place_leads r)
@@ -243,7 +243,7 @@ module _ (n : ℕ) (pairs : List (ℕ × ℕ)) (ts sparse : List ℕ) (touching 
       (record { table = range_with_len 0 n; long = length-range_with_len 0 n; leads = first-table n })
 
   module _ (full : List ℕ) (long : length full ≡ n) (lead : LeadTo full full_leads) where
-    -- a label of the list is open where its place is
+    -- a listed label is open exactly if its place is open
     open-alike : (l : ℕ) → l < n → is_touching ts l ≡ true → is_open full l ≡ is_open sparse (labels_before ts l)
     open-alike l within e =
         let at = touching-place ts touching.in_order l e in
@@ -303,7 +303,7 @@ module _ (n : ℕ) (pairs : List (ℕ × ℕ)) (ts sparse : List ℕ) (touching 
             ap (λ (k : ℕ). length (open_below sparse k)) next in
             omega (arith, open-step full l, one, there, next, before, few-before ts touching.in_order l)
 
-    -- the number of a label is the number of the open label that it leads to
+    -- the number of a label is the number of the open label at the end of its path
     number-of-label : (l : ℕ) → l < n → label_number full (full_leads l) ≡ sparse_number pairs ts sparse l
     number-of-label l within =
         let in_full : l < length full = omega (arith, within, long) in

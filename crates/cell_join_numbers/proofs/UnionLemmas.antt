@@ -1,4 +1,4 @@
--- What labels lead to, while some are joined.
+-- The labels that labels lead to, while pairs are joined.
 use Rattle.std.proofs.Common.{◌≡◌, ℕ, zero, suc, ◌<◌, ◌≤◌, List, [], ◌∷◌, ◌++◌, length, get_or, set, refl, ap, sym, ◌∙◌, arith, subst, ⊎_elim, max, min}
 use Rattle.std.proofs.Math.ListN.{length-set}
 use Rattle.std.proofs.lemmas.Bool.{cases_eq}
@@ -8,11 +8,11 @@ use Rattle.cell_cats_areas.proofs.LabelLemmas.{closed_high, closed_other, by_ord
 use Rattle.cell_cats_areas.proofs.MeetingLemmas.{after_join_one, after_join_keeps}
 use Rattle.cell_join_numbers.specs.UnionFind.{LeadTo, after_all}
 
--- ---- a function that is the same at each label
+-- ---- functions that agree at each label
 
--- ---- a label more
+-- ---- one more label
 
--- ---- a way is halved
+-- ---- halving a path
 
 pub LeadTo-halved : (table : List ℕ) (x : ℕ) (f : ℕ → ℕ) → PointDown table → x < length table → LeadTo table f → LeadTo (set table x (get_or table (get_or table x 0) 0)) f
 LeadTo-halved table x f down inside h = record {
@@ -20,9 +20,9 @@ LeadTo-halved table x f down inside h = record {
   beyond = λ k le. h.beyond k (omega (arith, le, length-set table x (get_or table (get_or table x 0) 0)));
 }
 
--- ---- two labels are joined
+-- ---- joining two labels
 
--- a label that neither leads to is where it was
+-- a label to which neither joined label leads stays its own
 join-other : (f : ℕ → ℕ) (a b k : ℕ) → f k ≡ k → f a < k → f b < k → after_join f a b k ≡ k
 join-other f a b k own one other =
     let most : max (f a) (f b) < k = omega (arith, one, other) in
@@ -36,7 +36,7 @@ LeadTo-joined table a b first second high low f a_in b_in h one other high_is lo
       join-other f a b k (h.beyond k past) (omega (arith, h.reports.low a a_in, a_in, past)) (omega (arith, h.reports.low b b_in, b_in, past));
 }
 
--- ---- pairs
+-- ---- joining the labels of pairs
 
 pub after_all-append : (f : ℕ → ℕ) (xs ys : List (ℕ × ℕ)) → after_all f (xs ++ ys) ≡ after_all (after_all f xs) ys
 after_all-append f [] ys = refl
@@ -46,7 +46,7 @@ pub after_all-keeps : (ps : List (ℕ × ℕ)) (f : ℕ → ℕ) (a b : ℕ) →
 after_all-keeps [] f a b e = e
 after_all-keeps (p ∷ ps) f a b e = after_all-keeps ps (after_join f p.0 p.1) a b (after_join_keeps f p.0 p.1 a b e)
 
--- the labels of each pair lead to one
+-- the labels of each pair lead to the same label
 first-meets : (p : ℕ × ℕ) (ps : List (ℕ × ℕ)) (f : ℕ → ℕ) (a b : ℕ) → p ≡ (a, b) → after_all f (p ∷ ps) a ≡ after_all f (p ∷ ps) b
 first-meets p ps f a b e =
     let one : p.0 ≡ a = ap (λ (x : ℕ × ℕ). x.0) e in
@@ -63,7 +63,7 @@ meets-at (p ∷ ps) f a b (suc i) lt e = meets-at ps (after_join f p.0 p.1) a b 
 pub after_all-meets : (ps : List (ℕ × ℕ)) (f : ℕ → ℕ) (a b : ℕ) → Contains ps (a, b) → after_all f ps a ≡ after_all f ps b
 after_all-meets ps f a b c = meets-at ps f a b c.0 c.1 c.2
 
--- a relation that each pair is in, and each label with where it leads, if it can be turned and chained
+-- a symmetric and transitive relation
 pub record IsLinking (R : ℕ → ℕ → Type 0) : Type 0 where
   pub turned : (a b : ℕ) → R a b → R b a
   pub chained : (a b c : ℕ) → R a b → R b c → R a c

@@ -59,8 +59,8 @@ sparse_number pairs touching table label = number_among touching table (label_le
 abbrev pub sparse_areas : ℕ → (touching table : List ℕ) → ℕ
 sparse_areas labels touching table = (labels - length touching) + length (open_below table (length table))
 
--- the number of the touching label at an index, from the index's own number: add the labels that are not touching and
--- precede the label to which it leads
+-- the number of the touching label at an index: the number of the index to which the index leads, plus the number of
+-- labels that are not touching and precede the label to which the touching label leads
 abbrev pub SparsePlacesNumber : Type 0
 SparsePlacesNumber = (labels : ℕ) (pairs : List (ℕ × ℕ)) (touching table : List ℕ)
     → AreTouching labels pairs touching → IsSparse pairs touching table
@@ -69,7 +69,7 @@ SparsePlacesNumber = (labels : ℕ) (pairs : List (ℕ × ℕ)) (touching table 
     ≡ (slice_index touching (joined_places touching pairs place) - joined_places touching pairs place)
     + label_number table (joined_places touching pairs place)
 
--- for tiles of any shape: the number of each cell, and the number of clumps
+-- for tiles of any shape, these are the numbers of the cells and the number of clumps
 abbrev pub SparseLabelsNumber : Type 0
 SparseLabelsNumber = (j : Joining) (m : Grid) (starts : List Position) (label_of : Position → ℕ)
     (pairs : List (ℕ × ℕ)) → AreLabelled j m starts label_of pairs → (touching table : List ℕ)

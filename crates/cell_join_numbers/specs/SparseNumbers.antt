@@ -1,4 +1,4 @@
--- Numbers of labels, of which only the paired ones are held.
+-- Numbers of labels, stored only for the paired labels.
 use Rattle.std.specs.Prelude.{ℕ, false, ◌+◌, ◌-◌, ◌<◌, ◌≤◌, ◌≡◌, ◌↔◌, List, [], ◌∷◌, length, All, AllPairs, Contains, slice_index}
 use Rattle.cell_join_numbers.specs.LabelNumbers.{open_below}
 use Rattle.cell_join_numbers.specs.Labelled.{NumberLabels, CountLabels}

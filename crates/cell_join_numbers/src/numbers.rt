@@ -1,4 +1,4 @@
-//! Numbers labels, of which only the paired ones are held.
+//! Numbers labels, but holds only the paired labels.
 
 ghost use Rattle.std.specs.Prelude.{◌≡◌, ◌+◌, ◌<◌, ◌≤◌, ℕ, List, AllPairs, IfOk, length, slice_index};
 ghost use Rattle.cell_cats_areas.specs.parts.Labels.{PointDown};
