@@ -1,4 +1,4 @@
--- Tables read one after another.
+-- Tables are read one after another.
 use Rattle.std.proofs.Common.{◌≡◌, ℕ, ◌+◌, ◌-◌, ◌<◌, List, [], ◌∷◌, ◌++◌, length, get_or, map, flat_map, Option, Some, None, refl, ap, sym, ◌∙◌, subst, arith, append-nil, append_assoc, length-append, option_map, ⊎_elim}
 use Rattle.std.specs.Prelude.{All, IfSome}
 use Rattle.std.specs.List.{Contains}
@@ -128,7 +128,7 @@ module _ {R : Type 0} (coming : R → Option Coming) (format : FormatValue) (tex
             same ∙ ap (λ (l : List Stretch). record { stretches = l; fault = None })
             (append-nil (stretches_of_parts so.parts))
 
-    -- as the text shows them
+    -- the numbers of the runs in the text
     abbrev pub numbers : List ℕ
     numbers = numbers_read (areas_reading_of text).stretches
 
@@ -137,7 +137,7 @@ module _ {R : Type 0} (coming : R → Option Coming) (format : FormatValue) (tex
         (sym (ap (λ (r : AreasReading). r.stretches) all-read))
         (tallied (numbers_read (stretches_of_parts so.parts)) (sizes_of_parts so.parts) sizes so.tallies)
 
-    -- every number has a size
+    -- if every number has a size, the sums are the sizes
     pub added-all : ((n : ℕ) → n < length sizes → 0 < get_or sizes n 0)
         → HaveSizes (areas_reading_of text) (map (reading_of format 1) texts) sizes
     added-all some = record {
@@ -152,7 +152,7 @@ module _ {R : Type 0} (coming : R → Option Coming) (format : FormatValue) (tex
       };
     }
 
-    -- the first without one is left out, since no size that is read is 0
+    -- the first number without a size is the one left out, since no size read is 0
     pub left-out : (number : ℕ) → IsFirstWithoutSize sizes number
         → HasNumberLeftOut (areas_reading_of text) (map (reading_of format 1) texts) number
     left-out number is =

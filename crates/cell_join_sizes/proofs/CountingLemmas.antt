@@ -1,4 +1,4 @@
--- A table read entry by entry along with the runs of its tile.
+-- A table is read entry by entry along with the runs of its tile.
 use Rattle.std.proofs.Common.{◌≡◌, ℕ, ◌+◌, ◌^◌, ◌<◌, ◌≤◌, List, [], ◌∷◌, ◌++◌, length, take, drop, Option, Some, None, false, refl, ap, sym, ◌∙◌, subst, zero, suc, arith, add-one, append-nil, append_assoc, length-append, length-drop, option_map}
 use Rattle.std.specs.Prelude.{IfSome, is_some}
 use Rattle.std.specs.List.{range_with_len}
@@ -21,9 +21,9 @@ use Rattle.cell_join_sizes.specs.parts.Tally.{Tallies}
 use Rattle.cell_join_sizes.specs.parts.Counting.{HasCountedAreas, HasCountedBand, HasReadBand, IsHeadOfNull, IsLeftOver, area_entry, with_entries, with_stretches}
 use Rattle.cell_join_sizes.proofs.TallyLemmas.{tallies-none, tallies-then}
 
--- ---- what is read after a head
+-- ---- the text after a head
 
--- a table with a head is read as its entry, and then what is after it
+-- a table with a head is read as that entry, then the text after it
 pub head-first : (format : FormatValue) (text : TextValue) (entry : Combination × ℕ) → text.head ≡ Some entry
     → reading_from format text ≡ option_map (with_entries (entry ∷ [])) (reading_behind format text)
 head-first format text entry is =
@@ -39,7 +39,7 @@ head-first format text entry is =
     by None = refl
     by (Some c) = refl
 
--- one without a head is at its end
+-- a table without a head is at its end
 pub head-none : (format : FormatValue) (text : TextValue) → text.head ≡ None
     → IfSome (reading_from format text) (λ r. r ≡ ended)
 head-none format text is = subst (λ (head : Option (Combination × ℕ)). IfSome (reading_from_head format text head)
@@ -53,7 +53,7 @@ pub stretch-first : (text : HeldValue) (s : Stretch) → text.head ≡ Some s
     → held_from text ≡ option_map (with_stretches (s ∷ [])) (held_behind text)
 stretch-first text s is = ap (held_from_head text) is
 
--- ---- one list after another
+-- ---- reading one list after another
 
 with-both : (a b : Pairs) (o : Option TableReading) → option_map (with_entries a)
     (option_map (with_entries b) o) ≡ option_map (with_entries (a ++ b)) o
@@ -75,7 +75,7 @@ pub stretches-none : (o : Option AreasReading) → option_map (with_stretches []
 stretches-none None = refl
 stretches-none (Some r) = refl
 
--- ---- the areas of a stretch
+-- ---- the clumps of a run
 
 entries-push : (n : ℕ) (sizes : List ℕ) (size : ℕ) → number_entries n (sizes ++ size ∷ []) ≡ number_entries n sizes ++
     (area_entry (n + length sizes) size ∷ [])
@@ -122,7 +122,7 @@ counted-more format first number count table mid left old added new size so head
       (size ∷ []) so.tallies tally);
 }
 
--- ---- the stretches of a band
+-- ---- the runs of a tile
 
 reported-push : (stretches : List Stretch) (s : Stretch) → numbers_read
     (stretches ++ s ∷ []) ≡ numbers_read stretches ++ stretch_numbers s

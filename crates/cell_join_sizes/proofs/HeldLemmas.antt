@@ -1,4 +1,4 @@
--- A numbering that was read, and is held.
+-- A numbering that was read and is held in memory.
 use Rattle.std.proofs.Common.{◌≡◌, ◌≢◌, ℕ, ◌+◌, ◌<◌, ◌≤◌, zero, suc, List, [], ◌∷◌, ◌++◌, length, Option, Some, None, Ok}
 use Rattle.std.proofs.Common.{refl, ap, sym, ◌∙◌, subst, arith, option_map, drop, slice_get}
 use Rattle.std.specs.Prelude.{IfSome, IsSome}
@@ -20,7 +20,7 @@ use Rattle.cell_join_sizes.specs.parts.Held.{AreInSequence, HeldValue, held_from
 use Rattle.cell_join_sizes.specs.parts.Stops.{ReportsAreasFault}
 use Rattle.cell_join_sizes.proofs.CountingLemmas.{stretches-both}
 
--- ---- stretch by stretch
+-- ---- run by run
 
 pub read-first : (text : AreasTextValue) (s : Stretch) → text.head ≡ Some s
     → areas_from text ≡ option_map (with_stretches (s ∷ [])) (areas_behind text)
@@ -35,14 +35,14 @@ read-first text s is =
     by None = refl
     by (Some r) = refl
 
--- one more was read
+-- reading one more run appends it to the runs read
 pub read-more : (known : Option AreasReading) (stretches : List Stretch) (text : AreasTextValue) (s : Stretch)
     → known ≡ option_map (with_stretches stretches) (areas_from text) → text.head ≡ Some s
     → known ≡ option_map (with_stretches (stretches ++ s ∷ [])) (areas_behind text)
 read-more known stretches text s so is = so ∙ ap (option_map (with_stretches stretches)) (read-first text s is)
     ∙ stretches-both stretches (s ∷ []) (areas_behind text)
 
--- the next one could not be read
+-- a run that cannot be read is the numbering's error
 pub read-stops : (known : Option Coming) (stretches : List Stretch) (behind : Option AreasReading) (fault : AreasFault)
     → option_map areas_reading_of known ≡ option_map (with_stretches stretches) behind
     → IfSome behind (λ reading. reading ≡ areas_stopped fault.line fault.kind)
@@ -53,7 +53,7 @@ read-stops (Some c) stretches (Some r) fault so is =
     let same : areas_reading_of c ≡ with_stretches stretches r = cc in
     ap (λ (q : AreasReading). q.fault) same ∙ ap (λ (q : AreasReading). q.fault) is
 
--- ---- in sequence
+-- ---- runs in sequence
 
 pub sequence-push : (before : Option Stretch) (stretches : List Stretch) (s : Stretch) → AreInSequence before stretches
     → in_sequence (last_of before stretches) s ≡ Ok s → AreInSequence before (stretches ++ s ∷ [])
@@ -65,7 +65,7 @@ pub last-push : (before : Option Stretch) (stretches : List Stretch) (s : Stretc
 last-push before [] s = refl
 last-push before (x ∷ xs) s = last-push (Some x) xs s
 
--- the first of them, and the one after that at a place
+-- the first run is in sequence, and so is the run after each place
 pub sequence-first : (stretches : List Stretch) → AreInSequence None stretches
     → IfSome (slice_get stretches 0) (λ s. in_sequence None s ≡ Ok s)
 sequence-first [] all = tt
@@ -82,7 +82,7 @@ sequence-next before (x ∷ xs) (suc place) all within =
     subst (λ (n : ℕ). IfSome (slice_get (x ∷ xs) n) (λ s. in_sequence (slice_get (x ∷ xs) (suc place)) s ≡ Ok s)) more
     (sequence-next (Some x) xs place all.1 (omega (arith, within)))
 
--- what is held from a place on
+-- dropping runs from an empty list leaves it empty
 drop-none : (n : ℕ) → drop {A = Stretch} n [] ≡ []
 drop-none n = drop_all n [] (omega arith)
 
@@ -102,7 +102,7 @@ pub held-at : (stretches : List Stretch) (place line : ℕ)
     ≡ Some (record { stretches = drop place stretches; fault = None })
 held-at stretches place line = held-from stretches stretches line place (place + 1) refl
 
--- the run at a place is there
+-- a place that holds a run is within the list
 pub within-at : (stretches : List Stretch) (place : ℕ) → IsSome (slice_get stretches place) → place < length stretches
 within-at stretches place some = by (slice_get stretches place) refl some
   where
@@ -112,12 +112,12 @@ within-at stretches place some = by (slice_get stretches place) refl some
 
 -- ---- numbers beyond the count
 
--- of the runs before a place none shows a number above the count
+-- no run before the place has a number above the count
 abbrev pub NoneBeyond : List Stretch → (count place : ℕ) → Type 0
 NoneBeyond stretches count place = (i : ℕ) (other : Stretch) → i < place → slice_get stretches i ≡ Some other
     → last_number other ≤ count
 
--- ---- what is reported
+-- ---- the error reported
 
 pub reported-by : {R : Type 0} (coming : R → Option Coming) (text : Coming) (source : R) (held : HeldValue)
     → IfSome (coming source) (λ c. areas_reading_of c ≡ record { stretches = held.all; fault = None })

@@ -1,4 +1,4 @@
--- The lines of sizes put on a sink.
+-- The lines of sizes are put on a sink.
 use Rattle.std.proofs.Common.{◌≡◌, ◌≢◌, ℕ, List, [], ◌++◌, length, Bool, true, false, Option, Some, None, refl, ap, sym, ◌∙◌, subst, append-nil}
 use Rattle.std.specs.Prelude.{IfSome}
 use Rattle.cell_core_devices.specs.Blocks.{Appended, BlockValue, IsRest, capped_count}
@@ -93,7 +93,7 @@ module _ (format : FormatValue) (areas : AreasReading) (tables : List TableReadi
       by None e = tt
       by (Some f) e = subst (HasStopped format areas tables before now written) (sym e.0) prefix
 
--- before the first write
+-- an error before the first write leaves the sink unchanged
 pub put-none : (format : FormatValue) (areas : AreasReading) (tables : List TableReading) (before : Option (List ℕ))
     (fault : SizesFault) → fault ≢ Write
     → HasStopped format areas tables before before 0 fault
@@ -108,14 +108,14 @@ put-none format areas tables before TooLong not = (refl, refl)
 put-none format areas tables before Memory not = (refl, refl)
 put-none format areas tables before Write not = absurd (not refl)
 
--- an error of putting says nothing of the texts
+-- an error of writing is possible for any texts
 pub put-fault : (areas : AreasReading) (tables : List TableReading) (P : SizesFault → Type 0)
     (fault : Option SizesFault) → IfSome fault (λ f. (f ≡ Write) × P f)
     → IfSome fault (IsSizesFault areas tables)
 put-fault areas tables P None is = tt
 put-fault areas tables P (Some f) is = subst (IsSizesFault areas tables) (sym is.0) tt
 
--- no other error comes after the first write
+-- after the first write, only writing can fail
 pub only-write : (X : Type 0) (P : SizesFault → Type 0) (fault : Option SizesFault) → IfSome fault (λ f. (f ≡ Write) × P f)
     → IfSome fault (λ f. f ≢ Write → X)
 only-write X P None is = tt

@@ -1,4 +1,4 @@
--- The run that comes next, and where it begins.
+-- The next run, and its first clump.
 use Rattle.std.proofs.Common.{◌≡◌, ◌≢◌, ℕ, ◌+◌, ◌<◌, ◌≤◌, ◌==◌, Bool, true, false, Option, Some, None, refl, arith}
 use Rattle.std.specs.Prelude.{IfSome, Ok, Err, nat_lt, if◌then◌else◌}
 use Rattle.std.proofs.lemmas.Bool.{ltb-false}
@@ -20,7 +20,7 @@ sequence before s is =
     by false true e = (refl, refl)
     by false false e = cc
 
--- at the beginning of the text
+-- a first run in sequence begins its tile
 pub start-of : (head : Option Stretch) → IfSome head (λ s. in_sequence None s ≡ Ok s) → IfSome head (IsBandStart 0)
 start-of None is = tt
 start-of (Some s) is =
@@ -28,7 +28,7 @@ start-of (Some s) is =
     let one : s.first ≡ 1 = grind (arith, nat_tests, so.1) in
     (one, so.0, λ some. absurd (omega arith))
 
--- after a run of a tile
+-- a run in sequence after a run of the tile is the next run after its last clump
 pub next-of : (band : ℕ) (before : Stretch) (head : Option Stretch) → before.band ≡ band
     → IfSome head (λ s. in_sequence (Some before) s ≡ Ok s)
     → IfSome head (IsNextIn band (before.last + 1))
@@ -47,13 +47,13 @@ next-of band before (Some s) own is =
     by-other true e is other = grind (arith, nat_tests)
     by-other false e is other = grind (arith, nat_tests)
 
--- where the tile begins
+-- the first run of a tile is the next run from clump 1
 pub first-in : (place band : ℕ) (head : Option Stretch) → band ≡ place + 1 → IfSome head (IsBandStart place)
     → IfSome head (IsNextIn band 1)
 first-in place band None is start = tt
 first-in place band (Some s) is start = (start.1, λ same. start.0, λ other. start.0)
 
--- the start of a tile after another that has no runs
+-- a run that begins a later tile does not belong to this tile
 pub not-own : (bands : ℕ) (head : Option Stretch) → 0 < bands → IfSome head (IsBandStart bands)
     → IfSome head (λ s. s.band ≢ bands)
 not-own bands None some start = tt

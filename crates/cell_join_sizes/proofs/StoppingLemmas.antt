@@ -1,4 +1,4 @@
--- Where counting stopped, and what is wrong there.
+-- The place at which counting stopped, and the error there.
 use Rattle.std.proofs.Common.{◌≡◌, ◌≢◌, ℕ, ◌+◌, ◌-◌, ◌^◌, ◌<◌, ◌≤◌, List, [], ◌∷◌, ◌++◌, length, true, Option, Some, None, refl, ap, sym, ◌∙◌, subst, arith, append-nil, append_assoc, option_map, inl, inr}
 use Rattle.std.specs.Prelude.{All, IfSome, is_some}
 use Rattle.std.specs.List.{range_with_len}
@@ -29,7 +29,7 @@ use Rattle.cell_join_sizes.proofs.CountingLemmas.{head-first, stretch-first}
 use Rattle.cell_join_sizes.proofs.SequenceLemmas.{not-own}
 use Rattle.cell_join_sizes.proofs.TallyLemmas.{tallies-then}
 
--- ---- what is read from a head on
+-- ---- reading from a head
 
 pub areas-on : (text : HeldValue) (a : AreasReading) → held_from text ≡ Some a → IsReadOn a.stretches a.fault
 areas-on text a is = by text.head is
@@ -83,7 +83,7 @@ entry-of format text area size r is head = by (reading_behind format text)
     by (Some q) e = let same : with_entries (area_entry area size ∷ []) q ≡ r = cc in subst
         (λ (t : TableReading). IsEntryOf area size t.entries) same refl
 
--- ---- within a stretch
+-- ---- within a run
 
 pub stopped-in-stretch : (place : ℕ) (s : Stretch) (table left : Option TableReading) (old sizes : List ℕ)
     (count : ℕ) (fault : SizesFault)
@@ -144,7 +144,7 @@ module _ (place line : ℕ) (s : Stretch) (sizes : List ℕ) (own : s.band ≡ p
   tally-fault area size number tally_faults.Memory fault more is own_number entry why reported = subst (IsFaultAt here)
       (sym reported) tt
 
--- the next line of a table has an error
+-- an error in the next line of a table is the error at the place
 pub table-fault : (place : ReadingPlace) (fault : TableFault) (reported : SizesFault)
     → ReportsTableFault place.table fault reported → IsReadOn place.areas.stretches place.areas.fault
     → (fault.kind ≢ table_kinds.Memory → place.left ≡ stopped fault.line fault.kind) → IsFaultAt place reported
@@ -167,9 +167,9 @@ table-fault place fault TooLong reports on is = absurd reports
 table-fault place fault Memory reports on is = tt
 table-fault place fault Write reports on is = absurd reports
 
--- ---- within a band
+-- ---- within a tile
 
--- the next run is s, and its first clumps are counted
+-- counting stopped in the next run, after its first clumps
 pub stopped-in-next : (place band line start : ℕ) (areas : Option AreasReading) (mid : HeldValue)
     (table between : Option TableReading) (old added : List ℕ) (s : Stretch) (fault : SizesFault)
     → HasCountedBand band line start mid.line areas (held_from mid) table between old added → mid.head ≡ Some s
@@ -217,7 +217,7 @@ stopped-in-next place band line start areas mid table between old added s fault 
         begun [] few = tt
         begun (size ∷ counted) few = (own ∙ is, few)
 
--- no clump of the next run is counted
+-- counting stopped before the first clump of the next run
 pub stopped-behind : (place band line start now : ℕ) (areas after : Option AreasReading)
     (table left : Option TableReading) (old sizes : List ℕ) (fault : SizesFault)
     → HasCountedBand band line start now areas after table left old sizes → band ≡ place + 1
@@ -262,9 +262,9 @@ pub too-long : (stretches : List Stretch) (line : ℕ) → line ≡ 2 ^ 64 - 2 �
 too-long [] line is = is
 too-long (s ∷ stretches) line is = inr is
 
--- ---- after all areas of a band
+-- ---- after all clumps of a tile
 
--- what is read after a head
+-- the reading is the head's entry, then the text after it
 record IsBehindHead (format : FormatValue) (text : TextValue) (entry : Combination × ℕ)
     (r : TableReading) : Type 0 where
   behind : TableReading
@@ -288,7 +288,7 @@ known-reading : (o : Option TableReading) (P : TableReading → Type 0) → ((r 
 known-reading None P all = tt
 known-reading (Some r) P all = all r refl
 
--- an entry that is not the entry of null
+-- an entry after the last clump must be the entry of null
 pub stopped-other : (format : FormatValue) (text : TextValue) (place line : ℕ) (entry : Combination × ℕ)
     → text.head ≡ Some entry → entry.0 ≢ None ∷ []
     → IfSome (reading_from format text) (λ reading. HasStoppedAtEnd place line reading (OtherArea place line))
@@ -310,7 +310,7 @@ stopped-other format text place line entry head not =
       }),
     ))
 
--- an entry after the entry of null
+-- no entry may follow the entry of null
 pub stopped-more : (format : FormatValue) (text next : TextValue) (place line : ℕ) (null entry : Combination × ℕ)
     → text.head ≡ Some null → null.0 ≡ None ∷ []
     → reading_behind format text ≡ reading_from format next → next.head ≡ Some entry

@@ -1,4 +1,4 @@
--- Sizes added one after another.
+-- Sizes are added one after another.
 use Rattle.std.proofs.Common.{◌≡◌, ◌≢◌, ℕ, ◌+◌, ◌-◌, ◌<◌, ◌≤◌, ◌==◌, zero, suc, List, [], ◌∷◌, ◌++◌, length, get_or, set, replicate, Bool, true, false, cond, refl, ap, sym, ◌∙◌, subst, arith, append-nil, append_assoc, length-append, ⊎_elim, ◌⊎◌, inl, inr}
 use Rattle.std.specs.Prelude.{All}
 use Rattle.std.specs.List.{Contains}
@@ -10,7 +10,7 @@ use Rattle.cell_join_sizes.specs.Sizes.{size_for, size_of_area}
 use Rattle.cell_join_sizes.specs.SizeTexts.{HasSums}
 use Rattle.cell_join_sizes.specs.parts.Tally.{Tallies}
 
--- ---- the sizes of a number, one list after another
+-- ---- the sizes of a number, over two lists
 
 pub size-behind : (n : ℕ) (numbers sizes more more_sizes : List ℕ) → length sizes ≡ length numbers
     → size_of_area n (numbers ++ more) (sizes ++ more_sizes) ≡ size_of_area n numbers sizes + size_of_area n more
@@ -21,7 +21,7 @@ size-behind n (number ∷ numbers) [] more more_sizes same = absurd (omega arith
 size-behind n (number ∷ numbers) (size ∷ sizes) more more_sizes same = omega
     (arith, size-behind n numbers sizes more more_sizes (omega arith))
 
--- of a number that is none of them
+-- a number larger than all listed numbers has size 0
 pub size-other : (n : ℕ) (numbers sizes : List ℕ) → All (λ k. k < n) numbers → size_of_area n numbers sizes ≡ 0
 size-other n [] sizes less = refl
 size-other n (k ∷ numbers) [] less = refl
@@ -35,7 +35,7 @@ size-other n (k ∷ numbers) (size ∷ sizes) less =
           (All-tail (λ (m : ℕ). m < n) k numbers less),
     )
 
--- of one of them, if no size is 0
+-- a listed number has a size above 0, if no listed size is 0
 pub size-some : (n : ℕ) (numbers sizes : List ℕ) (i : ℕ) → i < length numbers → get_or numbers i n ≡ n
     → length sizes ≡ length numbers → All (λ k. 0 < k) sizes → 0 < size_of_area n numbers sizes
 size-some n [] sizes i within is same all = absurd (omega arith)
@@ -50,7 +50,7 @@ size-some n (number ∷ numbers) (size ∷ sizes) (suc i) within is same all =
           (All-tail (λ (k : ℕ). 0 < k) size sizes all),
     )
 
--- a number with a size is one of them
+-- a number with a size above 0 is listed
 pub reported-with-size : (n : ℕ) (numbers sizes : List ℕ) → 0 < size_of_area n numbers sizes → Contains numbers n
 reported-with-size n [] sizes some = absurd (omega arith)
 reported-with-size n (number ∷ numbers) [] some = absurd (omega arith)
@@ -65,7 +65,7 @@ reported-with-size n (number ∷ numbers) (size ∷ sizes) some =
         let rest = others (omega (arith, some, ap (λ (b : Bool). cond b size 0) no)) in
         (suc rest.0, omega (arith, rest.1), rest.2)
 
--- ---- zeros after sizes
+-- ---- zeros appended to sizes
 
 abbrev pub zeros : ℕ → List ℕ
 zeros count = replicate count 0
@@ -80,14 +80,14 @@ read-zeros count n = ⊎_elim (λ within. get_or-replicate count n 0 0 within)
     (λ beyond. read-beyond (zeros count) n (omega (arith, beyond, length-replicate {A = ℕ} count 0)))
     (cases_lt n count)
 
--- zeros change no size that is read
+-- appended zeros change none of the sizes
 read-padded : (sizes : List ℕ) (count n : ℕ) → get_or (sizes ++ zeros count) n 0 ≡ get_or sizes n 0
 read-padded sizes count n =
     ⊎_elim (λ within. get_or_append_left sizes (zeros count) 0 n within)
     (λ beyond. get_or-append_right sizes (zeros count) (length sizes) n 0 refl beyond
     ∙ read-zeros count (n - length sizes) ∙ sym (read-beyond sizes n beyond)) (cases_lt n (length sizes))
 
--- ---- nothing added, and one after another
+-- ---- no size added, and two lists of sizes added one after another
 
 pub sums-none : HasSums [] [] []
 sums-none = record {
@@ -115,7 +115,7 @@ tallies-then old mid new a b s t first second = record {
 pub tallied : (numbers sizes whole : List ℕ) → Tallies [] numbers sizes whole → HasSums numbers sizes whole
 tallied numbers sizes whole tallies = tallies.adds [] [] sums-none
 
--- ---- one size more
+-- ---- one more size
 
 module _ (numbers sizes old : List ℕ) (has : HasSums numbers sizes old) (number size : ℕ) where
   size-one : (n : ℕ) → size_of_area n (numbers ++ number ∷ [])
@@ -136,14 +136,14 @@ module _ (numbers sizes old : List ℕ) (has : HasSums numbers sizes old) (numbe
   abbrev IsIn : ℕ → ℕ → Type 0
   IsIn most k = (0 < k) × (k ≤ most)
 
-  -- what is read of the sums, beyond them too
+  -- reading a sum gives the size of its number, even beyond the sums
   summed : (n : ℕ) → get_or old n 0 ≡ size_of_area (n + 1) numbers sizes
   summed n = ⊎_elim (λ within. has.adds.each n within)
       (λ beyond. read-beyond old n beyond ∙ sym (size-other (n + 1) numbers sizes
       (All-weaker (IsIn (length old)) (λ (k : ℕ). k < n + 1) (λ k is. omega arith) numbers has.within)))
       (cases_lt n (length old))
 
-  -- of a number beyond them, after zeros
+  -- a number beyond the sums is added after zeros are appended
   module _ (more : ℕ) (beyond : number ≡ length old + more + 1) where
     abbrev padded : List ℕ
     padded = old ++ zeros more
@@ -180,7 +180,7 @@ module _ (numbers sizes old : List ℕ) (has : HasSums numbers sizes old) (numbe
       greatest = λ some. subst (Contains (numbers ++ number ∷ [])) (sym all) (Contains-push numbers number);
     }
 
-  -- of one of those before
+  -- a number within the sums is added to its sum
   module _ (some : 0 < number) (few : number ≤ length old) where
     abbrev changed : List ℕ
     changed = set old (number - 1) (get_or old (number - 1) 0 + size)

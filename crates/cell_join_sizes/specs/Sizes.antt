@@ -1,7 +1,7 @@
 -- The clump sizes of the full map.
 use Rattle.std.specs.Prelude.{ℕ, ◌≡◌, ◌+◌, ◌<◌, ◌==◌, List, [], ◌∷◌, length, slice_index, if◌then◌else◌}
 
--- the size, if its clump has the number `n`, or else 0
+-- the size if its clump has the number `n`, and otherwise 0
 abbrev pub size_for : (n number size : ℕ) → ℕ
 size_for n number size = if n == number then size else 0
 

@@ -348,7 +348,7 @@ pub fn join_table_sizes<R: Source + Drop, W: Sink>(
         → Give R.coming tables.items texts → result.fault ≡ None
         → HasWrittenSizes format.now (areas_reading_of text) (map (reading_of format.now 1) texts)
         (W.taken out.old) (W.taken out.new) result.written }
-    // If a write failed, the sink has accepted a prefix of these lines; with any other error, nothing.
+    // If a write failed, the sink has accepted a prefix of these lines; with any other error, it has accepted nothing.
     ensures written { (text : Coming) (texts : List Coming) → R.coming areas ≡ Some text
         → Give R.coming tables.items texts → IfSome result.fault
         (HasStopped format.now (areas_reading_of text) (map (reading_of format.now 1) texts)

@@ -49,11 +49,11 @@ ReportsTallyFault number tally_faults.Memory reported = reported ≡ Memory
 
 -- ---- the next run
 
--- a run at the start of a tile, after `bands` other tiles
+-- the run is the first of a tile that follows `bands` other tiles
 abbrev pub IsBandStart : ℕ → Stretch → Type 0
 IsBandStart bands s = (s.first ≡ 1) × (s.first ≤ s.last) × (0 < bands → s.band ≢ bands)
 
--- a run after the clumps of a tile up to the clump of this line
+-- the run begins with clump `line` of the tile, or is the first run of another tile
 abbrev pub IsNextIn : (band line : ℕ) → Stretch → Type 0
 IsNextIn band line s = (s.first ≤ s.last) × (s.band ≡ band → s.first ≡ line) × (s.band ≢ band → s.first ≡ 1)
 
