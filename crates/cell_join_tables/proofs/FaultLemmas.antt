@@ -27,7 +27,7 @@ module _ (fault : TableFault) (reported : JoinFault) (memory : fault.kind ≡ ki
       (λ not. subst (IsOpeningFault readings) (sym (so not)) (has not))
       (memory-or fault.kind)
 
--- what a text that stops after a combination is read as
+-- the reading stops with this error, right after the combination
 abbrev pub StopsSo : Combination → TableFault → TableReading → Type 0
 StopsSo k fault reading = (reading.fault ≡ Some fault) × (last_combination reading.entries ≡ Some k)
 

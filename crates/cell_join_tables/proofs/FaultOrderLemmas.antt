@@ -1,4 +1,4 @@
--- Which error of several texts is met first.
+-- The first error of several texts.
 use Rattle.std.proofs.Common.{◌≡◌, ◌≢◌, ℕ, zero, suc, ◌<◌, ◌≤◌, List, [], ◌∷◌, ◌++◌, length, map, take}
 use Rattle.std.proofs.Common.{slice_get, Bool, true, false, Option, Some, None, ◌⊎◌, inl, inr, ⊎_elim, refl, ap}
 use Rattle.std.proofs.Common.{sym, ◌∙◌, arith, cond, subst, option_map}
@@ -22,7 +22,7 @@ use Rattle.cell_join_tables.specs.MergedTables.{BeginsAt}
 use Rattle.cell_join_tables.specs.TextHeads.{is_of, past, past_first}
 use Rattle.cell_join_tables.specs.JoinAnswers.{StopsBehind}
 
--- a reading of which the first entry was read, if there is one
+-- the reading has a first entry, or has no error
 abbrev pub GoesOn : TableReading → Type 0
 GoesOn r = r.entries ≡ [] → r.fault ≡ None
 
@@ -74,7 +74,7 @@ not-below a j k from not less = ⊎_elim (λ same. not (ap (λ c. combination_cm
 sorted : (es : Pairs) → IsListing es → IsStrictlySortedBy combination_cmp (keys_of es)
 sorted es listing = listing.ascending
 
--- of a reading that begins at a combination
+-- a reading that begins at the combination
 module _ (k : Combination) where
   behind : (es : Pairs) (f : Option TableFault) → (es ≡ [] → f ≡ None) → BeginsAt k es → IsListing es
       → (another : Option Combination) → option_map (λ (x : TableFault). last_combination es) f ≡ Some another
@@ -86,7 +86,7 @@ module _ (k : Combination) where
       let same : last_combination (e ∷ es) ≡ another = cc in
       (last.0, (sym same ∙ last.1.0, not-below e.0 last.0 k last.1.1 at.0))
 
-  -- one that ends with it has no other entry
+  -- entries that begin and end with the combination are one entry
   alone : (es : Pairs) → BeginsAt k es → IsListing es → last_combination es ≡ Some k → past_first k es ≡ []
   unfolding IsStrictlySortedBy
   alone [] at listing is = cc
@@ -103,7 +103,7 @@ module _ (k : Combination) where
       (λ more. combination_cmp_total.trans e.0 x.0 k less (subst (λ c. combination_cmp x.0 c ≡ Less) same more))
       last.1.1))
 
-  -- no error comes after a lesser combination
+  -- no error comes after a smaller combination
   pub none-before : (readings : List TableReading) → AllByRecursion GoesOn readings
       → AllByRecursion (BeginsAt k) (tables_of readings) → AllByRecursion IsListing (tables_of readings)
       → AreNoneBefore k (map fault_place readings)
@@ -138,7 +138,7 @@ module _ (k : Combination) where
   module _ (readings : List TableReading) (on : AllByRecursion GoesOn readings)
       (begin : AllByRecursion (BeginsAt k) (tables_of readings)) (all : AllByRecursion IsListing (tables_of readings))
       (text : ℕ) (fault : TableFault) (stops : StopsBehind k readings text fault) where
-    -- an error after the combination, of a text before, would have been met
+    -- an earlier text's error after the combination would have been reported first
     not-earlier : (other : ℕ) → slice_get (map fault_place readings) other ≡ Some (Some (Some k)) → text ≤ other
     not-earlier other at = ⊎_elim
         (λ before.
@@ -176,7 +176,7 @@ module _ (k : Combination) where
           so.1.1));
     }
 
--- ---- texts before the one that stops went on
+-- ---- the texts before the one that stops continue
 
 module _ {X : Type 0} (read : X → Option TableReading) (on : (x : X) (r : TableReading) → read x ≡ Some r
     → GoesOn r) where

@@ -1,4 +1,4 @@
--- Entries of the smallest combination, taken one after the other.
+-- The entries of the smallest combination are taken one after another.
 use Rattle.std.proofs.Common.{◌≡◌, ◌≢◌, ℕ, zero, suc, ◌+◌, ◌<◌, ◌≤◌, ◌^◌, nat_lt, List, [], ◌∷◌, length, map, get_or, slice_get, Bool, true, false, Option, Some, None, unwrap_or, option_map, ⊎_elim, refl, ap, sym, ◌∙◌, arith, cond, subst}
 use Rattle.std.proofs.Math.ListN.{set, length-set}
 use Rattle.std.proofs.lemmas.Bool.{ltb-true}
@@ -37,7 +37,7 @@ use Rattle.cell_join_tables.specs.parts.LeastEntries.{HasGone, begin_count, one_
 use Rattle.cell_join_tables.proofs.OrderLemmas.{lesser-or-same}
 use Rattle.cell_join_tables.proofs.PlaceLemmas.{first-or}
 
--- ---- a table of which the first entry was taken
+-- ---- a table whose first entry was taken
 
 module _ (k : Combination) where
   itself : combination_cmp k k ≡ Equal
@@ -49,7 +49,7 @@ module _ (k : Combination) where
   same-of : (e : Combination × ℕ) → is_of k e ≡ true → e.0 ≡ k
   same-of e is = combination_cmp-exact e.0 k (is_equal _ is)
 
-  -- an entry above the combination is not of it
+  -- an entry above the combination has another combination
   above-other : (e : Combination × ℕ) → combination_cmp k e.0 ≡ Less → is_of k e ≡ false
   above-other e less = by (is_of k e) refl
     where
@@ -61,7 +61,7 @@ module _ (k : Combination) where
   not-less c less other = (let both : Less ≡ Greater = sym other ∙ combination_cmp_total.antisymm c k
       ∙ ap ordering_reverse less in cc)
 
-  -- a table that begins above the combination
+  -- a table that begins above the combination has no entry of it
   left-above : (es : Pairs) → IsListing es → BeginsAbove k es → (first_count k es ≡ None)
       × ((past_first k es ≡ es) × BeginsAt k es)
   left-above [] listing above = (refl, (refl, tt))
@@ -100,7 +100,7 @@ module _ (k : Combination) where
       by true is = cc
       by false is = refl
 
-  -- ---- tables of which one was taken from
+  -- ---- tables, one of which an entry was taken from
 
   swapped : (a b c : Option ℕ) → sum_if_any a (sum_if_any b c) ≡ sum_if_any b (sum_if_any a c)
   swapped None b c = refl
@@ -172,7 +172,7 @@ got (y ∷ ys) (suc i) d x is = got ys i d x is
 abbrev pub nothing : TextValue
 nothing = record { width = 0; head = None; line = []; number = 0; coming = None; heard = record { sure = false; failed = false } }
 
--- what the lines of a text have after the head if it is of the combination, or else from it on
+-- the lines of a text, without its head if the head has the combination
 abbrev pub lines_past : FormatValue → Combination → TextValue → Option (List Labelled)
 lines_past format k text = option_map (past_labelled k) (labelled_from format text)
 
@@ -180,7 +180,7 @@ module _ (format : FormatValue) (k : Combination) where
   abbrev read : TextValue → Option TableReading
   read text = reading_from format text
 
-  -- ---- what texts are read as, and what they continue with
+  -- ---- the readings of texts and their next entries
 
   same-length : (texts : List TextValue) (rs : List TableReading) → map read texts ≡ map Some rs
       → length texts ≡ length rs
@@ -212,7 +212,7 @@ module _ (format : FormatValue) (k : Combination) where
       (sym (count-there x r one) ∙ All-head P x xs none) in
       omega (arith, no, none-count xs rs rest (All-tail P x xs none))
 
-  -- none of them begins with it: no text continues with it
+  -- if no table begins with the combination, no text continues with it
   none-heads : (texts : List TextValue) (rs : List TableReading) → map read texts ≡ map Some rs
       → begin_count k (tables_of rs) ≡ 0 → All (λ (text : TextValue). head_count k text.head ≡ None) texts
   none-heads [] [] known none = All-nil (λ (text : TextValue). head_count k text.head ≡ None)
@@ -226,7 +226,7 @@ module _ (format : FormatValue) (k : Combination) where
       let others : begin_count k (tables_of rs) ≡ 0 = omega (arith, none) in
       All-cons P x xs (count-there x r one ∙ no-one k (first_count k r.entries) here) (none-heads xs rs rest others)
 
-  -- what the lines that are left have
+  -- if no text continues with the combination, the lines past it are all the remaining lines
   none-lines : (texts : List TextValue) → All (λ (text : TextValue). head_count k text.head ≡ None) texts
       → map (labelled_from format) texts ≡ map (lines_past format k) texts
   none-lines [] none = refl
@@ -234,7 +234,7 @@ module _ (format : FormatValue) (k : Combination) where
       let P : TextValue → Type 0 = λ text. head_count k text.head ≡ None in
       λ i. sym (labelled-none format x k (All-head P x xs none)) i ∷ none-lines xs (All-tail P x xs none) i
 
-  -- the head of a text at a place
+  -- the combination at a place is the combination in that text's head
   pub head-at : (texts : List TextValue) (i : ℕ) (x : TextValue) → i < length texts
       → get_or (heads_of texts) i None ≡ combination_of (get_or texts i x).head
   head-at texts i x within = get_or-map (λ (text : TextValue). combination_of text.head) texts i x None within
@@ -252,7 +252,7 @@ module _ (format : FormatValue) (k : Combination) where
       by true is = absurd (other (ap Some (same-of k entry is)))
       by false is = ap (λ t. let o : Option ℕ = cond t (Some entry.1) None in o) is
 
-  -- a text before the first one does not continue with the same
+  -- no text before the first one continues with the same combination
   earlier-other : (heads : List (Option Combination)) (first other : ℕ) → GoesFirst heads first
       → get_or heads first None ≡ Some k → other < first → get_or heads other None ≢ Some k
   earlier-other heads first other goes own less same =
@@ -263,7 +263,7 @@ module _ (format : FormatValue) (k : Combination) where
       (λ here. (let more : first < other = ltb-true first other here.1 in absurd (omega (arith, less, more))))
       (lesser-or-same k k (nat_lt first other) is)
 
-  -- if the first one does not continue with the smallest combination, none does
+  -- if the first text does not continue with the smallest combination, no text does
   none-goes-on : (heads : List (Option Combination)) (first other : ℕ) → GoesFirst heads first
       → get_or heads first None ≢ Some k
       → IfSome (get_or heads first None) (λ c. combination_cmp c k ≢ Less) → other < length heads
@@ -286,7 +286,7 @@ module _ (format : FormatValue) (k : Combination) where
       let same : x ≡ e = cc in
       subst (λ (y : Combination × ℕ). combination_cmp y.0 k ≢ Less) same at.0
 
-  -- what the first text continues with is the smallest of all
+  -- the combination of the first text is the smallest of all
   pub starts-least : (texts : List TextValue) (n : ℕ) → BeginsWith texts (k, n)
       → All (λ (text : TextValue). IfSome text.head (λ entry. combination_cmp entry.0 k ≢ Less)) texts
   starts-least texts n starts i d within = of-head (get_or texts i d).head
@@ -320,9 +320,9 @@ module _ (format : FormatValue) (k : Combination) where
           (λ same. subst (λ (b : Combination). combination_cmp b k ≢ Less) same.0 here)
           (lesser-or-same k c (nat_lt starts.first i) is)
 
-  -- ---- entries taken one after the other
+  -- ---- entries taken one after another
 
-  -- none was taken yet
+  -- before the first entry, nothing was taken
   gone-none : (texts : List TextValue) (readings : List TableReading) → map read texts ≡ map Some readings
       → AllByRecursion IsListing (tables_of readings) → AllByRecursion (BeginsAt k) (tables_of readings)
       → HasGone read k readings texts None 0
@@ -354,7 +354,7 @@ module _ (format : FormatValue) (k : Combination) where
           (λ (text : TextValue). combination_of text.head),
     )
 
-    -- one more was taken
+    -- one more entry was taken
     pub gone-more : (new : List TextValue) (first n : ℕ) → GoesFirst (heads_of now) first
         → ((text : TextValue) → head_count k (get_or now first text).head ≡ Some n) → HeadReadsOn format now first new
         → HasGone read k readings new (sum_if_any total (Some n)) (taken + 1)
@@ -393,7 +393,7 @@ module _ (format : FormatValue) (k : Combination) where
           few = omega (arith, less, few, long);
         }
 
-    -- and its lines are those that were left
+    -- taking one more entry does not change the lines past the combination
     pub lines-more : (new : List TextValue) (first n : ℕ) → GoesFirst (heads_of now) first
         → ((text : TextValue) → head_count k (get_or now first text).head ≡ Some n) → HeadReadsOn format now first new
         → map (lines_past format k) new ≡ map (lines_past format k) now
@@ -416,7 +416,7 @@ module _ (format : FormatValue) (k : Combination) where
     on-after : AllByRecursion GoesOn gone.after
     on-after = all-on read (no-entry format) now gone.after gone.known
 
-    -- the next one could not be taken, since its text stops after that
+    -- the next entry cannot be taken if its text stops after it
     pub gone-fault : (first n : ℕ) (fault : TableFault) → GoesFirst (heads_of now) first
         → ((text : TextValue) → head_count k (get_or now first text).head ≡ Some n)
         → ((text : TextValue) → IfSome (reading_behind format (get_or now first text)) (λ reading. reading ≡ stopped fault.line fault.kind))
@@ -459,7 +459,7 @@ module _ (format : FormatValue) (k : Combination) where
     gone-stops first n Memory goes counted is = tt
     gone-stops first n Write goes counted is = absurd is
 
-    -- the counts are too many
+    -- a sum of 2^64 or more is reported, since no text has an error before the combination
     gone-many : (sum : ℕ) → total ≡ Some sum → 2 ^ 64 ≤ sum
         → (2 ^ 64 ≤ sum_by (count_in k) (tables_of readings)) × AreNoneBefore k (map fault_place readings)
     gone-many sum is high =
@@ -486,7 +486,7 @@ module _ (format : FormatValue) (k : Combination) where
     gone-beyond sum Memory is high of same = tt
     gone-beyond sum Write is high of same = of []
 
-    -- all were taken
+    -- all entries of the combination were taken
     gone-all : (sum : ℕ) → total ≡ Some sum → begin_count k (tables_of gone.after) ≡ 0
         → HasTaken read readings now ((k, sum) ∷ [])
     gone-all sum is none =
@@ -508,12 +508,12 @@ module _ (format : FormatValue) (k : Combination) where
     abbrev NoneGoesOn : Type 0
     NoneGoesOn = All (λ (text : TextValue). head_count k text.head ≡ None) now
 
-    -- no text continues with it: the entry was taken, and the lines that are left are those after
+    -- if no text continues with the combination, its entry is complete and the lines past it remain
     gone-none-left : (sum : ℕ) → total ≡ Some sum → NoneGoesOn
         → HasTaken read readings now ((k, sum) ∷ []) × (map (labelled_from format) now ≡ map (lines_past format k) now)
     gone-none-left sum is none = (gone-all sum is (none-count now gone.after gone.known none), none-lines now none)
 
-    -- each text had its turn
+    -- once each text had its turn, the entry is complete
     pub gone-turns : (sum : ℕ) → total ≡ Some sum → length readings ≤ taken
         → HasTaken read readings now ((k, sum) ∷ []) × (map (labelled_from format) now ≡ map (lines_past format k) now)
     gone-turns sum is turns =
@@ -521,11 +521,11 @@ module _ (format : FormatValue) (k : Combination) where
         let none : begin_count k (tables_of gone.after) ≡ 0 = omega (arith, few, turns, gone-length) in
         (gone-all sum is none, none-lines now (none-heads now gone.after gone.known none))
 
-    -- each text is at its end
+    -- if each text is at its end, no text continues with the combination
     gone-ended : All (λ (text : TextValue). text.head ≡ None) now → NoneGoesOn
     gone-ended done i d within = ap (head_count k) (done i d within)
 
-    -- the first text continues with another combination
+    -- if the first text continues with another combination, no text continues with this one
     gone-other : (entry : Combination × ℕ) → BeginsWith now entry → is_of k entry ≡ false → NoneGoesOn
     gone-other entry starts other = (λ i d within. no-count (get_or now i d).head
         (λ e. none-goes-on (heads_of now) starts.first i starts.goes not least (inside-heads i within)
@@ -552,7 +552,7 @@ module _ (format : FormatValue) (k : Combination) where
         inside-heads : (i : ℕ) → i < length now → i < length (heads_of now)
         inside-heads i less = omega (arith, less, length-map now (λ (text : TextValue). combination_of text.head))
 
-    -- the first text continues with no entry of the combination, by whatever is seen as an entry
+    -- if the next entry does not have the combination, the entry is complete
     pub gone-last : {B : Type 0} (see : B → Combination × ℕ) (entry : Option B) (sum : ℕ) → total ≡ Some sum
         → MatchOption entry (All (λ (text : TextValue). text.head ≡ None) now) (λ b. BeginsWith now (see b))
         → head_count k (option_map see entry) ≡ None
@@ -580,7 +580,7 @@ module _ (format : FormatValue) (k : Combination) where
       (begins format k texts readings known (starts-least texts n starts) all)) new starts.first n starts.goes
       (first-has texts n starts) reads
 
-  -- and its lines are those that were left
+  -- taking the first entry does not change the lines past the combination
   pub lines-first : (texts new : List TextValue) (n : ℕ) (starts : BeginsWith texts (k, n))
       → HeadReadsOn format texts starts.first new → (readings : List TableReading) → map read texts ≡ map Some readings
       → AllByRecursion IsListing (tables_of readings) → map (lines_past format k) new ≡ map (lines_past format k) texts
@@ -589,7 +589,7 @@ module _ (format : FormatValue) (k : Combination) where
       (begins format k texts readings known (starts-least texts n starts) all)) new starts.first n starts.goes
       (first-has texts n starts) reads
 
-  -- or its text stops after it
+  -- an error after the first entry stops the step
   pub fault-first : (texts : List TextValue) (n : ℕ) (starts : BeginsWith texts (k, n)) (fault : JoinFault)
       → IsFaultBehind format texts starts.first fault → StepFails read texts fault
   fault-first texts n starts fault is readings known all =
@@ -597,7 +597,7 @@ module _ (format : FormatValue) (k : Combination) where
       (begins format k texts readings known (starts-least texts n starts) all)) starts.first n fault starts.goes
       (first-has texts n starts) is
 
--- the first text that continues with an entry of the combination, if n cells of it are counted
+-- the first text continues with an entry of the combination, which counts n cells
 pub record Counted (k : Combination) (texts : List TextValue) (n : ℕ) : Type 0 where
   pub first : ℕ
   pub goes : GoesFirst (heads_of texts) first

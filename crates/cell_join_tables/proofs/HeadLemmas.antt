@@ -1,4 +1,4 @@
--- The head of a text, taken or left.
+-- The head of a text is taken or left.
 use Rattle.std.proofs.Common.{◌≡◌, ℕ, List, ◌∷◌, Bool, true, false, Option, Some, None, refl, ap, ◌∙◌, cond}
 use Rattle.std.specs.Option.{option_map}
 use Rattle.std.specs.Prelude.{IfSome}
@@ -49,12 +49,12 @@ module _ (format : FormatValue) (text : TextValue) (k : Combination) where
         ∙ ap Some (combination_cmp-exact entry.0 k (is_equal _ (is-some (is_of k entry) entry.1 n e))),
   )
 
-  -- what is read after the head was taken
+  -- taking the head leaves the text after it
   pub taken-some : (n : ℕ) → head_count k text.head ≡ Some n
       → option_map (past k) (reading_from format text) ≡ reading_behind format text
   taken-some n e = some-head text.head n text.coming e
 
-  -- there is an error after it
+  -- an error after the head is an error after the combination
   pub taken-fault : (n : ℕ) (fault : TableFault) → head_count k text.head ≡ Some n
       → IfSome (reading_behind format text) (λ reading. reading ≡ stopped fault.line fault.kind)
       → IfSome (reading_from format text) (λ reading. (reading.fault ≡ Some fault)
@@ -80,12 +80,12 @@ module _ (format : FormatValue) (text : TextValue) (k : Combination) where
       ap (λ t. let o : Option (List Labelled) = Some (cond t (labelled_in format coming.bytes)
       (labelled_from_head format (Some entry) text.line coming)) in o) (is-none (is_of k entry) entry.1 e)
 
-  -- what lines have after the head was taken
+  -- taking the head leaves the lines after it
   pub labelled-some : (n : ℕ) → head_count k text.head ≡ Some n
       → option_map (past_labelled k) (labelled_from format text) ≡ labelled_behind format text
   labelled-some n e = some-labelled text.head n text.coming e
 
-  -- it was left
+  -- leaving the head leaves all lines
   pub labelled-none : head_count k text.head ≡ None
       → option_map (past_labelled k) (labelled_from format text) ≡ labelled_from format text
   labelled-none e = none-labelled text.head text.coming e

@@ -1,4 +1,4 @@
--- What was written, and the result, at the end of a join.
+-- The text written and the result at the end of a join.
 use Rattle.std.proofs.Common.{◌≡◌, ◌≢◌, ℕ, zero, suc, ◌<◌, ◌^◌, ◌||◌, List, [], ◌∷◌, ◌++◌, length, Bool, true, false, Option, Some, None, Result, Ok, Err, refl, ap, sym, ◌∙◌, arith, subst, append_assoc, append-nil}
 use Rattle.std.specs.List.{AllByRecursion, Contains}
 use Rattle.std.specs.Prelude.{All, IfSome, sum_by}
@@ -21,7 +21,7 @@ use Rattle.cell_join_tables.specs.declared.join_fault.JoinFault.{JoinFault}
 use Rattle.cell_join_tables.specs.declared.join_fault.JoinFault.TheVariants.{Text, TooMany, TooLong, Memory, Write}
 use Rattle.cell_join_tables.proofs.StepLemmas.{merges-all}
 
--- ---- where each text is a table to its end
+-- ---- each text is a table to its end
 
 no-fault : (readings : List TableReading) (text : ℕ) (fault : TableFault) → AreTables readings
     → HasFault readings text fault → ⊥
@@ -49,7 +49,7 @@ module _ (readings : List TableReading) (all : AllByRecursion IsListing (tables_
   refuted Memory is memory write = memory refl
   refuted Write is memory write = write refl
 
-  -- exactly the text of the merge is written
+  -- without an error of writing, exactly the text of the merge is written
   pub wholly : (format : FormatValue) (before now : Option (List ℕ)) (written : ℕ) (failed : Bool)
       (fault : Option JoinFault) → IfSome fault (IsJoinFault readings)
       → (fault ≡ None → AreJoinedTexts format readings before now written) → (fault ≡ Some Write → failed ≡ true)
@@ -96,7 +96,7 @@ module _ (answer : Result Unit JoinFault) (failed : Bool) (start faults last : F
       by false (Ok unit) true put flush write is = ap has_failed flush ∙ or_true faults.refused
       by false (Ok unit) false put flush write is = cc
 
--- ---- where texts are not opened
+-- ---- texts that cannot be opened
 
 pub opening-join : (readings : List TableReading) (fault : JoinFault) → IsOpeningFault readings fault
     → IsJoinFault readings fault

@@ -1,4 +1,4 @@
--- Which texts continue with a combination, and with which labels.
+-- The texts that continue with a combination, and the labels with which they continue.
 use Rattle.std.proofs.Common.{◌≡◌, ◌≢◌, ℕ, zero, suc, ◌+◌, ◌<◌, ◌≤◌, List, [], ◌∷◌, length, map, get_or, slice_get}
 use Rattle.std.proofs.Common.{Bool, true, false}
 use Rattle.std.proofs.Common.{Option, Some, None, ⊎_elim, refl, ap, sym, ◌∙◌, arith, subst, option_map, ◌&&◌, not}
@@ -24,7 +24,7 @@ use Rattle.cell_join_tables.specs.parts.LabelSteps.{AgreesOn, AllAgree, DifferAt
 use Rattle.cell_join_tables.specs.parts.LabelSteps.{is_combination, labelled_head}
 
 module _ (format : FormatValue) (k : Combination) where
-  -- what it has there
+  -- the labels on the text's line
   abbrev labels_there : TextValue → List ℕ
   labels_there text = before_count format.separator text.line
 
@@ -82,9 +82,9 @@ module _ (format : FormatValue) (k : Combination) where
       let at = head-in xs i d y (omega (arith, within)) is in
       (suc at.0, omega (arith, at.1), at.2)
 
--- ---- other labels, reported
+-- ---- differing labels are reported
 
--- the labels at a place are those that its head has
+-- the labels at a place are the labels of that text's head
 pub labels-there : (format : FormatValue) (texts : List TextValue) (i : ℕ) (y : Labelled) (labelled : List ℕ)
     → slice_get (labelled_heads format texts) i ≡ Some (Some y)
     → slice_get (map (λ (text : TextValue). before_count format.separator text.line) texts) i ≡ Some labelled
@@ -102,7 +102,7 @@ labels-there format (x ∷ xs) zero y labelled is so = by x.head is
         sym (ap (λ (l : Labelled). l.1) one) ∙ two
 labels-there format (x ∷ xs) (suc i) y labelled is so = labels-there format xs i y labelled is so
 
--- texts that continue with other labels stop the merge if the combination is the smallest
+-- differing labels for the smallest combination stop the merge
 pub stops-at : (format : FormatValue) (k : Combination) (labelled : List ℕ) (texts : List TextValue) (first text : ℕ)
     → DifferAt format k labelled texts first text → (reported : OtherLabel) → reported.first ≡ first → reported.text ≡ text
     → reported.combo ≡ k → reported.labelled.items ≡ labelled

@@ -1,4 +1,4 @@
--- Many entries with labels taken one after the other, and how that ends.
+-- Entries with labels are taken one after another until the merge ends.
 use Rattle.std.proofs.Common.{◌≡◌, ℕ, ◌+◌, ◌-◌, ◌≤◌, ◌^◌, List, [], ◌∷◌, ◌++◌, map, Option, Some, None, Ok, Err}
 use Rattle.std.proofs.Common.{refl, ap, sym, ◌∙◌, subst, append_assoc, append-nil, length-append}
 use Rattle.std.proofs.lemmas.List.{map-append, length-map}
@@ -32,7 +32,7 @@ text-more [] e = sym (append-nil (counted_line e))
 text-more (x ∷ done) e = append_assoc (counted_line x) (counted_text done) (counted_line e)
     ∙ ap (λ text. counted_line x ++ text) (text-more done e)
 
--- a text's other label is a label of all its lines
+-- a differing label among the remaining lines is a differing label among all lines
 other-whole : (readings after : List TableReading) (done : List Labelled) (wholes lefts : List (List Labelled))
     (reported : OtherLabel) → ArePassed done wholes lefts
     → map fault_place after ≡ map fault_place readings
@@ -54,7 +54,7 @@ module _ (format : FormatValue) where
 
   module _ {S : Type 0} (texts mid : List TextValue) (taken : S → Option (List ℕ)) (faults : S → Faults) (out : S)
       (block : BlockValue) where
-    -- at the start
+    -- before the first entry, nothing was merged
     pub labelled-none : HasLabelledMerge format texts texts taken faults out block out block 0
     labelled-none = record {
       done = [];
@@ -66,7 +66,7 @@ module _ (format : FormatValue) where
 
     module _ (now : S) (after : BlockValue) (count : ℕ)
         (merged : HasLabelledMerge format texts mid taken faults out block now after count) where
-      -- one more
+      -- merging one more entry continues the merge
       pub labelled-more : (new : List TextValue) (next : S) (then : BlockValue)
           → HasLabelledStep format mid new taken faults now after next then
           → HasLabelledMerge format texts new taken faults out block next then (count + 1)
@@ -98,7 +98,7 @@ module _ (format : FormatValue) where
             appends = rw (← text-more done e) (appends_then merged.appends step.appends);
           }
 
-      -- each is at its end
+      -- if each text is at its end, the merge has ended
       pub labelled-all : AreEnded read mid → All (λ text. text.head ≡ None) mid
           → IsLabelledEnd format texts taken faults out block now after (Ok None)
       labelled-all ended none = record {
@@ -120,7 +120,7 @@ module _ (format : FormatValue) where
             );
       }
 
-      -- two continue with other labels
+      -- two texts with different labels for a combination stop the merge
       pub labelled-other : (reported : OtherLabel) → StopsAtLabels format mid reported
           → IsLabelledEnd format texts taken faults out block now after (Ok (Some reported))
       labelled-other reported stops = record {
@@ -138,7 +138,7 @@ module _ (format : FormatValue) where
             );
       }
 
-      -- no more is taken
+      -- an error in a step stops the merge
       pub labelled-fault : (fault : JoinFault) → StepFails read mid fault
           → IsLabelledEnd format texts taken faults out block now after (Err fault)
       labelled-fault fault fails = record {

@@ -1,4 +1,4 @@
--- What was written, and the result, at the end of a join of texts with labels.
+-- The text written and the result at the end of a join of texts with labels.
 use Rattle.std.proofs.Common.{◌≡◌, ◌≢◌, ℕ, zero, suc, ◌<◌, List, [], ◌∷◌, ◌++◌, length, map, get_or, Bool, true, false}
 use Rattle.std.proofs.Common.{Option, Some, None, Result, Ok, Err, ◌⊎◌, inl, inr, ⊎_elim, refl, ap, sym, ◌∙◌, arith}
 use Rattle.std.proofs.Common.{subst, append-nil}
@@ -33,7 +33,7 @@ use Rattle.cell_join_tables.specs.declared.label_fault.OtherLabel.{OtherLabel}
 use Rattle.cell_join_tables.specs.declared.label_fault.LabelFault.{LabelFault}
 use Rattle.cell_join_tables.specs.declared.label_fault.LabelFault.TheVariants as faults
 
--- ---- one combination has one label
+-- ---- each combination has only one label
 
 abbrev keys_of : List LabelledEntry → List Combination
 keys_of entries = map (λ (e : Combination × ℕ). e.0) (plain_entries entries)
@@ -48,7 +48,7 @@ contains-cases x y xs at = by at.0 at.1 at.2
 not-itself : (k : Combination) → combination_cmp k k ≢ Less
 not-itself k less = (let same : combination_cmp k k ≡ Equal = tied_itself combination_cmp_total k in cc)
 
--- a combination less than all others is not among them
+-- a combination smaller than all entries is not among them
 above : (k : Combination) (entries : List LabelledEntry) (line : Labelled)
     → AllByRecursion (λ other. combination_cmp k other ≡ Less) (keys_of entries) → Contains (labelled_of entries) line
     → line.0 ≡ k → ⊥
@@ -70,7 +70,7 @@ one-label (x ∷ entries) up a b first second same = ⊎_elim
     (λ rest. one-label entries up.1 a b more rest same) (contains-cases x.0 b (labelled_of entries) second))
     (contains-cases x.0 a (labelled_of entries) first)
 
--- entries that have the labels of others are these
+-- two lists of entries with the same cells and counts, and with labels from one list, are equal
 same-labels : (whole : List LabelledEntry) → IsStrictlySortedBy combination_cmp (keys_of whole)
     → (one other : List LabelledEntry) → plain_entries one ≡ plain_entries other
     → AllByRecursion (λ (e : LabelledEntry). Contains (labelled_of whole) e.0) one
@@ -85,7 +85,7 @@ same-labels whole up (x ∷ xs) (y ∷ ys) same first second =
     let count : x.1 ≡ y.1 = ap (λ (e : Combination × ℕ). e.1) here in
     λ i. (labelled i, count i) ∷ same-labels whole up xs ys rest first.1 second.1 i
 
--- each entry is among all
+-- lines among the other entries are also among all entries
 stand-behind : (first : LabelledEntry) (entries others : List LabelledEntry)
     → AllByRecursion (λ (e : LabelledEntry). Contains (labelled_of entries) e.0) others
     → AllByRecursion (λ (e : LabelledEntry). Contains (labelled_of (first ∷ entries)) e.0) others
@@ -99,7 +99,7 @@ own-stand : (entries : List LabelledEntry)
 own-stand [] = tt
 own-stand (x ∷ entries) = ((0, omega arith, refl), stand-behind x entries entries (own-stand entries))
 
--- ---- lines of texts are among entries
+-- ---- the lines of texts are among the entries
 
 all-at : {X : Type 0} (P : X → Type 0) (xs : List X) (x : X) → AllByRecursion P xs → Contains xs x → P x
 all-at P [] x all at = absurd (omega (arith, at.1))
@@ -128,7 +128,7 @@ module _ (entries : List LabelledEntry) where
   all-stand texts [] all own = tt
   all-stand texts (e ∷ others) all own = (of-text texts e.0 all own.0, all-stand texts others all own.1)
 
--- ---- what holds by the error that is reported
+-- ---- properties that depend on the error reported
 
 module _ (format : FormatValue) (texts : List Coming) (before now : Option (List ℕ)) (written : ℕ) where
   pub fault-reported : (fault : Option LabelFault) → IsReported format texts before now written fault → IfSome fault (IsLabelFault format texts)
@@ -155,7 +155,7 @@ pub some-each : {X Y : Type 0} (f : X → Y) (xs : List X) → map (λ x. Some (
 some-each f [] = refl
 some-each f (x ∷ xs) = ap (λ os. Some (f x) ∷ os) (some-each f xs)
 
--- ---- what was written, by the result
+-- ---- the text written, for each result
 
 module _ (format : FormatValue) (texts : List Coming)
     (all : AllByRecursion IsListing (tables_of (readings_of format texts))) (done : List LabelledEntry)
@@ -249,7 +249,7 @@ module _ (format : FormatValue) (texts : List Coming)
     reported-so fault is = subst (IsReported format texts before now block.written) (sym is)
         (reported-by block.failed refl answer refl ends fails)
 
--- ---- where all texts have the same labels
+-- ---- all texts have the same labels
 
 module _ (format : FormatValue) (texts : List Coming)
     (all : AllByRecursion IsListing (tables_of (readings_of format texts))) (merged : List LabelledEntry)
@@ -267,7 +267,7 @@ module _ (format : FormatValue) (texts : List Coming)
       has.differ (ap (λ (l : Labelled). l.1) (one-label merged up (reported.combo, reported.other.items)
       (reported.combo, reported.labelled.items) other one refl))
 
-  -- what was joined is this merge
+  -- the joined entries are the entries of this merge
   pub one-labelled : (before now : Option (List ℕ)) (written : ℕ)
       → (joined : AreJoinedLabels format texts before now written) → joined.merged ≡ merged
   one-labelled before now written joined = same-labels merged up joined.merged merged
@@ -291,7 +291,7 @@ module _ (format : FormatValue) (texts : List Coming)
   wholly-labelled before now written failed (Some (faults.OtherLabel reported)) is joined write memory good =
       absurd (none-other reported is)
 
--- ---- where texts are not opened
+-- ---- texts that cannot be opened
 
 pub label-none : (fault : Option JoinFault) (other : Option OtherLabel) → label_fault_of fault other ≡ None
     → fault ≡ None

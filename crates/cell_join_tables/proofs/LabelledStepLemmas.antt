@@ -1,4 +1,4 @@
--- Lines with labels that are passed one step after another.
+-- Lines with labels are passed one step at a time.
 use Rattle.std.proofs.Common.{◌≡◌, ℕ, zero, suc, ◌<◌, List, [], ◌∷◌, ◌++◌, length, map, get_or, slice_get, Bool, true}
 use Rattle.std.proofs.Common.{false, Option, Some, None, refl, ap, sym, ◌∙◌, arith, cond, subst, option_map}
 use Rattle.std.proofs.Common.{append_assoc, append-nil}
@@ -16,7 +16,7 @@ use Rattle.cell_join_tables.specs.TextHeads.{past_labelled}
 use Rattle.cell_join_tables.specs.JoinedLabels.{AreLabelledSo, HasLine, IsOfTexts, LabelledEntry, labelled_of}
 use Rattle.cell_join_tables.specs.parts.LabelSteps.{AgreesOn, ArePassed, IsReadPast, labelled_heads, labelled_head}
 
--- ---- lists
+-- ---- properties of lists
 
 pub all-push : {X : Type 0} (P : X → Type 0) (xs : List X) (x : X) → AllByRecursion P xs → P x
     → AllByRecursion P (xs ++ x ∷ [])
@@ -28,7 +28,7 @@ all-more : (done more lines : List Labelled) → AllByRecursion (λ line. Contai
 all-more done more [] all = tt
 all-more done more (x ∷ lines) all = (Contains-append_left done more x all.0, all-more done more lines all.1)
 
--- ---- the first of what lines have
+-- ---- the first cells and labels of lines
 
 abbrev first_of : List Labelled → Option Labelled
 first_of [] = None
@@ -62,7 +62,7 @@ module _ (format : FormatValue) where
   none-by None line None lines is none = cc
   none-by None line (Some c) lines is none = let same : labelled_from_head format None line c ≡ lines = cc in sym same
 
-  -- texts at their ends have no more lines
+  -- texts that are at their ends have no lines left
   pub none-left : (texts : List TextValue) (lefts : List (List Labelled)) → map lines_of texts ≡ map Some lefts
       → All (λ text. text.head ≡ None) texts → AllByRecursion (λ left. left ≡ []) lefts
   none-left [] [] known done = tt
@@ -74,7 +74,7 @@ module _ (format : FormatValue) where
       let rest : map lines_of xs ≡ map Some ls = cc in
       (none-by x.head x.line x.coming l one (All-head P x xs done), none-left xs ls rest (All-tail P x xs done))
 
-  -- what a text continues with is one of its lines
+  -- the head of a text is the first of its remaining lines
   pub head-at : (texts : List TextValue) (lefts : List (List Labelled)) (y : Labelled)
       → map lines_of texts ≡ map Some lefts → (i : ℕ) → slice_get (labelled_heads format texts) i ≡ Some (Some y)
       → HasLine lefts i y
@@ -103,7 +103,7 @@ module _ (format : FormatValue) where
       let at = so.1.0 in
       (so.0, ((suc at.0, omega (arith, at.1), at.2), so.1.1))
 
-  -- ---- one step
+  -- ---- one step of the merge
 
   module _ (k : Combination) (labelled : List ℕ) where
     abbrev line : Labelled
@@ -159,13 +159,13 @@ module _ (format : FormatValue) where
       → map lines_of texts ≡ map Some lefts → Contains (labelled_heads format texts) (Some y) → IsOfTexts lefts y
   own-step texts lefts y known own = own-head texts lefts y known own.0 own.1 own.2
 
--- ---- all lines
+-- ---- all lines of the texts
 
 pub none-passed : (wholes : List (List Labelled)) → ArePassed [] wholes wholes
 none-passed [] = tt
 none-passed (w ∷ ws) = (([], (refl, tt)), none-passed ws)
 
--- a line that is left is one of all lines
+-- a remaining line is one of all lines
 line-left : (done whole left : List Labelled) (y : Labelled) → IsReadPast done whole left → Contains left y
     → Contains whole y
 line-left done whole left y so at = subst (λ lines. Contains lines y) (sym so.1.0)
@@ -200,7 +200,7 @@ line-whole done (w ∷ ws) (l ∷ ls) y so zero has =
     (w, (refl, line-left done w l y so.0 (subst (λ lines. Contains lines y) (sym same) has.1.1)))
 line-whole done (w ∷ ws) (l ∷ ls) y so (suc i) has = line-whole done ws ls y so.1 i has
 
--- all lines were passed if none is left
+-- if no line remains, all lines were passed
 pub all-passed : (entries : List LabelledEntry) (wholes lefts : List (List Labelled))
     → ArePassed (labelled_of entries) wholes lefts → AllByRecursion (λ left. left ≡ []) lefts
     → AreLabelledSo wholes entries

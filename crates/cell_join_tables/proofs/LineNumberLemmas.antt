@@ -1,4 +1,4 @@
--- The numbers of the lines that texts continue with.
+-- The line numbers from which texts continue.
 use Rattle.std.proofs.Common.{◌≡◌, ◌≢◌, ℕ, zero, suc, ◌-◌, List, [], ◌∷◌, map, get_or, slice_get, Option, Some, None}
 use Rattle.std.proofs.Common.{Result, Ok, Err, refl, sym, subst}
 use Rattle.std.proofs.Math.ListN.{set}
@@ -27,7 +27,7 @@ module _ (format : FormatValue) where
   set-behind (w ∷ ws) (x ∷ xs) zero new next was = (next w was.0, was.1)
   set-behind (w ∷ ws) (x ∷ xs) (suc place) new next was = (was.0, set-behind ws xs place new next was.1)
 
-  -- the first text read its next entry
+  -- reading the next entry of the first text keeps the line numbers correct
   pub behind-on : (wholes : List (List Labelled)) (old new : List TextValue) (first : ℕ)
       → ((text : TextValue) → (get_or old first text).head ≢ None) → HeadReadsOn format old first new
       → AreBehind format wholes old → AreBehind format wholes new
@@ -36,7 +36,7 @@ module _ (format : FormatValue) where
       (set-behind wholes old first on.text
       (λ w. next-behind format w (get_or old first on.text) on.text (has on.text) on.labelled on.number) was)
 
-  -- texts whose first lines were read
+  -- texts with line number 2 have read their first lines
   pub behind-first : (texts : List TextValue) (comings : List Coming)
       → map (λ (text : TextValue). labelled_from format text) texts
       ≡ map (λ (c : Coming). Some (labelled_in format c.bytes)) comings
@@ -52,7 +52,7 @@ module _ (format : FormatValue) where
         behind-first xs cs others (All-tail (λ (t : TextValue). t.number ≡ 2) x xs second),
       )
 
-  -- what a text continues with is on the line before its number
+  -- the head of a text is on the line before the text's line number
   pub numbered-line : (wholes : List (List Labelled)) (texts : List TextValue) (i : ℕ) (y : Labelled) (n : ℕ)
       → AreBehind format wholes texts → slice_get (labelled_heads format texts) i ≡ Some (Some y)
       → slice_get (map (λ (text : TextValue). text.number - 1) texts) i ≡ Some n → HasNumberedLine wholes i n y
@@ -65,7 +65,7 @@ module _ (format : FormatValue) where
       (w, (refl, head-numbered format w x y n was.0 own (sym reported)))
   numbered-line (w ∷ ws) (x ∷ xs) (suc i) y n was head number = numbered-line ws xs i y n was.1 head number
 
--- what is reported in the end
+-- the line number of a reported label is correct
 pub line-reported : (wholes : List (List Labelled)) (format : FormatValue) (texts : List TextValue)
     → AreBehind format wholes texts → (fault : Option JoinFault) (merged : Result (Option OtherLabel) JoinFault)
     → IfOk merged (λ other. IfSome other (StopsOnLine format texts))

@@ -1,4 +1,4 @@
--- Tables have one merge.
+-- Tables have only one merge.
 use Rattle.std.proofs.Common.{◌≡◌, ℕ, Option, Some, None, refl, sym, ◌∙◌}
 use Rattle.std.specs.Prelude.{List}
 use Rattle.std.specs.FinMap.Entries.{find, same_entries}

@@ -1,4 +1,4 @@
--- Many entries of a merge, one after the other, and its end.
+-- The entries of a merge are made one after another until the end.
 use Rattle.std.proofs.Common.{◌≡◌, ℕ, ◌+◌, ◌-◌, ◌<◌, ◌≤◌, ◌^◌, List, [], ◌∷◌, ◌++◌, length, map, slice_get, Option, None, Ok, Err, refl, ap, sym, ◌∙◌, arith, subst, append_assoc, append-nil, length-append}
 use Rattle.std.specs.List.{AllByRecursion, Contains}
 use Rattle.std.specs.Prelude.{sum_by}
@@ -21,7 +21,7 @@ use Rattle.cell_join_tables.specs.declared.join_fault.JoinFault.{JoinFault}
 use Rattle.cell_join_tables.specs.declared.join_fault.JoinFault.TheVariants.{Text, TooMany, TooLong, Memory, Write}
 use Rattle.cell_join_tables.proofs.StepLemmas.{merges-all}
 
--- ---- entries taken after others
+-- ---- entries taken after other entries
 
 module _ {X : Type 0} (read : X → Option TableReading) where
   pub takes-none : (texts : List X) → TakesEntries read texts texts []
@@ -49,7 +49,7 @@ module _ {X : Type 0} (read : X → Option TableReading) where
         places = two.places ∙ one.places;
       }
 
--- ---- the end
+-- ---- the end of the merge
 
 none-left : (rs : List TableReading) → merge_of (tables_of (map (λ r. ended) rs)) ≡ []
 none-left [] = refl
@@ -59,7 +59,7 @@ all-tables : (rs : List TableReading) → AreTables (map (λ r. ended) rs)
 all-tables [] = tt
 all-tables (r ∷ rs) = (refl, all-tables rs)
 
--- what is listed after others is listed
+-- an entry in a list is also in any list that ends with it
 contains-behind : (xs ys : Pairs) (e : Combination × ℕ) → Contains ys e → Contains (xs ++ ys) e
 contains-behind xs ys e at =
     (length xs + at.0, omega (arith, at.1, length-append xs ys), get_or-append-add xs ys at.0 e ∙ at.2)
@@ -81,7 +81,7 @@ sum-more k readings after done all left merged high =
 module _ {X : Type 0} (read : X → Option TableReading) (readings : List TableReading)
     (all : AllByRecursion IsListing (tables_of readings)) (texts : List X) (done : Pairs)
     (taken : HasTaken read readings texts done) where
-  -- an error of what is left is one of all
+  -- an error in the remaining tables is an error of all tables
   pub fault-of-all : (fault : JoinFault) → IsStepFault taken.after fault → IsJoinFault readings fault
   fault-of-all (Text text fault) is = record {
     has = ap (λ faults. slice_get faults text) (sym taken.faults) ∙ is.has;

@@ -1,4 +1,4 @@
--- Texts opened one after the other.
+-- Texts are opened one after another.
 use Rattle.std.proofs.Common.{◌≡◌, ℕ, List, [], ◌∷◌, ◌++◌, length, map, slice_get, Option, Some, refl, ap, sym, ◌∙◌}
 use Rattle.std.proofs.Common.{arith, subst, option_map, append_assoc, append-nil}
 use Rattle.std.specs.Prelude.{IfSome}
@@ -55,7 +55,7 @@ module _ {R X : Type 0} (coming : R → Option Coming) (read : X → Option Tabl
     given : Give coming (source ∷ left) opened.others
     given = subst (λ rs. Give coming rs opened.others) is opened.give
 
-    -- one more
+    -- opening one more text appends it
     pub opened-more : (text : X) (head : Option (Combination × ℕ))
         → option_map (reading_of format width) (coming source) ≡ read text
         → ((r : TableReading) → read text ≡ Some r → first_entry r.entries ≡ head)
@@ -98,13 +98,13 @@ module _ {R X : Type 0} (coming : R → Option Coming) (read : X → Option Tabl
               (ap fault_place stop)));
         }
 
-    -- one that is rejected
+    -- a text that is rejected is the first error
     pub opened-refused : ((x : X) (r : TableReading) → read x ≡ Some r → GoesOn r) → (fault : TableFault)
         → IfSome (coming source) (λ c. reading_of format width c ≡ stopped fault.line fault.kind)
         → IsFirstFault (readings_of format comings) (length texts) fault
     opened-refused on fault stops = refused on opened.others fault given opened.whole stops
 
-  -- all of them
+  -- once no source is left, all texts are open
   pub opened-all : (left : List R) (texts : List X) (width : ℕ) (comings : List Coming) → left ≡ []
       → HasOpened coming read format left texts width comings → map read texts ≡ map Some (readings_of format comings)
   opened-all left texts width comings none opened = opened.known
@@ -117,7 +117,7 @@ module _ {R X : Type 0} (coming : R → Option Coming) (read : X → Option Tabl
       nothing [] give = refl
       nothing (c ∷ others) give = cc
 
--- ---- what is seen of texts that are opened
+-- ---- properties of open texts
 
 module _ {R X Y : Type 0} (coming : R → Option Coming) (see : X → Option Y) (of : Coming → Y) where
   abbrev seen_of : Coming → Option Y
@@ -137,14 +137,14 @@ module _ {R X Y : Type 0} (coming : R → Option Coming) (see : X → Option Y) 
             ∙ ap (λ o. map see texts ++ (o ∷ map seen_of others)) (sym is ∙ ap (option_map of) one) ∙ known;
       }
 
-  -- one more
+  -- one more text is seen
   pub seen-more : (source : R) (left sources : List R) (texts : List X) (text : X) (comings : List Coming)
       → sources ≡ source ∷ left → HasSeen coming see of sources texts comings
       → option_map of (coming source) ≡ see text → HasSeen coming see of left (texts ++ text ∷ []) comings
   seen-more source left sources texts text comings is seen same = more-seen source left texts text seen.others comings
       (subst (λ rs. Give coming rs seen.others) is seen.give) seen.known same
 
-  -- all of them
+  -- once no source is left, all texts were seen
   pub seen-all : (left : List R) (texts : List X) (comings : List Coming) → left ≡ []
       → HasSeen coming see of left texts comings → map see texts ≡ map seen_of comings
   seen-all left texts comings none seen = by seen.others (subst (λ rs. Give coming rs seen.others) none seen.give)

@@ -1,4 +1,4 @@
--- Which of two texts goes first.
+-- The order of two texts.
 use Rattle.std.proofs.Common.{◌≡◌, ◌≢◌, ℕ, ◌<◌, Bool, true, false, nat_lt, Option, Some, None, ◌⊎◌, inl, inr, ⊎_elim, refl, ap, sym, ◌∙◌, arith}
 use Rattle.std.proofs.lemmas.Bool.{cases_lt, lt-ltb, ltb-true}
 use Rattle.std.specs.Cmp.{tied_itself}
@@ -12,7 +12,7 @@ use Rattle.cell_join_tables.specs.parts.HeadOrder.{goes_before, lesser_or_earlie
 lt-trans : (i j l : ℕ) → nat_lt i j ≡ true → nat_lt j l ≡ true → nat_lt i l ≡ true
 lt-trans i j l first second = lt-ltb i l (omega (arith, ltb-true i j first, ltb-true j l second))
 
--- what a combination that goes first is
+-- a combination that goes first is smaller, or is equal and belongs to the earlier text
 pub lesser-or-same : (a b : Combination) (t : Bool) → lesser_or_earlier (combination_cmp a b) t ≡ true
     → (combination_cmp a b ≡ Less) ⊎ ((a ≡ b) × (t ≡ true))
 lesser-or-same a b t is = by (combination_cmp a b) refl is
@@ -71,7 +71,7 @@ not-below i j other is = ⊎_elim
     (λ more. lt-ltb j i (omega (arith, more, other)))
     (cases_lt i j)
 
--- of two at other places that one goes first which the other does not go before
+-- of two texts at different places, one goes before the other
 pub before-other : (a b : Option Combination) (i j : ℕ) → i ≢ j → goes_before a i b j ≡ false
     → goes_before b j a i ≡ true
 before-other None None i j other is = not-below i j other is

@@ -1,4 +1,4 @@
--- Labels of texts in order: the texts that continue with the smallest combination come first.
+-- Labels of ordered texts: texts that continue with the smallest combination come first.
 use Rattle.std.proofs.Common.{◌≡◌, ◌≢◌, ℕ, zero, suc, ◌+◌, ◌-◌, ◌<◌, ◌≤◌, List, [], ◌∷◌, length, map, get_or, slice_get, Bool, true, false, Option, Some, None, ⊎_elim, refl, ap, sym, ◌∙◌, arith, subst, option_map, ◌&&◌, not, nat_lt}
 use Rattle.std.proofs.lemmas.Bool.{cases_lt, ltb-true}
 use Rattle.std.proofs.lemmas.List.{get_or-map, length-map}
@@ -32,7 +32,7 @@ both-of true true e = (refl, refl)
 both-of true false e = cc
 both-of false u e = cc
 
--- a text without other labels agrees
+-- a text whose labels do not differ agrees
 one-agrees : (t u : Bool) → u ≡ false → (t && u) ≡ false
 one-agrees true u e = e
 one-agrees false u e = refl
@@ -42,7 +42,7 @@ same-text [] i d e within = absurd (omega (arith, within))
 same-text (x ∷ xs) zero d e within = refl
 same-text (x ∷ xs) (suc i) d e within = same-text xs i d e (omega (arith, within))
 
--- one more of the texts at places agrees
+-- if the text at the next place agrees too, the texts at one more place agree
 pub agree-more : (format : FormatValue) (k : Combination) (labelled : List ℕ) (texts : List TextValue) (places : List ℕ) (i : ℕ)
     (x : TextValue)
     → ((j : ℕ) (text : TextValue) → j < i → is_other format k labelled (get_or texts (get_or places j 0) text) ≡ false)
@@ -56,7 +56,7 @@ agree-more format k labelled texts places i x before within at same j text below
     ∙ one-agrees (goes_on_with k x) (not (bytes_eq (before_count format.separator x.line) labelled)) same))
     (cases_lt j i)
 
--- a place of those in order goes before each after it
+-- in ascending order, each place goes before every later place
 ascends-at : (heads : List (Option Combination)) (places : List ℕ) (i j : ℕ) → Ascends heads places → i < j
     → j < length places → before heads (get_or places i 0) (get_or places j 0) ≡ true
 ascends-at heads [] i j up less within = absurd (omega (arith, within))
@@ -77,7 +77,7 @@ other-default (p ∷ ps) zero d e within = refl
 other-default (p ∷ ps) (suc i) d e within = other-default ps i d e (omega (arith, within))
 
 module _ (format : FormatValue) (texts : List TextValue) where
-  -- one entry alone is begun with
+  -- the texts begin with only one entry
   pub one-begin : (a b : Combination × ℕ) → BeginsWith texts a → BeginsWith texts b → a ≡ b
   one-begin a b one other = by texts one.first (omega (arith, length-map texts (λ (text : TextValue). combination_of text.head), one.goes.within)) one.is
       (λ text. ap (λ p. (get_or texts p text).head) (one-first (heads_of texts) one.first other.first one.goes other.goes) ∙ other.is text)
@@ -88,7 +88,7 @@ module _ (format : FormatValue) (texts : List TextValue) where
       by (x ∷ xs) zero within first second = (let same : Some a ≡ Some b = sym (first x) ∙ second x in cc)
       by (x ∷ xs) (suc i) within first second = by xs i (omega (arith, within)) first second
 
-  -- if the first of all is at its end, no entry is begun with
+  -- if the first text is at its end, the texts begin with no entry
   pub none-begins : (order : List ℕ) (ordered : IsOrder (heads_of texts) (length texts) order) (place : ℕ)
       (is : Some place ≡ slice_get order 0) (x : TextValue) (at : x ≡ get_or texts place x) → x.head ≡ None
       → (entry : Combination × ℕ) → BeginsWith texts entry → ⊥
@@ -98,7 +98,7 @@ module _ (format : FormatValue) (texts : List TextValue) where
       let both : Some entry ≡ None = sym (begins.is x) ∙ done in
       cc
 
-  -- a text that continues with a combination has it as its head
+  -- a text that continues with a combination has the combination in its head
   head-of : (k : Combination) (text : TextValue) → goes_on_with k text ≡ true → combination_of text.head ≡ Some k
   head-of k text is = by text.head (head-there format k text.head text.line is)
     where
@@ -140,7 +140,7 @@ module _ (format : FormatValue) (texts : List TextValue) where
     first-labels e begins = head-in format e.0 texts place x (Some (e.0, labelled)) within
         (ap (labelled_head format) (sym at) ∙ own-head ∙ ap (λ (y : Combination × ℕ). Some (y.0, labelled)) (one-begin entry e starts begins))
 
-    -- after a text that does not continue with the combination no text does
+    -- after a text that does not continue with the combination, no text does
     none-behind : (p q : ℕ) → p < length texts → q < length texts → goes_on_with k (get_or texts p x) ≡ false
         → before (heads_of texts) p q ≡ true → goes_on_with k (get_or texts q x) ≡ false
     none-behind p q inside inside_too not is_before = by (goes_on_with k (get_or texts q x)) refl
@@ -162,7 +162,7 @@ module _ (format : FormatValue) (texts : List TextValue) where
         by true e = absurd (head-not (get_or texts p x).head (least p x inside) not
             ((λ j. goes_before (sym (head-at p x inside) j) p ((sym (head-of k (get_or texts q x) e) ∙ sym (head-at q x inside_too)) j) q) ∙ is_before))
 
-    -- if the first texts agree, all do
+    -- if the first texts in the order agree, all texts agree
     pub all-agree : AgreeInFront format k labelled texts order → (e : Combination × ℕ) → BeginsWith texts e
         → AllAgree format e.0 labelled texts
     all-agree front e begins = subst (λ (y : Combination × ℕ). AllAgree format y.0 labelled texts)
@@ -194,7 +194,7 @@ module _ (format : FormatValue) (texts : List TextValue) where
                 ∙ ap (λ i. goes_on_with k (get_or texts (get_or order i 0) x)) last ∙ next more))
                 (cases_lt front.count j)
 
-    -- a text with other labels stops the merge
+    -- a text with different labels stops the merge
     pub stops-here : (text : ℕ) → text < length texts
         → ((t : TextValue) → is_other format k labelled (get_or texts text t) ≡ true) → (reported : OtherLabel)
         → reported.first ≡ place → reported.text ≡ text → reported.combo ≡ k → reported.labelled.items ≡ labelled
@@ -235,7 +235,7 @@ module _ (format : FormatValue) (texts : List TextValue) where
           differ = apart;
         }
 
-    -- and its line is reported
+    -- the line of the different labels is reported
     pub line-here : (text : ℕ) → text < length texts
         → ((t : TextValue) → is_other format k labelled (get_or texts text t) ≡ true)
         → (reported : OtherLabel) → reported.text ≡ text → reported.combo ≡ k

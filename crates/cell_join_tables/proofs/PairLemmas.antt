@@ -1,4 +1,4 @@
--- What two lists of entries merged are.
+-- The merge of two lists of entries.
 use Rattle.std.proofs.Common.{◌≡◌, ℕ, suc, ◌+◌, ◌<◌, ◌≤◌, List, [], ◌∷◌, ◌++◌, map, length, get_or, drop, take, ◌-◌, cond, refl, ap, sym, ◌∙◌, arith, zero-add, subst, ◌⊎◌, inl, inr, ⊎_elim}
 use Rattle.std.proofs.Math.Seq.{drop-cons, take-length}
 use Rattle.std.proofs.lemmas.List.{append-nil, drop-drop, drop_all, length-drop}
@@ -21,12 +21,12 @@ use Rattle.cell_stats.proofs.TableLemmas.{keys_of}
 use Rattle.cell_parts.proofs.ListingLemmas.{listed-beside, beside-merge, IsMerge-from}
 use Rattle.cell_join_tables.specs.parts.Pairwise.{by_order, merge_entry, merged_of}
 
--- ---- the counts of both
+-- ---- the counts in both lists
 
 listed-cons : (k : Combination) (e : Combination × ℕ) (es : Pairs) → listed_of k (e ∷ es) ≡ entry_of k e + listed_of k es
 listed-cons k e es = sum_by-cons (entry_of k) e es
 
--- what an entry and the list after it make with another list, if the list after it makes what it makes
+-- another list is merged with an entry and the entries after it, which `more` merges
 module _ (x : Combination × ℕ) (more : Pairs → Pairs) where
   abbrev Step : Combination × ℕ → Pairs → Ordering → Pairs
   Step y ys o = by_order o (x ∷ more (y ∷ ys)) ((x.0, x.1 + y.1) ∷ more ys) (y ∷ merge_entry x more ys)
@@ -48,7 +48,7 @@ pub listed-merged : (k : Combination) (xs ys : Pairs) → listed_of k (merged_of
 listed-merged k [] ys = sym (zero-add (listed_of k ys))
 listed-merged k (x ∷ xs) ys = listed-entry x (merged_of xs) k (listed_of k xs) (λ zs. listed-merged k xs zs) ys ∙ ap (λ n. n + listed_of k ys) (sym (listed-cons k x xs))
 
--- ---- their order
+-- ---- the order of the entries
 
 abbrev IsBelow : Combination → Pairs → Type 0
 IsBelow z es = AllByRecursion (λ y. combination_cmp z y ≡ Less) (keys_of es)
@@ -97,7 +97,7 @@ ascends-merged (x ∷ xs) ys one other =
     (λ z zs near h. below-merged z xs zs (⊎_elim (λ e. subst (λ c. IsBelow c xs) (sym e) one.0) (λ less. below-all z x.0 xs less one.0) near) h)
     (λ zs h. ascends-merged xs zs one.1 h) ys other
 
--- ---- no count of nothing
+-- ---- no entry has a count of 0
 
 abbrev IsCounted : Combination × ℕ → Type 0
 IsCounted e = 0 < e.1
@@ -116,7 +116,7 @@ pub zeros-merged : (xs ys : Pairs) → HasNoZero xs → HasNoZero ys → HasNoZe
 zeros-merged [] ys one other = other
 zeros-merged (x ∷ xs) ys one other = zeros-entry x (merged_of xs) (All-head IsCounted x xs one) (λ zs h. zeros-merged xs zs (All-tail IsCounted x xs one) h) ys other
 
--- ---- the merge of two lists is one
+-- ---- two lists have only one merge
 
 pub listing-merged : (one other : Pairs) → IsListing one → IsListing other → IsListing (merged_of one other)
 listing-merged one other first second = record {
@@ -124,7 +124,7 @@ listing-merged one other first second = record {
   no_zero = zeros-merged one other first.no_zero second.no_zero;
 }
 
--- the merges of the first tables and of the others make the merge of all
+-- merging the merge of the first n tables with the merge of the others gives the merge of all tables
 pub merge-split : (tables : List Pairs) (n : ℕ) (one other : Pairs) → IsListing one → IsListing other → IsMerge (take n tables) one → IsMerge (drop n tables) other → IsMerge tables (merged_of one other)
 merge-split tables n one other first second left right =
     IsMerge-from tables (merged_of one other) (listing-merged one other first second) (λ k.

@@ -1,4 +1,4 @@
--- Places of texts in order: one is found, taken, and put where it belongs.
+-- Places of texts in order: how a place is found, removed and inserted in order.
 use Rattle.std.proofs.Common.{◌≡◌, ◌≢◌, ℕ, zero, suc, ◌+◌, ◌-◌, ◌<◌, Bool, true, false, List, [], ◌∷◌, ◌++◌, length, take, drop, get_or, slice_get, Option, Some, None, ◌⊎◌, inl, inr, ⊎_elim, refl, ap, sym, ◌∙◌, arith, subst, append_assoc, add-one}
 use Rattle.std.proofs.Math.ListN.{set, length-set}
 use Rattle.std.proofs.lemmas.Bool.{cases_lt}
@@ -20,7 +20,7 @@ use Rattle.cell_join_tables.specs.declared.join_fault.JoinFault.TheVariants.{Tex
 use Rattle.cell_join_tables.specs.parts.HeadOrder.{AreBefore, Ascends, BeginsWith, GoesFirst, IsFaultBehind, IsOrder, HeadReadsOn, before, goes_before, heads_of}
 use Rattle.cell_join_tables.proofs.OrderLemmas.{before-itself, before-other, before-trans}
 
--- ---- elements of a list
+-- ---- the elements of a list
 
 at-place : {X : Type 0} (P : X → Type 0) (xs : List X) (i : ℕ) (d : X) → AllByRecursion P xs → i < length xs
     → P (get_or xs i d)
@@ -45,7 +45,7 @@ module _ (heads : List (Option Combination)) where
   itself : (i : ℕ) → before heads i i ≢ true
   itself i is = before-itself (get_or heads i None) i is
 
-  -- ---- where a text belongs
+  -- ---- the place of a text in the order
 
   none-before : (place other : ℕ) (places : List ℕ) → AllByRecursion (IsBefore place) places
       → before heads place other ≡ false → AllByRecursion (λ p. before heads p other ≡ false) places
@@ -59,7 +59,7 @@ module _ (heads : List (Option Combination)) where
       by true e = (let both : true ≡ false = sym (chained place p other all.0 e) ∙ not in cc)
       by false e = e
 
-  -- all up to one that goes before
+  -- every place up to one that goes before the text also goes before it
   pub up-to : (places : List ℕ) (other i : ℕ) (d : ℕ) → Ascends heads places → i < length places
       → before heads (get_or places i d) other ≡ true
       → AllByRecursion (λ p. before heads p other ≡ true) (take (suc i) places)
@@ -71,7 +71,7 @@ module _ (heads : List (Option Combination)) where
         up-to ps other i d up.1 less is,
       )
 
-  -- all from one on that does not
+  -- every place from one on that does not go before the text does not either
   pub from-on : (places : List ℕ) (other i : ℕ) (d : ℕ) → Ascends heads places → i < length places
       → before heads (get_or places i d) other ≡ false
       → AllByRecursion (λ p. before heads p other ≡ false) (drop i places)
@@ -87,7 +87,7 @@ module _ (heads : List (Option Combination)) where
     all-behind ps other others.1 not.1,
   )
 
-  -- a place is put where it belongs
+  -- inserting a place after all that go before it keeps the order
   placed : (places : List ℕ) (other count : ℕ) → Ascends heads places → AreBefore heads places other count
       → AllByRecursion (λ p. p ≢ other) places → Ascends heads (insert places count other)
   placed places other zero up so others = (all-behind places other others so.1, up)
@@ -105,7 +105,7 @@ module _ (heads : List (Option Combination)) where
     not-itself place ps all.1,
   )
 
-  -- ---- the order of other heads
+  -- ---- the order after a head changes
 
   same-order : (place : ℕ) (head : Option Combination) (i j : ℕ) → i ≢ place → j ≢ place
       → before (set heads place head) i j ≡ before heads i j
@@ -129,14 +129,14 @@ module _ (heads : List (Option Combination)) where
     ascends-still place head ps others.1 up.1,
   )
 
-  -- ---- all places
+  -- ---- the order of all places
 
   each-placed : (count place : ℕ) (places : List ℕ) (i : ℕ)
       → ((p : ℕ) → p < count → Contains (place ∷ places) p) → (p : ℕ) → p < count → Contains (insert places i place) p
   each-placed count place places i each p within = Contains-permutation (place ∷ places) (insert places i place) p
       (IsPermutation-insert places i place) (each p within)
 
-  -- the next text is put among those before it
+  -- inserting the next text extends the order
   pub order-more : (count i : ℕ) (places : List ℕ) → IsOrder heads count places → AreBefore heads places count i
       → IsOrder heads (count + 1) (insert places i count)
   order-more count i places order so =
@@ -157,7 +157,7 @@ module _ (heads : List (Option Combination)) where
       others [] all = tt
       others (p ∷ ps) all = (λ same. absurd (omega (arith, all.0, same)), others ps all.1)
 
-  -- the text that goes first
+  -- the first place in the order is the text that goes first
   pub order-first : (place : ℕ) (places : List ℕ) → IsOrder heads (length heads) (place ∷ places)
       → GoesFirst heads place
   order-first place places order = record {
@@ -170,7 +170,7 @@ module _ (heads : List (Option Combination)) where
       by other not (suc k, within, at) = subst (λ (p : ℕ). IsBefore place p) at
           (at-place (IsBefore place) places k other order.ascends.0 (omega (arith, within)))
 
-  -- one text alone goes first
+  -- only one text goes first
   pub one-first : (one other : ℕ) → GoesFirst heads one → GoesFirst heads other → one ≡ other
   one-first one other first second = ⊎_elim
       (λ less. absurd (both (λ e. omega (arith, less, e)) (λ e. omega (arith, less, e))))
@@ -184,7 +184,7 @@ module _ (heads : List (Option Combination)) where
       both not again = itself one (chained one other one (first.others other second.within not)
           (second.others one first.within again))
 
-  -- a text is the first one, or the first one goes before it
+  -- each text is the first one or comes after it
   pub first-or : (first other : ℕ) → GoesFirst heads first → other < length heads
       → (other ≡ first) ⊎ (before heads first other ≡ true)
   first-or first other goes within = ⊎_elim
@@ -195,7 +195,7 @@ module _ (heads : List (Option Combination)) where
       (cases_lt first other))
       (cases_lt other first)
 
-  -- if the first is at its end, all are
+  -- if the first text is at its end, all texts are
   pub all-at-end : (first other : ℕ) → GoesFirst heads first → get_or heads first None ≡ None
       → other < length heads → get_or heads other None ≡ None
   all-at-end first other goes none within = ⊎_elim
@@ -209,7 +209,7 @@ module _ (heads : List (Option Combination)) where
       by (Some c) e is = (let both : goes_before None first (Some c) other ≡ true =
           (λ k. goes_before (sym none k) first (sym e k) other) ∙ is in cc)
 
--- a text is put among the others by another head
+-- moving the first text according to its new head restores the order
 pub order-again : (heads : List (Option Combination)) (place : ℕ) (places : List ℕ) (head : Option Combination)
     (count i : ℕ) → IsOrder heads count (place ∷ places)
     → (Ascends (set heads place head) places → AreBefore (set heads place head) places place i)
@@ -224,9 +224,9 @@ order-again heads place places head count i order so =
       ascends = placed (set heads place head) places place i up (so up) others;
     }
 
--- ---- lists of places
+-- ---- rotating a list of places
 
--- the first place was put after others
+-- rotating the first n + 1 places moves the first place after the next n places
 pub first-put : (xs ys : List ℕ) (n : ℕ) → n < length xs
     → ys ≡ drop 1 (take (n + 1) xs) ++ take 1 (take (n + 1) xs)
     → ys ++ drop (n + 1) xs ≡ insert (drop 1 xs) n (get_or xs 0 0)
@@ -238,7 +238,7 @@ first-put (x ∷ xs) ys n within after =
     ∙ ap (λ m. (take n xs ++ x ∷ []) ++ drop m (x ∷ xs)) one
     ∙ append_assoc (take n xs) (x ∷ []) (drop n xs)
 
--- all places but the first
+-- dropping the first place leaves all other places
 pub but-first : (xs : List ℕ) → take (length xs - 1) (drop 1 xs) ≡ drop 1 xs
 but-first [] = refl
 but-first (x ∷ xs) = take_all (length (x ∷ xs) - 1) xs (omega arith)
@@ -251,7 +251,7 @@ pub first-is : (xs : List ℕ) (x : ℕ) → Some x ≡ slice_get xs 0 → get_o
 first-is [] x is = cc
 first-is (y ∷ xs) x is = (let same : y ≡ x = cc in same)
 
--- ---- texts in order
+-- ---- the order of texts
 
 module _ (texts : List TextValue) where
   abbrev head : TextValue → Option Combination
@@ -265,7 +265,7 @@ module _ (texts : List TextValue) where
   seen place x a within at is = get_or-map head texts place x None within ∙ ap head (sym at)
       ∙ ap combination_of (sym is)
 
-  -- whether a text goes before another, by their heads
+  -- whether a text goes before another is determined by their heads
   pub seen-before : (place other : ℕ) (x y : TextValue) (a b : Option (Combination × ℕ)) (t : Bool)
       → place < length texts → other < length texts → x ≡ get_or texts place x → y ≡ get_or texts other y
       → a ≡ x.head → b ≡ y.head → goes_before (combination_of a) place (combination_of b) other ≡ t
@@ -278,7 +278,7 @@ module _ (texts : List TextValue) where
   none-head (Some entry) e = cc
 
   module _ (order : List ℕ) (ordered : IsOrder (heads_of texts) (length texts) order) where
-    -- no text goes first if there is none
+    -- if the order is empty, no text goes first
     pub no-first : None ≡ slice_get order 0 → (first : ℕ) → GoesFirst (heads_of texts) first → ⊥
     no-first none first goes = by order none (ordered.each first (omega (arith, long, goes.within)))
       where
@@ -346,7 +346,7 @@ module _ (texts : List TextValue) where
           memory-or kinds.Memory = inl refl
           memory-or kind = inr (λ e. cc)
 
-      -- the first text is put where it belongs by its other head
+      -- after reading on, the first text is moved to its place in the order
       pub put-again : (y : TextValue) (n : ℕ)
           → (Ascends (heads_of (set texts place y)) (drop 1 order)
           → AreBefore (heads_of (set texts place y)) (drop 1 order) place n)

@@ -1,4 +1,4 @@
--- Texts without labels: what is before a count is the cells alone, so that no two texts differ there.
+-- Texts without labels: only the cells precede a count, so labels cannot differ.
 use Rattle.std.proofs.Common.{◌≡◌, ◌≢◌, ◌<◌, ℕ, ℤ, zero, suc, List, [], ◌∷◌, ◌++◌, map, flat_map, length, Bool, true, false, ◌==◌, Option, Some, None, Result, Ok, Err, refl, ap, sym, ◌∙◌, arith, cond, codes, decimal, append_assoc, append-nil, subst, option_map, get_or}
 use Rattle.std.proofs.lemmas.Bool.Decides.{Decides-eqb}
 use Rattle.std.proofs.lemmas.List.{map-append}
@@ -33,13 +33,13 @@ use Rattle.cell_join_tables.specs.declared.label_fault.LabelFault.TheVariants as
 use Rattle.cell_join_tables.specs.declared.label_fault.OtherLabel.{OtherLabel}
 use Rattle.cell_join_tables.proofs.JoinLemmas.{wholly}
 
--- ---- up to the last separator
+-- ---- the bytes up to the last separator
 
 module _ (separator : ℕ) where
   abbrev with_separator : List ℕ → List ℕ
   with_separator field = field ++ separator ∷ []
 
-  -- fields, each with a separator after it
+  -- the fields, with a separator after each
   abbrev pub front_of : List (List ℕ) → List ℕ
   front_of fields = flat_map with_separator fields
 
@@ -85,7 +85,7 @@ module _ (separator : ℕ) where
       ∙ field-before field (front_of fields ++ last)
       ∙ ap (λ rest. with_separator field ++ rest) (front-before fields last free)
 
-  -- ---- the parts of a line hold no separator
+  -- ---- the parts of a line contain no separator
 
   abbrev IsFree : List ℕ → Type 0
   IsFree part = All (λ b. (b == separator) ≡ false) part
@@ -100,7 +100,7 @@ module _ (separator : ℕ) where
       by false is [] free = (All-cons (λ x. (x == separator) ≡ false) b [] is (All-nil (λ x. (x == separator) ≡ false)), tt)
       by false is (part ∷ parts) free = (All-cons (λ x. (x == separator) ≡ false) b part is free.0, free.1)
 
--- ---- the fields of a line without labels are its cells, and a count
+-- ---- the fields of a line without labels are its cells and a count
 
 module _ (null_text : List ℕ) where
   cell-text : (field : List ℕ) (cell : CellValue) → cell_of_field null_text field ≡ Some cell
@@ -122,7 +122,7 @@ module _ (null_text : List ℕ) where
       by true same e = (let own : None ≡ cell = cc in same refl ∙ ap (cell_text null_text) own)
       by false same e = in-range (whole_in_range field) e
 
-  -- the cells as they are printed, and what comes after them
+  -- the fields are the printed cells and one last field
   record AreCells (fields : List (List ℕ)) (cells : Combination) : Type 0 where
     last : List ℕ
     are : fields ≡ map (cell_text null_text) cells ++ last ∷ []
@@ -163,7 +163,7 @@ last-free P [] last all = all.0
 last-free P (field ∷ fields) last all = last-free P fields last all.1
 
 module _ (format : FormatValue) (plain : format.labels ≡ false) where
-  -- the cells of a combination, with a separator after each
+  -- the printed cells of a combination, with a separator after each
   abbrev cells_front : Combination → List ℕ
   cells_front k = front_of format.separator (map (cell_text format.null_text) k)
 
@@ -221,7 +221,7 @@ module _ (format : FormatValue) (plain : format.labels ≡ false) where
       all-at IsPlain t line all.0 (subst (λ lines. Contains lines line) (sym same) has.1.1)
   on-line (t ∷ texts) (suc i) line all has = on-line texts i line all.1 has
 
-  -- ---- lines
+  -- ---- the lines of a text without labels
 
   line-plain : (e : LabelledEntry) → IsPlain e.0 → counted_line e ≡ entry_line format (plain_entry e)
   line-plain e is = ap (λ front. (front ++ decimal e.1) ++ codes "\n") is

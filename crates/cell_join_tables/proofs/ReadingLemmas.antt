@@ -1,4 +1,4 @@
--- The entries that a text is read as: in order, and none counts nothing.
+-- The entries read from a text are in order, and each count is above 0.
 use Rattle.std.proofs.Common.{◌≡◌, ℕ, ◌<◌, List, [], ◌∷◌, length, Bool, true, false, ◌&&◌, ◌==◌, nat_lt, Option, Some, None, Result, Ok, Err, refl, cond, decimal, subst}
 use Rattle.std.proofs.lemmas.Bool.{ltb-true}
 use Rattle.std.proofs.lemmas.List.Elements.{All-cons}
@@ -68,7 +68,7 @@ spelled-positive format line e is = by format.labels is
     by true so = positive-labelled format.null_text (slice_split (λ b. b == format.separator) line) e so
     by false so = positive format.null_text (slice_split (λ b. b == format.separator) line) e so
 
--- ---- an entry is greater than the one before it
+-- ---- an entry is larger than the entry before it
 
 abbrev Follows : Option Combination → Combination → Type 0
 Follows None k = Unit {0}
@@ -177,7 +177,7 @@ lines-listed format width fails number last (line ∷ next ∷ lines) =
     (then-listed number last (next_entry format width last line) more (next-so format width last line)
     (λ e. lines-listed format width fails (line_after number) (Some e.0) (next ∷ lines)))
 
--- what a text is read as is in order
+-- the entries read from a text are in order, with counts above 0
 pub reading-listing : (format : FormatValue) (width : ℕ) (text : Coming)
     → IsListing (reading_of format width text).entries
 reading-listing format width text =

@@ -1,4 +1,4 @@
--- One step of a merge of tables: the smallest combination of all.
+-- One step of a merge of tables takes the smallest combination of all tables.
 use Rattle.std.proofs.Common.{◌≡◌, ◌≢◌, ℕ, ◌+◌, List, [], ◌∷◌, map, Bool, true, false, Option, Some, None, refl, ap, ◌∙◌, cond, subst}
 use Rattle.std.specs.List.{AllByRecursion}
 use Rattle.std.specs.Ordering.{is_eq, ordering_reverse}
@@ -38,7 +38,7 @@ greater-is Equal h e = cc
 greater-is Greater h e = refl
 
 module _ (k : Combination) where
-  -- an entry that is of the combination
+  -- the count of an entry with the combination is added to the first entry
   taken-of : (e : Combination × ℕ) (es m : Pairs) (o : Option ℕ) → e.0 ≡ k → BeginsAbove k m
       → merged_of (e ∷ es) (put_first k o m) ≡ put_first k (sum_if_any (Some e.1) o) (merged_of es m)
   taken-of e es [] None same above = (λ i. (same i, e.1) ∷ merged_of es [])
@@ -54,7 +54,7 @@ module _ (k : Combination) where
       ((k, n) ∷ merge_entry e (merged_of es) m)) equal
       ∙ (λ i. (same i, e.1 + n) ∷ merged_of es m)
 
-  -- one that is larger
+  -- an entry with a larger combination stays in the merge of the rest
   left-of : (e : Combination × ℕ) (es m : Pairs) (o : Option ℕ) → combination_cmp e.0 k ≡ Greater
       → merged_of (e ∷ es) (put_first k o m) ≡ put_first k o (merged_of (e ∷ es) m)
   left-of e es m None greater = refl

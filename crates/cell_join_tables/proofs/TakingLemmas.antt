@@ -1,4 +1,4 @@
--- The first entries of texts taken: what that makes of the merge of what they are read as.
+-- Taking the first entries of texts takes the first entry of the merge.
 use Rattle.std.proofs.Common.{◌≡◌, ◌≢◌, ℕ, zero, suc, ◌+◌, ◌<◌, ◌≤◌, ◌^◌, List, [], ◌∷◌, length, map, fold, get_or, Bool, true, false, Option, Some, None, unwrap_or, refl, ap, sym, ◌∙◌, arith, cond, subst, option_map}
 use Rattle.std.proofs.lemmas.List.Elements.{All-head, All-tail}
 use Rattle.std.specs.List.{AllByRecursion, Contains}
@@ -27,7 +27,7 @@ use Rattle.cell_join_tables.specs.declared.join_fault.JoinFault.TheVariants.{Tex
 use Rattle.cell_join_tables.proofs.FaultOrderLemmas.{all-on, none-before, stops-first}
 use Rattle.cell_join_tables.proofs.StepLemmas.{least-first, merges-all}
 
--- ---- counts that may be, from either end
+-- ---- sums of optional counts, from either end
 
 pub sum-regrouped : (a b c : Option ℕ) → sum_if_any (sum_if_any a b) c ≡ sum_if_any a (sum_if_any b c)
 sum-regrouped None b c = refl
@@ -40,7 +40,7 @@ module _ (k : Combination) where
   first-counted [] = refl
   first-counted (e ∷ es) = refl
 
-  -- ---- what is left
+  -- ---- the entries that are left
 
   pub past-listing : (es : Pairs) → IsListing es → IsListing (past_first k es)
   unfolding IsStrictlySortedBy
@@ -90,7 +90,7 @@ head-by format text (Some entry) (Some coming) r is =
     = ap (option_map (λ (x : TableReading). first_entry x.entries)) is in
     cc
 
--- the head of a text is the first entry that it is read as
+-- the head of a text is the first entry of its reading
 pub head-read : (format : FormatValue) (text : TextValue) (r : TableReading) → reading_from format text ≡ Some r
     → first_entry r.entries ≡ text.head
 head-read format text r is = head-by format text text.head text.coming r is
@@ -101,7 +101,7 @@ end-by format text None None r none is = cc
 end-by format text None (Some coming) r none is = cc
 end-by format text (Some entry) o r none is = cc
 
--- a text of which the first entry was read has no error before it
+-- a text that was opened without an entry has no error
 pub no-entry : (format : FormatValue) (text : TextValue) (r : TableReading) → reading_from format text ≡ Some r
     → r.entries ≡ [] → r.fault ≡ None
 no-entry format text r is none =
@@ -146,7 +146,7 @@ module _ (format : FormatValue) (k : Combination) where
         begins xs rs rest (All-tail IsNotBefore x xs least) all.1,
       )
 
-  -- what is beyond 64 bits at the heads is so in all
+  -- a sum of the heads beyond 64 bits is also beyond 64 bits in all tables
   pub beyond : (tables : List Pairs) (total : Option ℕ) (rest : Pairs) → AllByRecursion IsListing tables
       → merge_of tables ≡ put_first k total rest → 2 ^ 64 ≤ unwrap_or total 0 → 2 ^ 64 ≤ sum_by (count_in k) tables
   beyond tables None rest all is high = absurd (omega (arith, high))
@@ -158,7 +158,7 @@ module _ (format : FormatValue) (k : Combination) where
       ∙ beside-merge tables (merge_of tables) (merges-all tables all) k in
       subst (λ m. 2 ^ 64 ≤ m) sum high
 
--- each text is at its end
+-- if each text is at its end, nothing is left to read
 pub all-ended : (format : FormatValue) (texts : List TextValue) → All (λ text. text.head ≡ None) texts
     → (readings : List TableReading) → map (λ text. reading_from format text) texts ≡ map Some readings
     → readings ≡ map (λ reading. ended) readings
@@ -172,4 +172,4 @@ all-ended format (x ∷ xs) done (r ∷ rs) known =
     let here : r ≡ ended = end-by format x x.head x.coming r (All-head P x xs done) one in
     λ i. here i ∷ all-ended format xs (All-tail P x xs done) rs rest i
 
--- ---- a combination that a text begins with has a count
+-- ---- a combination with which a text begins has a count

@@ -16,7 +16,7 @@ pub record StopsBehind (k : Combination) (readings : List TableReading) (text : 
   pub place : slice_get (map fault_place readings) text ≡ Some (Some (Some k))
   pub others : (other : ℕ) (reading : TableReading) → other < text → slice_get readings other ≡ Some reading → past_first k reading.entries ≡ [] → reading.fault ≡ None
 
--- an error of a text is where the text stops; other errors are not restricted
+-- an error of a text is the error at which the text stops; other errors are not restricted
 abbrev pub IsFaultOfText : Combination → List TableReading → JoinFault → Type 0
 IsFaultOfText k readings (Text text fault) = StopsBehind k readings text fault
 IsFaultOfText k readings (TooMany j) = Unit {0}

@@ -219,7 +219,7 @@ pub fn join_texts<R: Source + Drop, W: Sink>(
         → result.fault ≡ None
         → AreJoinedLabels format.now texts (W.taken out.old) (W.taken out.new) result.written }
     // If the error is in a text, it is the text's first error. Among the errors of all texts, it occurs before any
-    // entry or after the smallest combination; if several errors do, the error of the first text is reported.
+    // entry or after the smallest combination; if several errors occur there, the first text with an error is reported.
     // Otherwise there are too many counts or entries in the merge, or two texts have different labels for a
     // combination, and no error occurs after a smaller combination.
     ensures fault { (texts : List Coming) → Give R.coming sources.items texts
@@ -227,7 +227,7 @@ pub fn join_texts<R: Source + Drop, W: Sink>(
     // Different labels are reported with their line in the text.
     ensures line { (texts : List Coming) → Give R.coming sources.items texts
         → IfSome result.fault (IsOnLine (labels_of_texts format.now texts)) }
-    // With an error, the sink has accepted the lines of the first entries, or a prefix of these if a write failed.
+    // With an error, the sink has accepted the lines of the first entries or, if a write failed, a prefix of them.
     ensures written { (texts : List Coming) → Give R.coming sources.items texts
         → IfSome result.fault (HasLabelledWritten format.now texts (W.taken out.old)
         (W.taken out.new) result.written) }
@@ -241,8 +241,8 @@ pub fn join_texts<R: Source + Drop, W: Sink>(
         → Give R.coming sources.items texts
         → Contains (readings_of format.now texts) reading → IsFaultyAtOnce reading
         → out.new ≡ out.old }
-    // Without an error, no call of the sink failed, and it was flushed once. For `Write`, a call failed, in this run or
-    // before.
+    // Without an error, no call of the sink failed, and it was flushed once. If the error is `Write`, a call failed in
+    // this run or before.
     ensures sound { result.fault ≡ None
         → W.faults out.new ≡ after_flush (W.faults out.old) false }
     ensures write { result.fault ≡ Some (LabelFault.Join JoinFault.Write)

@@ -60,8 +60,8 @@ pub record AgreeInFront (format : FormatValue) (k : Combination) (labelled : Lis
   pub agree : (i : ℕ) (text : TextValue) → i < count → is_other format k labelled (slice_index_or texts (slice_index_or places i 0) text) ≡ false
   pub next : count < length places → (text : TextValue) → goes_on_with k (slice_index_or texts (slice_index_or places count 0) text) ≡ false
 
--- exactly the lines with which texts continue and that have the combination were skipped, for any readings of the texts
--- that are in order
+-- exactly the lines with the combination with which texts continue were skipped, for any readings of the texts that are
+-- in order
 abbrev pub LeavesLines : FormatValue → Combination → List TextValue → List TextValue → Type 0
 LeavesLines format k old new = (readings : List TableReading) → map (λ text. reading_from format text) old ≡ map Some readings → AllByRecursion IsListing (tables_of readings)
     → map (λ text. labelled_from format text) new ≡ map (λ text. option_map (past_labelled k) (labelled_from format text)) old
@@ -75,7 +75,7 @@ pub record HasLabelledStep {S : Type 0} (format : FormatValue) (old new : List T
   pub own : Contains (labelled_heads format old) (Some entry.0)
   pub appends : Appends taken faults out block (counted_line entry) now after
 
--- the lines before the remaining ones are among these
+-- the lines read before the remaining lines are among these lines
 abbrev pub IsReadPast : List Labelled → List Labelled → List Labelled → Type 0
 IsReadPast done whole left = (passed : List Labelled) × ((whole ≡ passed ++ left) × AllByRecursion (λ line. Contains done line) passed)
 
@@ -85,7 +85,7 @@ ArePassed done [] (left ∷ lefts) = ⊥
 ArePassed done (whole ∷ wholes) [] = ⊥
 ArePassed done (whole ∷ wholes) (left ∷ lefts) = IsReadPast done whole left × ArePassed done wholes lefts
 
--- all lines of the texts that were skipped are among these entries, whose labels are the texts'
+-- all skipped lines of the texts are among these entries, and each entry has labels from a text
 pub record HasPassed (format : FormatValue) (wholes : List (List Labelled)) (texts : List TextValue) (done : List LabelledEntry) : Type 0 where
   pub left : List (List Labelled)
   pub known : map (λ text. labelled_from format text) texts ≡ map Some left

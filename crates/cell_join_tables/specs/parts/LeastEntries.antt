@@ -1,4 +1,4 @@
--- The entries of the smallest combination, read one after the other.
+-- The entries of the smallest combination, read one after another.
 use Rattle.std.specs.Prelude.{ℕ, ◌≡◌, ◌+◌, ◌≤◌, List, [], ◌∷◌, length, map, Option, Some, None}
 use Rattle.std.specs.List.{AllByRecursion}
 use Rattle.cell_stats_combinations.specs.Combinations.{Combination}

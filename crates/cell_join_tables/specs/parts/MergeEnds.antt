@@ -22,7 +22,7 @@ pub record HasOpened {R X : Type 0} (coming : R → Option Coming) (read : X →
   pub known : map read texts ≡ map Some first
   pub whole : readings_of format comings ≡ first ++ readings_from format width others
 
--- the first texts were opened and are as `see` shows, and the others are given
+-- the first texts were opened, `see` shows what was read from them, and the other texts are given
 pub record HasSeen {R X Y : Type 0} (coming : R → Option Coming) (see : X → Option Y) (of : Coming → Y) (left : List R) (texts : List X) (comings : List Coming) : Type 0 where
   pub others : List Coming
   pub give : Give coming left others
@@ -32,7 +32,7 @@ pub record HasSeen {R X Y : Type 0} (coming : R → Option Coming) (see : X → 
 abbrev pub AreEnded : {X : Type 0} → (X → Option TableReading) → List X → Type 0
 AreEnded read texts = (readings : List TableReading) → map read texts ≡ map Some readings → readings ≡ map (λ reading. ended) readings
 
--- how the appended lines relate to the merge, for each result: all lines, or the first ones before an error
+-- how the appended lines relate to the merge, for each result: all lines, or the first lines before an error
 abbrev pub EndsSo : List TableReading → Pairs → Result Unit JoinFault → Type 0
 EndsSo readings done (Ok unit) = AreTables readings × (merge_of (tables_of readings) ≡ done)
 EndsSo readings done (Err fault) = IsJoinFault readings fault × ((others : Pairs) × (merge_of (tables_of readings) ≡ done ++ others))

@@ -5,7 +5,7 @@ use Rattle.std.specs.declared.cmp.Ordering.TheVariants.{Less, Equal, Greater}
 use Rattle.cell_stats_combinations.specs.Combinations.{Combination, combination_cmp}
 use Rattle.cell_stats.specs.CategoryTables.{Pairs}
 
--- one of three values, for each order
+-- one of three values, chosen by the order
 abbrev pub by_order : Ordering → Pairs → Pairs → Pairs → Pairs
 by_order Less less equal greater = less
 by_order Equal less equal greater = equal
