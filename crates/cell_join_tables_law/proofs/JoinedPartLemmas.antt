@@ -1,4 +1,4 @@
--- Texts that are printed of parts are read as the tables of the parts, whose merge is the table of the full map.
+-- Texts printed for parts are read as the tables of the parts, and their merge is the full map's table.
 use Rattle.std.proofs.Common.{◌≡◌, ℕ, ◌+◌, ◌-◌, ◌*◌, ◌<◌, ◌≤◌, ◌^◌, ◌==◌, ◌⊎◌, inl, inr, List, [], ◌∷◌, length, map}
 use Rattle.std.proofs.Common.{Bool, true, false, cond, None, refl, ap, sym, subst, ◌∙◌, arith, mul-le-mul}
 use Rattle.std.proofs.lemmas.List.Elements.{All-nil, All-cons, All-head, All-tail}
@@ -24,11 +24,11 @@ use Rattle.cell_join_tables_law.specs.PrintedParts.{CanBeReadBack, JoinedAsOne, 
 use Rattle.cell_join_tables_law.proofs.PartCellLemmas.{part-of-cells, whole-of-cells}
 use Rattle.cell_join_tables_law.proofs.PartEntryLemmas.{count-fits, entry-printed, entry-wide, table-length}
 
--- a table that is read to its end
+-- the reading of a table to its end, without an error
 abbrev pub table_read : Pairs → TableReading
 table_read entries = record { entries = entries; fault = None }
 
--- no width is known, or this one
+-- the width is unknown, or equals the given one
 abbrev pub MayWant : ℕ → ℕ → Type 0
 MayWant width wanted = (wanted ≡ 0) ⊎ (wanted ≡ width)
 
@@ -54,7 +54,7 @@ module _ (format : FormatValue) (picks : List ℕ) (can : CanBeReadBack format p
   abbrev FitsIn : Rectangle → Type 0
   FitsIn r = (r.top + r.rows ≤ rows) × (r.left + r.cols ≤ cols)
 
-  -- a part lies in the full map, and has its cells
+  -- the part is inside the full map, and has the full map's cells
   record LiesIn (part : Part) : Type 0 where
     fits : FitsIn part.place
     is : IsPart part.place whole part.maps

@@ -1,4 +1,4 @@
--- What the lines of a text that is printed with labels have before their counts.
+-- The cells and labels before the counts in the lines of a text printed with labels.
 use Rattle.std.proofs.Common.{◌≡◌, ℕ, ℤ, ◌+◌, ◌*◌, ◌<◌, ◌≤◌, ◌^◌, max, List, [], ◌∷◌, ◌++◌, length, map}
 use Rattle.std.proofs.Common.{flat_map, true, false}
 use Rattle.std.proofs.Common.{◌==◌, Some, None, refl, ap, sym, ◌∙◌, arith, cond, codes, decimal}
@@ -32,7 +32,7 @@ use Rattle.cell_join_tables.proofs.PlainLemmas.{front-before, front_of, joined-f
 -- ---- the lines of entries
 
 module _ (format : FormatValue) (labels : Labelling) where
-  -- the cells of a combination and their labels
+  -- the printed cells of a combination, with their labels
   abbrev pub front : Combination → List ℕ
   front k = front_of format.separator (labelled_fields format.null_text labels 0 k)
 
@@ -64,7 +64,7 @@ module _ (format : FormatValue) (labels : Labelling) where
         ap (before_count format.separator) (joined-front format.separator fields (decimal entry.1))
         ∙ front-before format.separator fields (decimal entry.1) free
 
-    -- each line has the labels of its combination
+    -- each line of the text has the cells and labels of its combination
     pub text-labelled : (entries : Pairs) → All IsGood entries
         → labelled_in format (labelled_text format labels entries) ≡ map (λ entry. (entry.0, front entry.0)) entries
     text-labelled [] are = refl
@@ -79,7 +79,7 @@ module _ (format : FormatValue) (labels : Labelling) where
         (line-back format labels clear with_labels apart width entry is)
         ∙ (λ i. (entry.0, front-is entry is i) ∷ text-labelled entries (All-tail IsGood entry entries are) i)
 
-  -- how long a line is at most
+  -- a label is at most as long as 7 bytes or the longest label
   label-length : (most column : ℕ) (cell : CellValue)
       → ((column : ℕ) (category : ℤ) → length (labels column category) ≤ most)
       → length (label_in labels column cell) ≤ max 7 most

@@ -1,5 +1,5 @@
--- Texts that are printed with labels of parts are read as the tables of the parts, whose merge is the table of
--- the whole, and each of their lines has the labels of the full map.
+-- Texts printed with labels for parts are read as the tables of the parts. Their merge is the full map's table, and
+-- each of their lines has the full map's labels.
 use Rattle.std.proofs.Common.{◌≡◌, ℕ, zero, suc, ◌+◌, ◌-◌, ◌*◌, ◌<◌, ◌≤◌, ◌^◌, inl, List, [], ◌∷◌, length}
 use Rattle.std.proofs.Common.{map, get_or, max}
 use Rattle.std.proofs.Common.{false, refl, ap, sym, subst, ◌∙◌, arith, mul-le-mul, unwrap_or}
@@ -48,7 +48,7 @@ module _ (format : FormatValue) (picks : List ℕ) (rows cols : ℕ) (whole : Li
   abbrev FitsIn : Rectangle → Type 0
   FitsIn r = (r.top + r.rows ≤ rows) × (r.left + r.cols ≤ cols)
 
-  -- a part lies in the full map, and has its cells and labels
+  -- the part is inside the full map, and has its cells and labels
   record LiesIn (part : Part) : Type 0 where
     fits : FitsIn part.place
     is : IsPart part.place whole part.maps
@@ -145,12 +145,12 @@ module _ (format : FormatValue) (picks : List ℕ) (rows cols : ℕ) (whole : Li
     few = omega (arith, table-length whole picks rows cols skip, small);
   }
 
-  -- ---- labels
+  -- ---- the labels of parts
 
   abbrev front_of_entry : Combination × ℕ → Labelled
   front_of_entry entry = (entry.0, front format labels entry.0)
 
-  -- an entry is listed with its labels
+  -- the table lists the combination with its labels
   abbrev StandsIn : Pairs → Combination → Type 0
   StandsIn table k = Contains (map front_of_entry table) (k, front format labels k)
 
@@ -174,7 +174,7 @@ module _ (format : FormatValue) (picks : List ℕ) (rows cols : ℕ) (whole : Li
   by-recursion P [] all = tt
   by-recursion P (e ∷ entries) all = (All-head P e entries all, by-recursion P entries (All-tail P e entries all))
 
-  -- a combination that a part lists is counted
+  -- each combination in a part's table is counted in the full table
   part-counts : (part : Part) (table : Pairs)
       → ((k : Combination) → 0 < count_in k (table_of_part part) → StandsIn table k)
       → AllByRecursion (λ (e : Combination × ℕ). StandsIn table e.0) (table_of_part part)

@@ -1,4 +1,4 @@
--- A text with labels is read as the entries that it was printed of.
+-- A text with labels is read as the entries for which it was printed.
 use Rattle.std.proofs.Common.{◌≡◌, ℕ, ℤ, zero, suc, ◌+◌, ◌<◌, ◌≤◌, ◌^◌, List, [], ◌∷◌, ◌++◌, length, map, flat_map}
 use Rattle.std.proofs.Common.{get_or, slice_get, Bool, true, false, ◌&&◌, ◌||◌, ◌==◌, not, Option, Some, None, Ok}
 use Rattle.std.proofs.Common.{refl, ap, sym, ◌∙◌, arith, codes, cond, decimal, subst}
@@ -28,7 +28,7 @@ use Rattle.cell_join_tables_law.proofs.PrintedFieldLemmas.{joined-free, null-fre
 use Rattle.cell_join_tables_law.proofs.PrintedTableLemmas.{digit-apart, digit-feed, feed-apart, minus-apart}
 use Rattle.cell_join_tables_law.proofs.PrintedTableLemmas.{read-all, width-wanted}
 
--- ---- bytes that are in no field
+-- ---- bytes that occur in no field
 
 module _ (p : ℕ → Bool) (digits : (b : ℕ) → is_digit b ≡ true → p b ≡ false) (minus : p 45 ≡ false)
     (format : FormatValue) (labels : Labelling) (null : All (λ b. p b ≡ false) format.null_text)
@@ -47,7 +47,7 @@ module _ (p : ℕ → Bool) (digits : (b : ℕ) → is_digit b ≡ true → p b 
       (All-cons IsWithout (label_in labels column cell) rest (label_free column cell) (labelled-free (column + 1)
       cells n (All-tail IsCell cell cells are) fits))
 
--- ---- the entry of what is printed of it
+-- ---- a printed entry is read back
 
 labelled-cell-back : (null_text : List ℕ) (labels : Labelling) (column : ℕ) (cell : CellValue)
     → category_of_field null_text ≡ None → IsCell cell → labelled_cell null_text (cell_text null_text cell) (label_in

@@ -1,4 +1,4 @@
--- How long the line of an entry is at most.
+-- The largest length of an entry's line.
 use Rattle.std.proofs.Common.{◌≡◌, ℕ, ℤ, ◌+◌, ◌*◌, ◌<◌, ◌≤◌, ◌^◌, max, pos, negsuc, List, [], ◌∷◌, length, Some, None}
 use Rattle.std.proofs.Common.{true, arith, length-append}
 use Rattle.std.proofs.lemmas.Int.{ints}

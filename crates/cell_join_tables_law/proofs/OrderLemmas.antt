@@ -1,4 +1,4 @@
--- The stretches of bands are in order.
+-- The runs of tiles are in order.
 use Rattle.std.proofs.Common.{◌≡◌, ℕ, ◌+◌, ◌<◌, ◌≤◌, ◌^◌, ◌==◌, List, [], ◌∷◌, ◌++◌, length, take, drop, Bool, true, false, cond, Option, Some, None, refl, sym, subst, arith, ◌⊎◌, inl, inr, ⊎_elim, length-take}
 use Rattle.std.specs.Prelude.{All}
 use Rattle.std.proofs.lemmas.List.Elements.{All-drop, All-head, All-tail, All-take}
@@ -12,12 +12,12 @@ IsNumber n = (0 < n) × (n < 2 ^ 64)
 abbrev IsFew : ℕ → Type 0
 IsFew n = n < 2 ^ 31
 
--- no stretch before is of this band or a later one
+-- the run before, if there is one, belongs to an earlier tile
 abbrev IsBefore : ℕ → Option Stretch → Type 0
 IsBefore band None = Unit {0}
 IsBefore band (Some s) = s.band < band
 
--- what comes after a band begins with whichever later one
+-- the rest can be read after any run of an earlier tile
 abbrev BeginsLater : ℕ → List Stretch → Type 0
 BeginsLater band rest = (before : Option Stretch) → IsBefore band before → AreReadable before rest
 

@@ -1,4 +1,4 @@
--- The combinations of maps and of their parts: each is as wide as the picks, and has cells.
+-- Each combination of maps, or of their parts, has one valid cell per pick.
 use Rattle.std.proofs.Common.{◌≡◌, ℕ, zero, suc, ◌+◌, ◌<◌, List, [], ◌∷◌, length, map, get_or, slice_get, Option}
 use Rattle.std.proofs.Common.{Some, None, refl, sym, subst, arith}
 use Rattle.std.proofs.lemmas.List.{length-map}
@@ -13,7 +13,7 @@ use Rattle.cell_stats_combinations.specs.Combinations.{Combination, cell_of_map,
 use Rattle.cell_stats_combinations.specs.Combinations.{all_combinations}
 use Rattle.cell_parts.specs.Parts.{Rectangle, IsPart}
 
--- ---- cells of maps
+-- ---- the cells of maps
 
 at-or : {X : Type 0} (P : X → Type 0) (xs : List X) (i : ℕ) (d : X) → All P xs → P d → P (get_or xs i d)
 at-or P [] i d all other = other
@@ -34,9 +34,9 @@ cell-of-maps maps are row col place = by (slice_get maps place) (λ m e. subst (
     by None known = tt
     by (Some m) known = cell-in m row col (known m refl)
 
--- ---- combinations
+-- ---- the combinations of cells
 
--- as wide as the picks, and of cells
+-- the combination is as wide as the picks, and its cells are valid
 pub record IsOfCells (picks : List ℕ) (k : Combination) : Type 0 where
   pub wide : length k ≡ length picks
   pub cells : All IsCell k
@@ -68,7 +68,7 @@ module _ (maps : List Grid) (rows cols : ℕ)
         cells = picked row col (omega (arith, high)) (omega (arith, wide)) picks;
       }))
 
--- the cells of the full map, and the cells of a part
+-- the combinations of the full map, and of a part, have valid cells
 pub whole-of-cells : (whole : List Grid) → All (λ m. AreCells m.rows) whole → (rows cols : ℕ) (picks : List ℕ)
     → All (IsOfCells picks) (all_combinations whole picks rows cols)
 whole-of-cells whole are rows cols picks =

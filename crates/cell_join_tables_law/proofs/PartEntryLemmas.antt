@@ -1,4 +1,4 @@
--- The entries of the table of cells are printed so that they are read back, and there are no more of them than cells.
+-- The entries of a table are printed so that they are read back, and there are at most as many entries as cells.
 use Rattle.std.proofs.Common.{◌≡◌, ℕ, ◌+◌, ◌*◌, ◌<◌, ◌≤◌, ◌^◌, max, List, [], ◌∷◌, length, get_or, true, false, not}
 use Rattle.std.proofs.Common.{cond, refl, ap, sym, subst, ◌∙◌, arith, zero-add}
 use Rattle.std.proofs.lemmas.List.Elements.{All-head, All-tail, Contains-get_or}
@@ -22,7 +22,7 @@ use Rattle.cell_join_tables_law.specs.PrintedParts.{CanBeReadBack}
 use Rattle.cell_join_tables_law.proofs.LineLengthLemmas.{line-length}
 use Rattle.cell_join_tables_law.proofs.PartCellLemmas.{IsOfCells}
 
--- a combination that is counted has what each cell's has
+-- a combination that is counted has every property that all cells have
 counted-is : (P : Combination → Type 0) (k : Combination) (cells : List Combination) → All P cells
     → 0 < count_of k cells → P k
 counted-is P k [] all some = absurd (omega (arith, some))
@@ -35,7 +35,7 @@ counted-is P k (x ∷ cells) all some =
           counted-is P k cells (All-tail P x cells all) (omega (arith, some, fewer))
     ] refl
 
--- an entry occurs among the cells, and its count is their number
+-- the entry occurs among the cells, and its count is how many times
 pub record StandsFor (cells : List Combination) (entry : Combination × ℕ) : Type 0 where
   pub some : 0 < entry.1
   pub count : entry.1 ≡ count_of entry.0 cells
@@ -93,7 +93,7 @@ module _ (maps : List Grid) (picks : List ℕ) (rows cols : ℕ) (skip : Skip) w
           short = omega (arith, line, wide, can.short);
         }
 
--- ---- how many entries there are
+-- ---- the number of entries
 
 length-sum : (es : Pairs) → All (λ entry. 0 < entry.1) es → length es ≤ sum_by (λ entry. entry.1) es
 length-sum [] some = omega arith

@@ -1,4 +1,4 @@
--- A field is read as what it was printed of.
+-- A printed field is read back as its value.
 use Rattle.std.proofs.Common.{◌≡◌, ℕ, zero, suc, ◌+◌, ◌-◌, ◌<◌, ◌≤◌, ◌^◌, ℤ, pos, negsuc, List, [], ◌∷◌, ◌++◌, length, map, Bool, true, false, ◌&&◌, ◌==◌, not, min, nat_lt, Option, Some, None, Result, Ok, Err, refl, ap, sym, ◌∙◌, arith, cond, decimal, subst}
 use Rattle.std.proofs.lemmas.Bool.{and_parts, leb-true, lt-ltb, eqb-true}
 use Rattle.std.proofs.lemmas.Bool.Decides.{nat_tests, Decides-eqb}
@@ -54,7 +54,7 @@ cell-back null_text (Some z) clear is = by (bytes_eq (signed_decimal z) null_tex
         cc
     by false e = rw (e, category-back z is) refl
 
--- ---- bytes that are in no field
+-- ---- bytes that occur in no field
 
 module _ (p : ℕ → Bool) (digits : (b : ℕ) → is_digit b ≡ true → p b ≡ false) (minus : p 45 ≡ false) where
   abbrev IsOut : ℕ → Type 0
@@ -82,7 +82,7 @@ module _ (p : ℕ → Bool) (digits : (b : ℕ) → is_digit b ≡ true → p b 
   fields-free format [] n null are fits = All-cons IsFree (decimal n) [] (count-free n fits) (All-nil IsFree)
   fields-free format (cell ∷ cells) n null are fits = All-cons IsFree (cell_text format.null_text cell) (entry_fields format (cells, n)) (cell-free format.null_text cell null (All-head IsCell cell cells are)) (fields-free format cells n null (All-tail IsCell cell cells are) fits)
 
-  -- what is joined by a byte that is out too
+  -- fields joined with a byte that fails the test contain only bytes that fail it
   pub joined-free : (c : ℕ) → p c ≡ false → (fields : List (List ℕ)) → All IsFree fields → All IsOut (join_with_byte c fields)
   joined-free c out [] all = All-nil IsOut
   joined-free c out (field ∷ []) all = All-head IsFree field [] all
@@ -98,7 +98,7 @@ null-free p (x ∷ xs) all =
     by true e = cc
     by false e = refl
 
--- ---- what is joined is cut again
+-- ---- joined fields are cut apart again
 
 pub split-joined : (c : ℕ) (field : List ℕ) (fields : List (List ℕ)) → All (λ text. All (λ b. (b == c) ≡ false) text) (field ∷ fields) → slice_split (λ b. b == c) (join_with_byte c (field ∷ fields)) ≡ field ∷ fields
 split-joined c field [] all = slice_split_none (λ b. b == c) field (All-head (λ text. All (λ b. (b == c) ≡ false) text) field [] all)
@@ -107,7 +107,7 @@ split-joined c field (next ∷ fields) all =
     slice_split_at (λ b. b == c) field c (join_with_byte c (next ∷ fields)) (All-head P field (next ∷ fields) all) ((Decides-eqb c c).1 refl)
     ∙ ap (λ parts. field ∷ parts) (split-joined c next fields (All-tail P field (next ∷ fields) all))
 
--- ---- the entry of what is printed of it
+-- ---- a printed entry is read back
 
 pub fields-back : (format : FormatValue) (cells : Combination) (n : ℕ) → category_of_field format.null_text ≡ None → All IsCell cells → 0 < n → n < 2 ^ 64 → entry_of_fields format.null_text (entry_fields format (cells, n)) ≡ Ok (cells, n)
 fields-back format [] n null are some fits = ap with_count (count-back n some fits)

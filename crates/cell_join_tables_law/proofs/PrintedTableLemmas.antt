@@ -1,4 +1,4 @@
--- A text is read as the entries that it was printed of.
+-- A text is read as the entries for which it was printed.
 use Rattle.std.proofs.Common.{◌≡◌, ℕ, ℤ, zero, suc, ◌+◌, ◌-◌, ◌<◌, ◌≤◌, ◌^◌, List, [], ◌∷◌, ◌++◌, length, map, flat_map, Bool, true, false, ◌&&◌, ◌||◌, ◌==◌, not, nat_lt, Option, Some, None, is_none, Result, Ok, Err, refl, ap, sym, ◌∙◌, arith, codes, cond, decimal, subst, ◌⊎◌, inl, inr, ⊎_elim}
 use Rattle.std.proofs.lemmas.Bool.{lt-ltb, le-ltb, and_parts}
 use Rattle.std.proofs.lemmas.Bool.Decides.{Decides-eqb, nat_tests}
@@ -29,7 +29,7 @@ use Rattle.cell_join_lines.proofs.TextLemmas.{more-lines, one_line}
 use Rattle.cell_join_tables_law.specs.PrintedTables.{IsClear, IsPrintedEntry, PrintedReadsAsItself, PrintsAsTables, ClearIsTested}
 use Rattle.cell_join_tables_law.proofs.PrintedFieldLemmas.{fields-back, fields-free, joined-free, null-free, split-joined}
 
--- a byte that is apart is not a digit, a minus sign or a line feed
+-- a clear byte is not a digit, a minus sign or a line feed
 pub digit-apart : (c : ℕ) → is_clear_byte c ≡ true → (b : ℕ) → is_digit b ≡ true → (b == c) ≡ false
 digit-apart c apart b digit = by (b == c) refl
   where
@@ -50,7 +50,7 @@ feed-apart c apart = grind (arith, nat_tests)
 pub digit-feed : (b : ℕ) → is_digit b ≡ true → (b == 10) ≡ false
 digit-feed b digit = grind (arith, nat_tests)
 
--- what is tested of a format
+-- if the test finds no category, there is none
 no-category : (o : Option ℤ) → is_none o ≡ true → o ≡ None
 no-category None e = refl
 no-category (Some z) e = cc
@@ -74,7 +74,7 @@ clear-tested format tested =
       no_data = λ labels. sym (ap (λ t. not t || blank) labels) ∙ fourth.1;
     }
 
--- entries whose lines are printed so are read back, line by line
+-- entries printed one per line, in this way, are read back line by line
 module _ (format : FormatValue) (width : ℕ) (line_bytes : Combination × ℕ → List ℕ) (IsGood : Combination × ℕ → Type 0)
     (spelled : (e : Combination × ℕ) → IsGood e → spelled_entry format (line_bytes e) ≡ Ok e)
     (free : (e : Combination × ℕ) → IsGood e → All (λ b. is_newline b ≡ false) (line_bytes e))
@@ -83,7 +83,7 @@ module _ (format : FormatValue) (width : ℕ) (line_bytes : Combination × ℕ �
   abbrev text_of : Pairs → List ℕ
   text_of entries = flat_map (λ e. line_bytes e ++ 10 ∷ []) entries
 
-  -- the lines of entries
+  -- the text of entries is split into the first entry's line and the other lines
   split-lines : (entry : Combination × ℕ) (entries : Pairs) → IsGood entry
       → slice_split is_newline (text_of (entry ∷ entries)) ≡ line_bytes entry ∷ slice_split is_newline (text_of
       entries)
@@ -91,7 +91,7 @@ module _ (format : FormatValue) (width : ℕ) (line_bytes : Combination × ℕ �
       ap (slice_split is_newline) (append_assoc (line_bytes entry) (10 ∷ []) (text_of entries))
       ∙ slice_split_at is_newline (line_bytes entry) 10 (text_of entries) (free entry is) refl
 
-  -- entries that may come after a combination, if there is one
+  -- the entries have this width, and come after the combination, if there is one
   abbrev MayFollow : ℕ → Option Combination → Pairs → Type 0
   MayFollow wanted None entries = is_as_wide wanted width ≡ true
   MayFollow wanted (Some last) entries = (length last ≡ width) × AllByRecursion (λ k. combination_cmp last k ≡ Less)
@@ -133,7 +133,7 @@ module _ (format : FormatValue) (clear : IsClear format) (plain : format.labels 
   abbrev line_bytes : Combination × ℕ → List ℕ
   line_bytes entry = join_with_byte format.separator (entry_fields format entry)
 
-  -- the fields of an entry are cut as they were joined
+  -- splitting an entry's line gives the fields that were joined
   cut-again : (cells : Combination) (n : ℕ) → All (λ text. All (λ b. (b == format.separator) ≡ false) text)
       (entry_fields format (cells, n)) → slice_split (λ b. b == format.separator) (line_bytes (cells, n)) ≡
       entry_fields format (cells, n)

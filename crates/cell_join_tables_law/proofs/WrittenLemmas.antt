@@ -1,4 +1,4 @@
--- The text of stretches in order is read as these stretches.
+-- The text of runs in order is read as these runs.
 use Rattle.std.proofs.Common.{◌≡◌, ℕ, zero, suc, pos, ◌+◌, ◌*◌, ◌<◌, ◌≤◌, ◌^◌, ◌==◌, nat_lt, max, List, [], ◌∷◌, ◌++◌, length, map, flat_map, Bool, true, false, cond, Option, Some, None, Result, Ok, Err, inl, refl, ap, sym, ◌∙◌, subst, arith, ◌⊎◌, inr, ⊎_elim, option_map}
 use Rattle.std.specs.Prelude.{All}
 use Rattle.std.specs.List.{AllByRecursion}
@@ -24,20 +24,20 @@ use Rattle.cell_join_lines.specs.AreasReading.{AreasReading, areas_format, areas
 use Rattle.cell_join_lines.specs.AreasText.{areas_text, stretch_line}
 use Rattle.cell_join_tables_law.specs.WrittenAreas.{AreReadable, Follows, IsReadable, TextReadsAsItself}
 
--- the entry that a stretch is written as
+-- the cells of the entry as which a run is written
 abbrev stretch_cells : Stretch → Combination
 stretch_cells s = Some (pos s.band) ∷ Some (pos s.first) ∷ Some (pos s.last) ∷ []
 
 abbrev entry_of : Stretch → Combination × ℕ
 entry_of s = (stretch_cells s, s.number)
 
--- ---- the text spells these entries
+-- ---- the text spells the entries of the runs
 
 same-text : (stretches : List Stretch) → areas_text stretches ≡ entries_text areas_format (map entry_of stretches)
 same-text [] = refl
 same-text (s ∷ stretches) = ap (λ (l : List ℕ). stretch_line s ++ l) (same-text stretches)
 
--- ---- in order
+-- ---- the runs are in order
 
 equal-first : (n : ℕ) (k l : Combination) → combination_cmp (Some (pos n) ∷ k) (Some (pos n) ∷ l) ≡ combination_cmp k l
 equal-first n k l = rw (le-ltb n n (omega arith)) refl
@@ -75,7 +75,7 @@ unfolding IsStrictlySortedBy
 ascend before [] are = tt
 ascend before (s ∷ stretches) are = (later-greater s stretches are.0 are.2, ascend (Some s) stretches are.2)
 
--- ---- printed entries
+-- ---- the printed entries
 
 clear : IsClear areas_format
 clear = record {
@@ -108,7 +108,7 @@ all-printed before [] are = All-nil (IsPrintedEntry areas_format 3)
 all-printed before (s ∷ stretches) are =
     All-cons (IsPrintedEntry areas_format 3) (entry_of s) (map entry_of stretches) (printed s are.0) (all-printed (Some s) stretches are.2)
 
--- ---- and read
+-- ---- reading the text
 
 number-back : (n : ℕ) → 0 < n → number_of_cell (Some (pos n)) ≡ Some n
 number-back n some = ap (λ (b : Bool). cond b (Some n) None) (lt-ltb 0 n some)

@@ -26,7 +26,7 @@ pub record IsClear (format : FormatValue) : Type 0 where
 abbrev pub ClearIsTested : Type 0
 ClearIsTested = (format : FormatValue) → is_clear format ≡ true → IsClear format
 
--- an entry of `width` cells, with a count from 1 to 2^64 - 1, whose line is not too long
+-- an entry of `width` cells, with a count between 1 and 2^64 - 1, whose line is not too long
 pub record IsPrintedEntry (format : FormatValue) (width : ℕ) (entry : Combination × ℕ) : Type 0 where
   pub wide : length entry.0 ≡ width
   pub cells : All IsCell entry.0
@@ -47,7 +47,7 @@ PrintsAsTables = (format : FormatValue) (maps : List Grid) (picks : List ℕ) (e
 abbrev pub AreClearLabels : FormatValue → Labelling → Type 0
 AreClearLabels format labels = (column : ℕ) (category : ℤ) → list_all (λ b. not (b == format.separator || is_newline b)) (labels column category) ≡ true
 
--- an entry of `width` cells, with a count from 1 to 2^64 - 1, whose line with labels is not too long
+-- an entry of `width` cells, with a count between 1 and 2^64 - 1, whose line with labels is not too long
 pub record IsLabelledEntry (format : FormatValue) (labels : Labelling) (width : ℕ) (entry : Combination × ℕ) : Type 0 where
   pub wide : length entry.0 ≡ width
   pub cells : All IsCell entry.0

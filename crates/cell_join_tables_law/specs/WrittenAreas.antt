@@ -4,7 +4,7 @@ use Rattle.cell_join_lines.specs.declared.stretch.Stretch.{Stretch}
 use Rattle.cell_join_lines.specs.AreasReading.{areas_reading_of}
 use Rattle.cell_join_lines.specs.AreasText.{areas_text, stretches_of}
 
--- the run can be read: its tile and clumps are from 1 to 2^31 - 1, and its number is from 1 to 2^64 - 1
+-- the run can be read: its tile and clumps are between 1 and 2^31 - 1, and its number is between 1 and 2^64 - 1
 pub record IsReadable (s : Stretch) : Type 0 where
   pub some_band : 0 < s.band
   pub band : s.band < 2 ^ 31
