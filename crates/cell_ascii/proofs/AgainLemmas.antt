@@ -32,7 +32,7 @@ comes_again bs n all times e enough (suc i) few =
 pub fewer_again : (bs : List ℕ) (n times fewer : ℕ) → fewer ≤ times → ComesAgain bs n times → ComesAgain bs n fewer
 fewer_again bs n times fewer le again i few = again i (omega arith)
 
--- the two parts of a list, put before the coming bytes, are the full list before them
+-- putting the two parts of a list before the coming bytes puts the full list before them
 joined : (m : ℕ) (bs : List ℕ) (c : Coming) → before_coming (take m bs) (before_coming (drop m bs) c) ≡ before_coming bs c
 joined m bs c = ap (λ (l : List ℕ). record { bytes = l; fails = c.fails }) (sym (append_assoc (take m bs) (drop m bs) c.bytes) ∙ ap (λ (l : List ℕ). l ++ c.bytes) (take-append-drop m bs))
 
@@ -60,7 +60,7 @@ again_holds h bs v n times within front again i few =
     front_holds h (drop (i * n) bs) v n inside (subst (λ (l : List ℕ). HoldsCell h l v n) (sym (again i few)) front)
 
 module _ (h : HeaderValue) (bs : List ℕ) where
-  -- held cells may be followed by a cell and `times` repeats of the cell
+  -- bytes that hold some cells, followed by a cell and `times` repeats of the cell, hold all of these cells
   many_times : (cells : List CellValue) (count m : ℕ) (v : CellValue) (n times : ℕ) → HoldsCells h bs cells count m
       → ((i : ℕ) → i ≤ times → HoldsCell h (drop (i * n) (drop m bs)) v n)
       → HoldsCells h bs (cells ++ replicate (1 + times) v) (count + (1 + times)) (m + (n + times * n))

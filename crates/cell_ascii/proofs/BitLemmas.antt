@@ -61,7 +61,7 @@ record NextBlank (xs : List ℕ) (at k : ℕ) : Type 0 where
   pub word : list_all is_word_byte (take (k - at) (drop at xs)) ≡ true
   pub blank : is_space (get_or xs k 0) ≡ true
 
--- the first set lane from index `at` on is the next blank
+-- the first set lane from index `at` on marks the next blank
 next_blank : (xs : List ℕ) (at : ℕ) → unset (cleared_front at (map is_space xs)) < length xs → NextBlank xs at (unset (cleared_front at (map is_space xs)))
 next_blank [] zero l = absurd (omega arith)
 next_blank [] (suc at) l = absurd (omega arith)
@@ -108,14 +108,14 @@ module _ (bs : List ℕ) (buffered : 64 ≤ length bs) (at : ℕ) where
   inside : 0 < ends → unset (cleared_front at (blanks bs)) < 64
   inside some = omega (arith, some_set (cleared_front at (blanks bs)) some, size)
 
-  -- the lowest set bit is the next blank from the place on
+  -- the lowest set bit marks the next blank from the place on
   blank_ahead : 0 < ends → (count_trailing_zeros 64 ends < 64) × NextBlank (take 64 bs) at (count_trailing_zeros 64 ends)
   blank_ahead some =
       let k = unset (cleared_front at (blanks bs)) in
       let within : k < length (take 64 bs) = omega (arith, inside some, wide) in
       rw (lowest some) (inside some, next_blank (take 64 bs) at within)
 
-  -- the other set bits are the blanks after the next blank
+  -- the other set bits mark the blanks after the next blank
   next_ends : 0 < ends → bit_and ends (ends - 1) ≡ mask_l (cleared_front (count_trailing_zeros 64 ends + 1) (blanks bs))
   next_ends some =
       let k = unset (cleared_front at (blanks bs)) in
@@ -125,7 +125,7 @@ module _ (bs : List ℕ) (buffered : 64 ≤ length bs) (at : ℕ) where
       ∙ ap mask_l (cleared-cleared (k + 1) at (blanks bs) le)
       ∙ ap (λ (n : ℕ). mask_l (cleared_front (n + 1) (blanks bs))) (sym (lowest some))
 
--- the lowest set bit of `ends` is the first byte from `at` on that ends a word
+-- the lowest set bit of `ends` marks the first byte from `at` on that ends a word
 pub record NextEnd (bs : List ℕ) (at ends : ℕ) : Type 0 where
   pub behind : at ≤ count_trailing_zeros 64 ends
   pub few : count_trailing_zeros 64 ends < 64

@@ -77,11 +77,11 @@ digits_number b bs e =
     let parts = both (is_digit b) (list_all is_digit bs) e in
     rw (no_minus b parts.0, no_plus b parts.0, e) refl
 
--- a list is the items before a place, the item there and the items after it
+-- a list consists of the items before an index, the item at the index and the items after it
 cut_at : (xs : List ℕ) (i : ℕ) → i < length xs → xs ≡ take i xs ++ slice_index_or xs i 0 ∷ drop (i + 1) xs
 cut_at xs i l = let e : drop i xs ≡ slice_index_or xs i 0 ∷ drop (i + 1) xs = rw add-one (drop-cons xs i 0 l) in sym (take-append-drop i xs) ∙ ap (λ (ys : List ℕ). take i xs ++ ys) e
 
--- a word after a space is held as a cell, up to the end of a list
+-- a list that begins with a space, a word and a blank holds the cell of the word
 holds_whole : (bs rest : List ℕ) (n : ℕ) → bs ≡ 32 ∷ rest → 0 < n → n ≤ 64 → n < length rest → list_all is_word_byte (take n rest) ≡ true → is_space (slice_index_or rest n 0) ≡ true
     → (h : HeaderValue) (v : CellValue) → cell_of_word h (buffered_word bs (n + 1)) ≡ Ok v → HoldsCell h bs v (n + 1)
 holds_whole bs [] n e some most l word space = absurd (omega arith)
@@ -98,7 +98,7 @@ holds_whole bs (a ∷ rest) (suc n) e some most l word space = λ h v cell line 
     let same : cell_of_word h (a ∷ take n rest) ≡ Ok v = rw (e, minus) at cell in
     rw (e, count, whole, left) (reads_word h a (take n rest) byte more c.fails v word short space same line run room)
 
--- a word after a space is held as a cell, whatever bytes follow the blank that ends it
+-- the bytes up to the blank after a word are enough to hold the cell of the word
 pub holds_word : (bs rest : List ℕ) (n : ℕ) → bs ≡ 32 ∷ rest → 0 < n → n ≤ 64 → n < length rest → list_all is_word_byte (take n rest) ≡ true → is_space (slice_index_or rest n 0) ≡ true → HoldsWord bs (n + 1)
 holds_word bs rest n e some most l word space = λ h v cell.
     let front = take (n + 1) rest in
@@ -114,11 +114,11 @@ holds_word bs rest n e some most l word space = λ h v cell.
     let same : buffered_word (take (n + 1 + 1) bs) (n + 1) ≡ buffered_word bs (n + 1) = ap after cut ∙ ap (λ (k : ℕ). take k front) minus ∙ same_word ∙ sym (ap (λ (k : ℕ). take k rest) minus) ∙ sym (ap after e) in
     holds_whole (take (n + 1 + 1) bs) front n cut some most within (ap (list_all is_word_byte) same_word ∙ word) (ap is_space same_byte ∙ space) h v (ap (cell_of_word h) same ∙ cell)
 
--- digits after a space are a word
+-- a space and digits contain the next word
 pub holds_positive : (bs rest : List ℕ) (value n : ℕ) → bs ≡ 32 ∷ rest → IsNumeral rest value n → HoldsWord bs (n + 1)
 holds_positive bs rest value n e is = holds_word bs rest n e is.some (omega (arith, is.few)) is.within (digits_word (take n rest) is.digits) is.ends
 
--- a minus and digits after a space are a word
+-- a space, a minus and digits contain the next word
 pub holds_negative : (bs rest : List ℕ) (value n : ℕ) → bs ≡ 32 ∷ 45 ∷ rest → IsNumeral rest value n → HoldsWord bs (n + 2)
 holds_negative bs rest value n e is =
     let next : n + 1 ≡ suc n = omega arith in
@@ -184,7 +184,7 @@ numeral_below bs value n is =
     let more : 10 ^ length (take n bs) ≤ 10 ^ 9 = pow-le-pow_right (omega arith) most in
     omega (arith, value_below (take n bs) is.digits, is.sum, more)
 
--- a list is its first byte and the other bytes
+-- a list consists of its first byte and the other bytes
 pub first_rest : (bs : List ℕ) (b : ℕ) → 1 ≤ length bs → slice_index_or bs 0 0 ≡ b → bs ≡ b ∷ take (length bs - 1) (drop 1 bs)
 first_rest [] b l s = absurd (omega arith)
 first_rest (x ∷ xs) b l s =
@@ -194,7 +194,7 @@ first_rest (x ∷ xs) b l s =
 pub digit_last : (b : ℕ) → is_digit b ≡ true → b ≤ 57
 digit_last b e = grind (arith, nat_tests)
 
--- bytes that begin with a space are the space, four more bytes and the rest
+-- bytes that begin with a space consist of the space, four more bytes and the rest
 pub front_space : (bs : List ℕ) → 6 ≤ length bs → slice_index_or bs 0 0 ≡ 32
     → bs ≡ 32 ∷ slice_index_or bs 1 0 ∷ slice_index_or bs 2 0 ∷ slice_index_or bs 3 0 ∷ slice_index_or bs 4 0 ∷ drop 5 bs
 front_space [] l e = absurd (omega arith)
@@ -204,7 +204,7 @@ front_space (x ∷ a ∷ b ∷ []) l e = absurd (omega arith)
 front_space (x ∷ a ∷ b ∷ c ∷ []) l e = absurd (omega arith)
 front_space (x ∷ a ∷ b ∷ c ∷ d ∷ bs) l e = ap (λ (y : ℕ). y ∷ a ∷ b ∷ c ∷ d ∷ bs) e
 
--- bytes that begin with a space and a minus are the two, four more bytes and the rest
+-- bytes that begin with a space and a minus consist of these two, four more bytes and the rest
 pub front_minus : (bs : List ℕ) → 6 ≤ length bs → slice_index_or bs 0 0 ≡ 32 → slice_index_or bs 1 0 ≡ 45
     → bs ≡ 32 ∷ 45 ∷ slice_index_or bs 2 0 ∷ slice_index_or bs 3 0 ∷ slice_index_or bs 4 0 ∷ slice_index_or bs 5 0 ∷ drop 6 bs
 front_minus [] l e m = absurd (omega arith)

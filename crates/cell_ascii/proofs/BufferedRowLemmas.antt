@@ -17,7 +17,7 @@ run-none : (run count : ℕ) → run_after run (count + 1) ≡ 0
 run-none run count = let e : count + 1 ≡ suc count = omega arith in ap (run_after run) e
 
 module _ (h : HeaderValue) (bs : List ℕ) where
-  -- held cells may be followed by one more cell
+  -- bytes that hold some cells, followed by one more cell, hold all of these cells
   pub HoldsCells-more : (cells : List CellValue) (count n : ℕ) (v : CellValue) (m : ℕ) → HoldsCells h bs cells count n → HoldsCell h (drop n bs) v m
       → HoldsCells h bs (cells ++ v ∷ []) (count + 1) (n + m)
   HoldsCells-more cells count n v m buffered next = λ line run below c.

@@ -41,7 +41,7 @@ not_null : (null word : List ℕ) → list_all is_digit null ≡ false → list_
 not_null null word other digits =
     bytes_eq-differ word null (λ same. apart (list_all is_digit null) (ap (list_all is_digit) (sym same) ∙ digits) other)
 
--- a word of digits below 100,000,000 is the cell of its value
+-- a word of digits with a value below 100,000,000 denotes the cell of its value
 pub digits_word : (h : HeaderValue) → HasPlainNumbers h → (b : ℕ) (word : List ℕ) (v : ℕ)
     → list_all is_digit (b ∷ word) ≡ true → v ≡ value_of_digits (b ∷ word) → v < 100000000 → cell_of_word h (b ∷ word) ≡ Ok (Some (pos v))
 digits_word h plain b word v digits is small =
@@ -51,7 +51,7 @@ digits_word h plain b word v digits is small =
     let one : v * 1 ≡ v = omega arith in
     rw (other, plain.multiplier, number, in_range v small, one, in_range v small) refl
 
--- a word of digits with a value below 255 is the cell that the value stands for as a byte
+-- a word of digits with a value below 255 denotes the cell that the value stands for as a byte
 pub number_word : (h : HeaderValue) → HasPlainNumbers h → (b : ℕ) (word : List ℕ) (v : ℕ)
     → list_all is_digit (b ∷ word) ≡ true → v ≡ value_of_digits (b ∷ word) → v < 255
     → cell_of_word h (b ∷ word) ≡ Ok (byte_cell v)
@@ -66,7 +66,7 @@ star_word h null b star = rw (null, eqb-true b 42 star) refl
 digit_no_star : (b : ℕ) → is_digit b ≡ true → eqb b 42 ≡ false
 digit_no_star b e = grind (arith, nat_tests)
 
--- ---- what is known of the bytes of a block
+-- ---- the bytes of a block
 
 -- the words of a block are stars and numbers of at most three digits, and the block begins with a blank
 pub record IsShortBlock (bs : List ℕ) : Type 0 where
@@ -82,13 +82,13 @@ pub record AreCellBytes (bs vs : List ℕ) : Type 0 where
   pub numbers : (at n : ℕ) → n < 3 → at + 1 + n < 64 → is_digit (get_or bs at 0) ≡ false → list_all is_digit (take (n + 1) (drop (at + 1) bs)) ≡ true
       → (get_or vs (at + 1 + n) 0 ≡ value_of_digits (take (n + 1) (drop (at + 1) bs))) × (get_or vs (at + 1 + n) 0 < 255)
 
--- if each of the first n bytes satisfies a test, so do all of them as a list
+-- a list of n bytes passes a test if each of its bytes does
 pub all_from : (f : ℕ → Bool) (n : ℕ) (xs : List ℕ) → n ≤ length xs → ((i : ℕ) → i < n → f (get_or xs i 0) ≡ true) → list_all f (take n xs) ≡ true
 all_from f zero xs le each = refl
 all_from f (suc n) [] le each = absurd (omega arith)
 all_from f (suc n) (x ∷ xs) le each = rw (each 0 (omega arith)) (all_from f n xs (omega arith) (λ i lt. each (suc i) (omega arith)))
 
--- if a list of n bytes satisfies a test, so does each of its bytes
+-- if a list of n bytes passes a test, so does each of its bytes
 pub one_from : (f : ℕ → Bool) (n : ℕ) (xs : List ℕ) → n ≤ length xs → list_all f (take n xs) ≡ true → (i : ℕ) → i < n → f (get_or xs i 0) ≡ true
 one_from f zero xs le all i lt = absurd (omega arith)
 one_from f (suc n) [] le all i lt = absurd (omega arith)
@@ -229,7 +229,7 @@ module _ (h : HeaderValue) (plain : HasPlainNumbers h) (bs : List ℕ)
     top = refl;
   }
 
-  -- ---- one byte more
+  -- ---- one more byte
 
   byte_word : (b : ℕ) → is_space b ≡ false → is_word_byte b ≡ true
   byte_word b e = ap not e

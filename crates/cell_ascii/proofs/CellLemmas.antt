@@ -77,7 +77,7 @@ number_faults line m (Some n) = by (is_in_range n) (is_in_range (n *ℤ m))
     by true false = tt
     by false high = tt
 
--- an invalid word is an error of the text
+-- the error of an invalid word is an error of the text
 pub cell_faults : (h : HeaderValue) (word : List ℕ) (line : ℕ) → IfErr (at_line line (cell_of_word h word)) (λ f. IsOfText f.kind)
 cell_faults h word line = by (bytes_eq word h.null_text)
   where

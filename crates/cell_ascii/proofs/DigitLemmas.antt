@@ -218,7 +218,7 @@ moved_bytes size (a ∷ b ∷ c ∷ d ∷ f ∷ g ∷ i ∷ j ∷ rest) some few
     moved_is a b c d f g i j rest size
     (byte 0) (byte 1) (byte 2) (byte 3) (byte 4) (byte 5) (byte 6) (byte 7) some few
 
--- ---- which bytes are digits
+-- ---- bytes that are digits
 
 abbrev less : ℕ → ℕ → ℕ
 less a b = (a + (256 - b)) % 256
@@ -269,7 +269,7 @@ at_least : (b : Bool) (n z : ℕ) → n ≤ 8 → n ≤ z → n ≤ cond b 8 z
 at_least true n z few more = few
 at_least false n z few more = more
 
--- the bytes below the lowest set bit are digits
+-- the bytes before the lowest set bit are digits
 pub digits_ahead : (bs : List ℕ) → 8 ≤ length bs → ((k : ℕ) → get_or bs k 0 < 256) → (n : ℕ) → n ≤ 8
     → n ≤ count_trailing_zeros 64 (others bs) → list_all is_digit (take n bs) ≡ true
 digits_ahead bs buffered byte n few more =

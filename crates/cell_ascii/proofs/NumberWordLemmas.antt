@@ -181,7 +181,7 @@ two_numbers bs long block last ends others blank set is next more =
           more (next ∙ first.end.next);
     }
 
--- the next word of digits is one more cell
+-- the next word of digits adds one more cell
 pub number_more : (h : HeaderValue) → HasPlainNumbers h → (bs : List ℕ) → 64 ≤ length bs
     → (cells : List CellValue) (count last ends v : ℕ) → last < 64
     → is_space (get_or bs last 0) ≡ true → NextNumber bs last ends

@@ -86,7 +86,7 @@ module _ (h : HeaderValue) (here : Coming → At) (Q : Coming → Type 0) (a : O
       by None placed cut = tt
       by (Some c) placed cut = sym (ap fault_in (cut_fails h (here c) f old row cut)) ∙ cells_reported h (length old) (here c) placed.0
 
-  -- after a row, the reader is at a place, and no token is pending after the last row
+  -- after a row, the reader is at a valid position, and no token is pending after the last row
   pub row_placed : (n left : ℕ) (there : Coming → At) (b : Option Coming) (row : List CellValue) → 0 < n → option_map (λ c. many (cell_from h) n (here c)) a ≡ option_map (λ d. Ok (row, there d)) b
       → IfSome b (λ d. IsPlaceOf (there d) × (left ≡ 0 → (there d).pending ≡ None))
   row_placed n left there b row some e = by a b placed e
@@ -100,7 +100,7 @@ module _ (h : HeaderValue) (here : Coming → At) (Q : Coming → Type 0) (a : O
           let kept = cells_kept h n (here c) (row, there d) placed.0 o in
           (kept.0, λ _. kept.1 some)
 
--- the data begins at a place
+-- after the header, the reader is at a valid position
 pub opening_placed : (h : HeaderValue) (there : Coming → At) (left : ℕ) (a b : Option Coming) → 0 < left
     → option_map header_of_text a ≡ option_map (λ c. Ok (record { header = h; at = there c })) b → IfSome b (λ c. IsPlaceOf (there c) × (left ≡ 0 → (there c).pending ≡ None))
 opening_placed h there left a None some e = tt
@@ -134,7 +134,7 @@ end_is at r is none reported = by (end_of (grid_start at.line at.run at.coming))
     by (Err f) (Err g) e = cc
 
 module _ (h : HeaderValue) (cols : ℕ) (some : 0 < cols) where
-  -- after rows, the reader is at a place, and no token is pending after the last row
+  -- after rows, the reader is at a valid position, and no token is pending after the last row
   pub rows_kept : (n : ℕ) (at : At) (x : List (List CellValue) × At) → IsPlaceOf at → many (many (cell_from h) cols) n at ≡ Ok x → IsPlaceOf x.1 × (0 < n → x.1.pending ≡ None)
   rows_kept zero at x is e = (let p : at ≡ x.1 = cc in subst IsPlaceOf p is, λ none. absurd (omega arith))
   rows_kept (suc n) at x is e = by (many (many (cell_from h) cols) n at) (rows_kept n at) (sym (many_snoc (many (cell_from h) cols) n at) ∙ e)

@@ -56,7 +56,7 @@ front-length zero (false ∷ ms) le = ap suc (ap length (take_all (length ms) ms
 front-length (suc n) [] le = absurd (omega arith)
 front-length (suc n) (m ∷ ms) le = ap suc (front-length n ms (omega arith))
 
--- the lowest set bit after the carry is the lane after the run
+-- the lowest set bit after the carry marks the lane after the run
 front-lowest : (at : ℕ) (ms : List Bool) → at ≤ length ms → unset (front at ms) ≡ at + run (drop at ms)
 front-lowest zero [] le = refl
 front-lowest zero (true ∷ ms) le = omega (arith, front-lowest zero ms (omega arith))

@@ -83,7 +83,7 @@ module _ (h : HeaderValue) (bs : List ℕ) where
   pub HoldsLines-none : HoldsLines h bs [] 0 0 0
   HoldsLines-none = λ line c. let same : line ≡ line + 0 = omega arith in ap (λ (l : ℕ). Ok ([], at_of l 0 (before_coming bs c))) same
 
-  -- cells on lines may be followed by one more cell
+  -- bytes that hold some cells on lines, followed by one more cell, hold all of these cells
   lines-more : (cells : List CellValue) (count n lines : ℕ) (v : CellValue) (m k : ℕ) → HoldsLines h bs cells count n lines
       → ((line : ℕ) (c : Coming) → cell_from h (at_of line 0 (before_coming (drop n bs) c)) ≡ Ok (v, at_of (line + k) 0 (before_coming (drop m (drop n bs)) c)))
       → HoldsLines h bs (cells ++ v ∷ []) (count + 1) (n + m) (lines + k)
@@ -95,7 +95,7 @@ module _ (h : HeaderValue) (bs : List ℕ) where
       ∙ ap (λ (l : ℕ). Ok (cells ++ v ∷ [], at_of l 0 (before_coming (drop m (drop n bs)) c))) all
       ∙ ap (λ (rest : List ℕ). Ok (cells ++ v ∷ [], at_of (line + (lines + k)) 0 (before_coming rest c))) (drop-drop m n bs)
 
-  -- cells on lines may be followed by more cells
+  -- bytes that hold some cells on lines, followed by more cells, hold all of these cells
   pub HoldsLines-append : (cells others : List CellValue) (count more n m lines k : ℕ) → HoldsLines h bs cells count n lines → HoldsLines h (drop n bs) others more m k
       → HoldsLines h bs (cells ++ others) (count + more) (n + m) (lines + k)
   HoldsLines-append cells others count more n m lines k buffered next = λ line c.
@@ -159,7 +159,7 @@ gap-one bs at within blank =
     let here : take 1 (drop at bs) ≡ get_or bs at 0 ∷ [] = ap (take 1) (drop_more bs at 0 within) in
     ap (λ (k : ℕ). list_all is_space (take k (drop at bs))) one ∙ ap (list_all is_space) here ∙ rw blank refl
 
--- cells on lines may be followed by one more word
+-- bytes that hold some cells on lines, followed by one more word, also hold the cell of the word
 pub word-more : (h : HeaderValue) (bs : List ℕ) (cells : List CellValue) (count last at end : ℕ) (v : CellValue)
     → last ≤ at → at < end → end < 64 → end < length bs → list_all is_space (take (at - last) (drop last bs)) ≡ true → list_all is_word_byte (take (end - at) (drop at bs)) ≡ true
     → is_space (get_or bs end 0) ≡ true → cell_of_word h (take (end - at) (drop at bs)) ≡ Ok v → HoldsLines h bs cells count last (newlines (take last bs))

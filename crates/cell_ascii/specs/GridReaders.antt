@@ -55,7 +55,7 @@ fault_of_reading (Err f) = Some f
 abbrev pub reader_has_failed : GridFault
 reader_has_failed = grid_fault Failed 0
 
--- a row interrupted by an error: it starts with the cells that were read, and the rest is unchanged
+-- the row is interrupted by an error: it starts with the cells that were read, and the rest is unchanged
 pub record IsCutRow (h : HeaderValue) (at : At) (f : GridFault) (old new : List CellValue) : Type 0 where
   pub count : ℕ
   pub fewer : count < length old
@@ -64,7 +64,7 @@ pub record IsCutRow (h : HeaderValue) (at : At) (f : GridFault) (old new : List 
   pub stop : cell_from h rest ≡ Err f
   pub kept : drop count new ≡ drop count old
 
--- a row in which only cells at the start may have changed
+-- only cells at the start of the row may have changed
 pub record IsChangedInFront (old new : List CellValue) : Type 0 where
   pub count : ℕ
   pub fewer : count < length old

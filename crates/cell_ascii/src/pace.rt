@@ -73,7 +73,7 @@ impl Pause {
 pub struct Pace {
     repeated: Pause,
     sought: Pause,
-    /// Pause of reading rows as bytes.
+    /// The pause in reading rows as bytes.
     pub(crate) bytes: Pause,
 }
 

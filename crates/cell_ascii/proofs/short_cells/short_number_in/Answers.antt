@@ -5,7 +5,7 @@ use Rattle.cell_ascii.specs.BufferedCells.{IsNumeral}
 use Rattle.cell_ascii.proofs.BufferedLemmas.{front_space, front_minus, holds_positive, holds_negative, positive, negative, numeral_below}
 use Rattle.cell_ascii.proofs.short_cells.short_number_in.Goals as goal
 
--- the bytes after a space, and those after a space and a minus
+-- the bytes after a space, and the bytes after a space and a minus
 abbrev after_space : List ℕ → List ℕ
 after_space buffered = slice_index_or buffered 1 0 ∷ slice_index_or buffered 2 0 ∷ slice_index_or buffered 3 0 ∷ slice_index_or buffered 4 0 ∷ drop 5 buffered
 
