@@ -47,7 +47,7 @@ mask-take (suc k) (m ∷ ms) =
 pub below : (bits n : ℕ) → n < 64 → count_ones (bit_and bits (1 * 2 ^ n % 18446744073709551616 - 1)) ≡ count_ones (bits % 2 ^ n)
 below bits n within = ap (λ (k : ℕ). count_ones (bit_and bits (k - 1))) (one_shl n 64 within) ∙ ap count_ones (and_mask bits n)
 
--- ---- bits one or two higher, and one lower
+-- ---- bits shifted up by one or two places, and down by one
 
 pub bit_below : (n i : ℕ) → i < 64 → bit_at (n % 2 ^ 64) i ≡ bit_at n i
 bit_below n i lt =

@@ -33,7 +33,7 @@ pub record AreShortWords (words digits stars : ℕ) : Type 0 where
   pub behind : (i : ℕ) → bit_at stars i ≡ 1 → bit_at words (i + 1) ≡ 0
   pub few : (i : ℕ) → i + 3 < 64 → bit_at words i ≡ 1 → bit_at words (i + 1) ≡ 1 → bit_at words (i + 2) ≡ 1 → bit_at words (i + 3) ≡ 0
 
--- the bits below a position, at most `most` of them set
+-- `result` consists of the bits below a position, at most `most` of which are set
 pub record AreLowest (bits most result : ℕ) : Type 0 where
   pub place : ℕ
   pub within : place ≤ 64
