@@ -39,7 +39,7 @@ pub bind_assoc : {X Y Z : Type 0} (r : Result X GridFault) (F : X → Result Y G
 bind_assoc (Ok x) F G = refl
 bind_assoc (Err e) F G = refl
 
--- What the words denote, one after another.
+-- A reading of the first words: a value and the remaining words, or none.
 abbrev pub Taking : Type 0 → Type 0
 Taking X = List (List ℕ) → Option (X × List (List ℕ))
 
@@ -176,10 +176,10 @@ module _ (h : HeaderValue) (rows : 0 < h.region.rows) (cols : 0 < h.region.cols)
       (many_follow (cell_from h) (take_cell h) (λ l r cs g lo F G agree. cell_keeps h F G agree l r cs g lo) h.region.cols words at o cols first)
       (read_end h) (take_end h) (end_agrees h)
 
-  -- the data, read from its first word on, is the grid that is taken of the words
+  -- the data, read from its first word on, is the grid that is taken from the words
   pub grid_first : (w : List ℕ) (line : ℕ) (bs : List ℕ) (f : Bool) → accepted (read_grid h (record { pending = Some w; line = line; run = 0; coming = coming bs f })) ≡ option_and_then (λ ls. take_grid h (w ∷ all_words ls)) (lex 0 [] bs f)
   grid_first w line bs f = grid_follows (λ ls. w ∷ all_words ls) (record { pending = Some w; line = line; run = 0; coming = coming bs f }) (lex 0 [] bs f) (λ F G agree. cell_first h F G agree w line 0 bs f)
 
-  -- the data of a text that has ended is the grid that is taken of no words
+  -- the data of a text that has ended is the grid that is taken from no words
   pub grid_none : (line : ℕ) → accepted (read_grid h (at_of line 0 (coming [] false))) ≡ take_grid h []
   grid_none line = grid_follows all_words (at_of line 0 (coming [] false)) (lex 0 [] [] false) (λ F G agree. cell_keeps h F G agree line 0 [] false (omega arith))

@@ -131,7 +131,7 @@ module _ (h : HeaderValue) where
         later r c low inside = ap (option_map (cell_of_word h)) (get-drop cols words (r * cols + c))
             ∙ (let k : cols + (r * cols + c) ≡ suc r * cols + c = omega arith in ap (λ (i : ℕ). option_map (cell_of_word h) (slice_get words i)) k) ∙ each (suc r) c (omega arith) inside
 
-  -- a grid that is taken of words has the cells that the words denote, and no others
+  -- a grid that is taken from words has the cells that the words denote, and no others
   pub cells_read : (words : Words) (m : Grid) → take_grid h words ≡ Some m → (m ≡ whole_grid h m.rows) × DenoteCells h words m
   cells_read words m e = by (take_many (take_many (take_cell h) h.region.cols) h.region.rows words) (rows_read h.region.cols h.region.rows words) e
     where

@@ -1,4 +1,4 @@
--- The law of the reading of a grid text.
+-- The law about reading grid texts.
 use Rattle.std.proofs.Common.{◌≡◌, [], Option, Some, None, Bool, refl, ap, sym, ◌∙◌, Result, Ok, Err, subst}
 use Rattle.std.specs.Option.{option_and_then}
 use Rattle.cell_core_devices.specs.Device.{Coming}

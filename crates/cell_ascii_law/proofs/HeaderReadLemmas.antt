@@ -247,7 +247,7 @@ header_said h (suc fuel) keys line run bs f low e =
             from_word h (take_lines keys) l (said_word rest keys l) (λ e. refl)
             (λ x xs ds k. first l x xs ds k (has_colon (x ∷ xs))) b cs g word
 
--- the header that is taken of all lines is the header of their header lines
+-- the header that is taken from all lines is the header of their header lines
 lines_say : (ls : Lines) (h : HeaderValue) → take_lines no_keys ls ≡ Some h → IsHeader (header_lines ls) h
 lines_say ls h e = by (with_lines no_keys (header_lines ls)) refl (sym (text_parts take_header ls no_keys) ∙ e)
   where

@@ -81,7 +81,7 @@ module _ {Y : Type 0} (G : Lines → Option Y) where
   then_put x xs t None = refl
   then_put x xs t (Some ls) = refl
 
-  -- What comes before the next word: if k agrees with the words from the next one on, it agrees from here on.
+  -- Blanks before the next word: if k agrees with the words from the next word on, k agrees from here on.
   module _ (skips : (ls : Lines) → G ([] ∷ ls) ≡ G ls) (k : Start → Option Y) (stops : (e : GridFault) → k (Stops e) ≡ None) (ends : (line : ℕ) → k (Ends line) ≡ G [])
       (begins : (line b : ℕ) (bs : List ℕ) (f : Bool) → is_space b ≡ false → k (Begins line (coming (b ∷ bs) f)) ≡ option_and_then G (lex 0 [] (b ∷ bs) f)) where
     pub before_word : (bs : List ℕ) (f : Bool) (line run : ℕ) → run ≤ 1048576 → k (grid_start line run (coming bs f)) ≡ option_and_then G (lex run [] bs f)
@@ -96,7 +96,7 @@ module _ {Y : Type 0} (G : Lines → Option Y) where
         by on (inl space) (inl room) = ap k (start-more line run low b bs f space room) ∙ on (omega arith)
             ∙ sym (ap (option_and_then G) (lex-space run [] b bs f space room) ∙ then_skipped skips (b == 10) (lex (run + 1) [] bs f))
 
-  -- The rest of a word: if k agrees from the word's end on, it agrees from here on.
+  -- The rest of a word: if k agrees from the word's end on, k agrees from here on.
   module _ (line : ℕ) (k : Result (List ℕ × Coming) GridFault → Option Y) (fails : (e : GridFault) → k (Err e) ≡ None)
       (done : (x : ℕ) (xs bs : List ℕ) (f : Bool) → k (Ok (x ∷ xs, coming bs f)) ≡ option_and_then (λ ls. G (put (x ∷ xs) ls)) (lex 0 [] bs f)) where
     in_word : (bs : List ℕ) (f : Bool) (x : ℕ) (xs : List ℕ) → length (x ∷ xs) ≤ 64 → k (word_from line (x ∷ xs) (coming bs f)) ≡ option_and_then G (lex 0 (x ∷ xs) bs f)
@@ -116,7 +116,7 @@ module _ {Y : Type 0} (G : Lines → Option Y) where
     pub next_word : (b : ℕ) (bs : List ℕ) (f : Bool) → is_space b ≡ false → k (word_from line [] (coming (b ∷ bs) f)) ≡ option_and_then G (lex 0 [] (b ∷ bs) f)
     next_word b bs f word = ap k (word-more line [] (omega arith) b bs f word) ∙ in_word bs f b [] (omega arith) ∙ ap (option_and_then G) (sym (lex-word 0 [] b bs f word (omega arith)))
 
-  -- The blanks of a line: if k agrees from what ends them on, it agrees from here on.
+  -- The blanks of a line: if k agrees from the end of the blanks on, k agrees from here on.
   module _ (line : ℕ) (k : Gap → Option Y) (fails : (e : GridFault) → k (Fault e) ≡ None) (last : k Last ≡ G ([] ∷ []))
       (begins : (b : ℕ) (bs : List ℕ) (f : Bool) → is_space b ≡ false → k (Word (coming (b ∷ bs) f)) ≡ option_and_then G (lex 0 [] (b ∷ bs) f))
       (feeds : (run : ℕ) (bs : List ℕ) (f : Bool) → run ≤ 1048576 → k (Feed run (coming bs f)) ≡ option_and_then (λ ls. G ([] ∷ ls)) (lex run [] bs f)) where

@@ -22,7 +22,7 @@ pub free_more : (p : ℕ → Bool) (t : List ℕ) (b : ℕ) → IsFree p t → p
 free_more p [] b free e = (e, tt)
 free_more p (x ∷ t) b free e = (free.0, free_more p t b free.1 e)
 
--- The pieces of a text that begins with t, which no cut falls into.
+-- The pieces of a text that begins with t, if no cut falls into t.
 abbrev pub onto : List ℕ → List (List ℕ) → List (List ℕ)
 onto t [] = t ∷ []
 onto t (q ∷ qs) = (t ++ q) ∷ qs
@@ -95,7 +95,7 @@ lines_space t b bs free space = ap (map grid_words_of) (split_free (λ b. b == 1
     by true (q ∷ qs) made = ap (λ (ws : List (List ℕ)). ws ∷ map grid_words_of (q ∷ qs)) (words_alone t free) ∙ fed t (map grid_words_of (q ∷ qs))
     by false (q ∷ qs) made = ap (λ (ws : List (List ℕ)). ws ∷ map grid_words_of qs) (words_space t b q free space) ∙ more t (grid_words_of q) (map grid_words_of qs)
 
--- No words over 64 bytes.
+-- No word of the text has more than 64 bytes.
 abbrev AreShort : List ℕ → Type 0
 AreShort text = All (λ w. length w ≤ 64) (grid_words_of text)
 
@@ -129,7 +129,7 @@ token_short (b ∷ bs) t free short = by (token_short bs (t ++ b ∷ [])) (cases
     by on (inl space) = first_short t (grid_words_of bs) (words_short (t ++ b ∷ bs) (as_word t ++ grid_words_of bs) (words_space t b bs free space) short)
     by on (inr word) = let h = on (free_more is_space t b free word) (subst AreShort (sym (one_more t b bs)) short) in omega (arith, length-append t (b ∷ []))
 
--- At most 1048576 spaces in a row, after `run` of them.
+-- No run of spaces has more than 1048576 bytes, if the text follows `run` spaces.
 pub record AreGaps (run : ℕ) (bs : List ℕ) : Type 0 where
   pub here : (gap back : List ℕ) → bs ≡ gap ++ back → list_all is_space gap ≡ true → run + length gap ≤ 1048576
   pub later : (front gap back : List ℕ) → bs ≡ front ++ (gap ++ back) → list_all is_space gap ≡ true → length gap ≤ 1048576
@@ -185,7 +185,7 @@ module _ (run b : ℕ) (bs : List ℕ) where
       later = λ front gap back e s. are.later (b ∷ front) gap back (ap (λ (l : List ℕ). b ∷ l) e) s;
     }
 
--- What is known of a text whose lines have words.
+-- The properties of a text whose lines were read as words.
 pub record IsLexed (run : ℕ) (t bs : List ℕ) (f : Bool) (ls : Lines) : Type 0 where
   pub ends : f ≡ false
   pub words : AreShort (t ++ bs)

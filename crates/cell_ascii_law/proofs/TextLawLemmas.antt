@@ -62,7 +62,7 @@ text_parts take_words ((w ∷ ws) ∷ ls) keys = by (has_colon w) refl (text_par
         ∙ ap (λ (t : Bool). after_key (with_lines keys (cond t ((w ∷ ws) ∷ header_lines ls) (header_lines ls))) (λ k. take_words k (data_words ls))) (sym e)
         ∙ ap (λ (n : ℕ). after_key (with_lines keys (filter is_header_line (take n ((w ∷ ws) ∷ ls)))) (λ k. take_words k (flat_map (λ l. l) (drop n ((w ∷ ws) ∷ ls))))) (sym (one_more (prefix_len no_data ls)))
 
--- The keys by their names.
+-- The names of the keys.
 abbrev pub name_of : HeaderKey → List ℕ
 name_of North = codes "north"
 name_of South = codes "south"

@@ -18,7 +18,7 @@ use Rattle.cell_ascii_law.proofs.DataLawLemmas.{all_words, then_words, taken_cel
 use Rattle.cell_ascii_law.proofs.WritingNumberLemmas.{whole_back, in_range_low}
 
 module _ (h : HeaderValue) (once : h.multiplier ≡ usual_multiplier) where
-  -- a category in range, that is not written as the null text
+  -- null, or a category in range whose decimal text is not the null text
   abbrev pub IsGood : CellValue → Type 0
   IsGood cell = IfSome cell (λ category. IsTrue (is_in_range category)) × IfSome cell (λ category. signed_decimal category ≢ h.null_text)
 

@@ -1,4 +1,4 @@
--- The law of the writing of a grid text: it is read again as the same region and rows.
+-- The law about written grid texts: a written map is read back as the same region and rows.
 use Rattle.std.proofs.Common.{◌≡◌, ℕ, ◌<◌, List, [], ◌∷◌, ◌++◌, length, map, get_or, Some, None, Result, Ok, Err, false, refl, ap, sym, ◌∙◌, arith, append-nil, append_assoc, if◌then◌else◌}
 use Rattle.std.specs.Prelude.{IfSome, IsTrue}
 use Rattle.std.specs.Option.{option_and_then}

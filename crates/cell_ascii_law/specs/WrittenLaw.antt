@@ -11,7 +11,7 @@ use Rattle.cell_ascii_meaning.specs.Writing.{IsNullText, grid_text}
 abbrev pub without_labels : Grid → Grid
 without_labels m = record { region = m.region; rows = m.rows; labels = no_labels }
 
--- a map with a valid region, filled with categories in range, none of them written like the null text
+-- the map has a valid region and only nulls and categories in range, none of them written like the null text
 pub record IsWritable (null_text : List ℕ) (m : Grid) : Type 0 where
   pub region : IsRegion m.region
   pub filled : IsFilled m.region m.rows
