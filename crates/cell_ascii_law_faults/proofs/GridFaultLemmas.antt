@@ -1,4 +1,4 @@
--- The law of the errors of a grid text.
+-- The law about errors in grid texts.
 use Rattle.std.proofs.Common.{◌≡◌, ◌↔◌, Bool, true, false, [], Option, Some, refl, ap, sym, ◌∙◌, arith, Result, Ok, Err, ◌⊎◌, inl, inr}
 use Rattle.cell_core_devices.specs.Device.{Coming}
 use Rattle.cell_core.specs.Grid.{Grid}

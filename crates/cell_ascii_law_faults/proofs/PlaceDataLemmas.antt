@@ -280,7 +280,7 @@ module _ (h : HeaderValue) where
   abbrev Goes : {X : Type 0} → ℕ → (X → At → Result Grid GridFault) → Type 0
   Goes {X} n F = (x : X) (line gap : ℕ) (bs : List ℕ) (f : Bool) (ls : Lines) (ws : List (List ℕ)) → gap ≤ 1048576 → IsData h n ls ws → fault_in (F x (at_of line gap (coming bs f))) ≡ scan whole_table (at_seen line gap ls ws []) bs f
 
-  -- at one place, if s is reported from there on, a reading takes the next `a` words
+  -- at one place, reading the next `a` words gives the error s, which the places report from there on
   abbrev Follows : {X : Type 0} → At → Option GridFault → ℕ → (At → Reading X) → ℕ → Type 0
   Follows {X} at s n one a = (F : X → At → Result Grid GridFault) → Goes (n + a) F → fault_in (one at >>= (λ x. F x.0 x.1)) ≡ s
 
@@ -393,7 +393,7 @@ module _ (h : HeaderValue) where
       at : At
       at = record { pending = Some (x ∷ xs); line = line; run = 0; coming = coming bs f }
 
--- After the first token of the data the opening of a text reports nothing.
+-- After the first token of the data, the opening of a text reports nothing.
 module _ (gap : ℕ) (inside : Bool) (ls : Lines) (line : List (List ℕ)) (header : Result HeaderValue GridKind) (words : List (List ℕ)) where
   behind_silent : (token : List ℕ) → is_opening words token ≡ false → (place : FaultPlace) → opening_table gap token inside ls line header words place ≡ None
   behind_silent token e place = ap (λ (t : Bool). if t then header_rows gap token inside ls line header words place else None) e

@@ -1,4 +1,4 @@
--- After the header and after each cell, the reader is at a place again.
+-- After the header and after each cell, the reader is at a valid position.
 use Rattle.std.proofs.Common.{◌≡◌, ℕ, zero, suc, ◌+◌, ◌-◌, ◌<◌, ◌≤◌, List, [], ◌∷◌, ◌++◌, Option, Some, None, ◌==◌, Bool, true, false, cond, length, take, refl, sym, ◌∙◌, arith, length-append, Result, Ok, Err, ◌&&◌, ◌⊎◌, inl, inr, if◌then◌else◌, subst}
 use Rattle.std.specs.List.{list_all}
 use Rattle.std.proofs.lemmas.Bool.{cases_Bool, cases_lt}
@@ -16,7 +16,7 @@ use Rattle.cell_ascii_meaning.specs.declared.grid_fault.GridFault.{GridFault}
 use Rattle.cell_ascii_meaning.proofs.TokenLemmas.{coming, start-ends, start-fails, start-begins, start-stuck, start-more}
 use Rattle.cell_ascii_meaning.proofs.TokenLemmas.{word-ends, word-fails, word-stops, word-long, word-more}
 
--- a place without a pending token, after no run of blanks
+-- a valid position without a pending token
 abbrev IsFresh : At → Type 0
 IsFresh at = IsPlaceOf at × (at.pending ≡ None)
 

@@ -83,7 +83,7 @@ module _ (whole : Bool) where
   pub one_silent : (s n : Seen) (b : ℕ) (bs : List ℕ) (f : Bool) → reports (table_of whole) s (Byte b) ≡ None → step s b ≡ n → scan (table_of whole) s (b ∷ bs) f ≡ scan (table_of whole) n bs f
   one_silent s n b bs f t e = ap (λ (o : Option GridFault). o or scan (table_of whole) (step s b) bs f) t ∙ ap (λ (m : Seen). scan (table_of whole) m bs f) e
 
-  -- What comes before the next word: if k agrees with the places from the word on, and at the end, it agrees from here on.
+  -- Blanks before the next word: if k agrees with the places from the word on, and at the end, k agrees from here on.
   module _ (IsAt : Lines → List (List ℕ) → Type 0) (fed : (ls : Lines) (ws : List (List ℕ)) → IsAt ls ws → IsAt (ls ++ ws ∷ []) []) (outside : (ls : Lines) (ws : List (List ℕ)) → IsAt ls ws → in_header_line ls ws ≡ false)
       (judge : (ls : Lines) (ws : List (List ℕ)) → IsAt ls ws → judged whole (data_words (ls ++ ws ∷ [])) [] ≡ true)
       (k : Start → Option GridFault) (stops : (e : GridFault) → k (Stops e) ≡ Some e)
@@ -118,7 +118,7 @@ module _ (whole : Bool) where
             same : line + cond (b == 10) 1 0 ≡ line
             same = ap (λ (t : Bool). line + cond t 1 0) blank ∙ omega arith
 
-  -- The rest of a word: if k agrees with the places from the word's end on, it agrees from here on.
+  -- The rest of a word: if k agrees with the places from the word's end on, k agrees from here on.
   module _ (line : ℕ) (ls : Lines) (ws : List (List ℕ)) (k : Result (List ℕ × Coming) GridFault → Option GridFault) (fails : (e : GridFault) → k (Err e) ≡ Some e)
       (judge : (x : ℕ) (xs : List ℕ) → judged whole (data_words (ls ++ (ws ++ (x ∷ xs) ∷ []) ∷ [])) (x ∷ xs) ≡ true)
       (done : (x : ℕ) (xs bs : List ℕ) (f : Bool) → IsAfterWord bs f → k (Ok (x ∷ xs, coming bs f)) ≡ scan (table_of whole) (at_seen line 0 ls ws (x ∷ xs)) bs f) where
@@ -150,7 +150,7 @@ module _ (whole : Bool) where
     next_word gap b bs f word silent = ap k (word-more line [] (omega arith) b bs f word) ∙ in_word bs f b [] (omega arith)
         ∙ sym (one_silent (at_seen line gap ls ws []) (at_seen line 0 ls ws (b ∷ [])) b bs f silent (step_word (at_seen line gap ls ws []) b word))
 
-  -- The blanks of a line: if k agrees from what ends them on, it agrees from here on.
+  -- The blanks of a line: if k agrees from the end of the blanks on, k agrees from here on.
   module _ (line : ℕ) (ls : Lines) (ws : List (List ℕ)) (k : Gap → Option GridFault) (fails : (e : GridFault) → k (Fault e) ≡ Some e) (judge : judged whole (data_words (ls ++ ws ∷ [])) [] ≡ true) (last : (gap : ℕ) → k Last ≡ scan (table_of whole) (at_seen line gap ls ws []) [] false)
       (begins : (gap b : ℕ) (bs : List ℕ) (f : Bool) → is_space b ≡ false → k (Word (coming (b ∷ bs) f)) ≡ scan (table_of whole) (at_seen line gap ls ws []) (b ∷ bs) f)
       (feeds : (gap b : ℕ) (bs : List ℕ) (f : Bool) → (b == 10) ≡ true → gap < 1048576 → k (Feed (gap + 1) (coming bs f)) ≡ scan (table_of whole) (at_seen line gap ls ws []) (b ∷ bs) f) where
@@ -177,7 +177,7 @@ module _ (whole : Bool) where
             ∙ sym (one_silent s (at_seen line (gap + 1) ls ws []) b bs f
             (ap (option_map (λ kind. grid_fault kind line)) (blank_silent gap (in_header_line ls ws) ls ws (header_in (ls ++ ws ∷ [])) (data_words (ls ++ ws ∷ [])) b whole judge space blank room)) (step_blank s b space blank))
 
-  -- After a word whose end has no error in `table_of whole`, it counts among the words.
+  -- A word whose end reports no error in `table_of whole` is added to the complete words.
   module _ (line : ℕ) (ls : Lines) (ws : List (List ℕ)) (x : ℕ) (xs : List ℕ) where
     abbrev pub going : Seen
     going = at_seen line 0 ls ws (x ∷ xs)

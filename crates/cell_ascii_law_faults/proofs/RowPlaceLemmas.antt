@@ -50,7 +50,7 @@ record IsWithin (table : RowTable) (ws : List (List ℕ)) : Type 0 where
 abbrev on_line : ℕ → Option GridKind → Option GridFault
 on_line line o = option_map (λ kind. grid_fault kind line) o
 
--- What comes before the next word: if k agrees with the places from the word on, and at the end, it agrees from here on.
+-- Blanks before the next word: if k agrees with the places from the word on, and at the end, k agrees from here on.
 module _ (table : RowTable) (ws : List (List ℕ)) (between : IsBetween table ws) (k : Start → Option GridFault) (stops : (e : GridFault) → k (Stops e) ≡ Some e)
     (begins : (line gap b : ℕ) (bs : List ℕ) (f : Bool) → is_space b ≡ false → k (Begins line (coming (b ∷ bs) f)) ≡ row_scan table (row_seen line gap ws []) (b ∷ bs) f)
     (ends : (line gap : ℕ) → k (Ends line) ≡ row_scan table (row_seen line gap ws []) [] false) where
@@ -73,7 +73,7 @@ module _ (table : RowTable) (ws : List (List ℕ)) (between : IsBetween table ws
       by on (inl space) (inl room) = ap k (start-more line gap low b bs f space room) ∙ on (omega arith)
           ∙ sym (one_silent table s (row_seen (line + cond (b == 10) 1 0) (gap + 1) ws []) b bs f (ap (on_line line) (between.blank gap b space room)) (step_space s b space))
 
--- The rest of a word: if k agrees with the places from the word's end on, it agrees from here on.
+-- The rest of a word: if k agrees with the places from the word's end on, k agrees from here on.
 module _ (table : RowTable) (ws : List (List ℕ)) (within : IsWithin table ws) (line : ℕ) (k : Result (List ℕ × Coming) GridFault → Option GridFault) (fails : (e : GridFault) → k (Err e) ≡ Some e)
     (done : (x : ℕ) (xs bs : List ℕ) (f : Bool) → IsAfterWord bs f → k (Ok (x ∷ xs, coming bs f)) ≡ row_scan table (row_seen line 0 ws (x ∷ xs)) bs f) where
   in_word : (bs : List ℕ) (f : Bool) (x : ℕ) (xs : List ℕ) → length (x ∷ xs) ≤ 64 → k (word_from line (x ∷ xs) (coming bs f)) ≡ row_scan table (row_seen line 0 ws (x ∷ xs)) bs f
@@ -99,7 +99,7 @@ module _ (table : RowTable) (ws : List (List ℕ)) (within : IsWithin table ws) 
   next_word gap b bs f word silent = ap k (word-more line [] (omega arith) b bs f word) ∙ in_word bs f b [] (omega arith)
       ∙ sym (one_silent table (row_seen line gap ws []) (row_seen line 0 ws (b ∷ [])) b bs f (ap (on_line line) silent) (step_word (row_seen line gap ws []) b word))
 
--- After a word whose end has no error, it counts among the words.
+-- A word whose end reports no error is added to the complete words.
 module _ (table : RowTable) (ws : List (List ℕ)) (line x : ℕ) (xs : List ℕ) where
   settled : ((place : FaultPlace) → ends_token place ≡ true → table 0 (x ∷ xs) (ws ++ (x ∷ xs) ∷ []) place ≡ table 0 [] (ws ++ (x ∷ xs) ∷ []) place) → (bs : List ℕ) (f : Bool) → IsAfterWord bs f
       → row_scan table (row_seen line 0 ws (x ∷ xs)) bs f ≡ row_scan table (row_seen line 0 (ws ++ (x ∷ xs) ∷ []) []) bs f
@@ -293,7 +293,7 @@ cells_reported h count at is = by at.pending is
         ∙ (λ i. row_scan (cells_table h count) (row_seen at.line (sym is.fresh i) [] (x ∷ xs)) at.coming.bytes at.coming.fails)
         ∙ sym (first_is (cells_table h count) (record at { pending = Some (x ∷ xs) }) (free_word (x ∷ xs) is.whole))
 
--- between words, the table of the end reports only a run of blanks that is too long
+-- between words, the table of the end reports a run of blanks that is too long, and a failed read
 end_between : IsBetween end_table []
 end_between = record {
   blank = λ gap b space room. (let t : (gap == 1048576) ≡ false = grind (arith, nat_tests) in rw (space, t));

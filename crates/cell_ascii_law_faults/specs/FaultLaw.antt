@@ -48,6 +48,6 @@ pub record IsFaultText (c : Coming) : Type 0 where
   pub reported : text_fault c ≡ Some fault
   pub none : (map : Grid) → Denotes c map → ⊥
 
--- each text denotes exactly one map without an error, or has an error and denotes no map
+-- each text either denotes exactly one map and has no error, or has an error and denotes no map
 abbrev pub GridTextsAreJudged : Type 0
 GridTextsAreJudged = (c : Coming) → IsMapText c ⊎ IsFaultText c
