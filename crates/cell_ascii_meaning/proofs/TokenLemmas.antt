@@ -17,7 +17,7 @@ use Rattle.cell_ascii_meaning.specs.declared.grid_fault.GridKind.TheVariants.{Re
 abbrev pub coming : List ℕ → Bool → Coming
 coming bs f = record { bytes = bs; fails = f }
 
--- The next word, one byte further.
+-- The next word, after one more byte.
 abbrev parts : Bool → ℕ → ℕ → List ℕ → Bool → Start
 parts stuck at_fault at_start rest f =
     if stuck then Stops (grid_fault ReaderStuck at_fault) else start_at at_start rest f
@@ -91,7 +91,7 @@ module _ (line run : ℕ) (low : run ≤ 1048576) where
   start-next b m bs f space room e = start-more b bs f space room
       ∙ ap (λ (l : ℕ). grid_start l (run + 1) (coming bs f)) e
 
-  -- What ends the blanks of a line, one byte further.
+  -- The end of a line's blanks, after one more byte.
   abbrev gap_parts : Bool → ℕ → List ℕ → Bool → Gap
   gap_parts stuck at rest f = if stuck then Fault (grid_fault ReaderStuck line) else gap_at line at rest f
 
@@ -134,7 +134,7 @@ module _ (line run : ℕ) (low : run ≤ 1048576) where
       ap (λ (n : ℕ). gap_parts (nat_lt 1048576 (run + n)) (run + n) (drop n (b ∷ bs)) f) longer
       ∙ (λ i. gap_parts (nat_lt 1048576 (count i)) (count i) (drop gap bs) f)
 
--- The rest of a word, one byte further.
+-- The rest of a word, after one more byte.
 module _ (line : ℕ) (front : List ℕ) (short : length front ≤ 64) where
   abbrev word_parts : Bool → List ℕ → List ℕ → Bool → Result (List ℕ × Coming) GridFault
   word_parts long word rest f = if long then Err (grid_fault LongToken line) else word_end line word rest f

@@ -4,7 +4,7 @@ use Rattle.cell_ascii_meaning.specs.declared.grid_fault.GridFault.{GridFault}
 use Rattle.cell_ascii_meaning.specs.declared.grid_fault.GridKind.{GridKind}
 use Rattle.cell_ascii_meaning.specs.declared.grid_fault.GridKind.TheVariants.{Read, Memory, Failed}
 
--- an error in the text or its source, not lack of memory or an earlier failure of the reader
+-- the error is in the text or its source, not lack of memory or an earlier failure of the reader
 abbrev pub IsOfText : GridKind → Type 0
 IsOfText Memory = ⊥
 IsOfText Failed = ⊥

@@ -80,7 +80,7 @@ is_apart c = apart c.bytes c.fails
     apart [] fails = not fails
     apart (b ∷ bs) fails = is_space b
 
--- a valid position: the run is within the limit, and a pending token is a complete word
+-- the position is valid: the run is within the limit, and a pending token is a complete word
 pub record IsPlaceOf (at : At) : Type 0 where
   pub low : at.run ≤ 1048576
   pub token : IfSome at.pending (λ w. IsTrue (is_word w))

@@ -13,7 +13,7 @@ use Rattle.cell_ascii_meaning.specs.Header.{has_colon, usual_null}
 abbrev pub without_zeros : List ℕ → List ℕ
 without_zeros digits = take (length digits - prefix_len (λ b. b == byte (codes "0")) (reverse digits)) digits
 
--- a fraction of 10^8 as a point and up to eight digits, without trailing zeros; empty if the fraction is 0
+-- the text of a fraction of 10^8: a point and up to eight digits, without trailing zeros; empty if the fraction is 0
 abbrev pub fraction_text : ℕ → List ℕ
 fraction_text part = if part == 0 then [] else byte (codes ".") ∷ without_zeros (drop 1 (decimal (100000000 + part)))
 
@@ -52,7 +52,7 @@ row_text null_text row = join_with_byte (byte (codes " ")) (map (cell_text null_
 abbrev pub grid_text : List ℕ → Grid → List ℕ
 grid_text null_text m = region_text m.region ++ null_line null_text ++ flat_map (row_text null_text) m.rows
 
--- a valid null text: 1 to 64 bytes without blanks, line feeds and colons
+-- the null text is valid: 1 to 64 bytes without blanks, line feeds and colons
 pub record IsNullText (null_text : List ℕ) : Type 0 where
   pub some : 1 ≤ length null_text
   pub most : length null_text ≤ 64
