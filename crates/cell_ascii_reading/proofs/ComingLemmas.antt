@@ -28,7 +28,7 @@ past_byte F G a n b buffered rest_buffered rest same = rw (rest_buffered, rest, 
     mapped t None = refl
     mapped t (Some c) = ap Some (same (t ++ c.bytes) c.fails)
 
--- functions that agree on no bytes agree at the end of the text
+-- functions that agree on the empty list of bytes agree at the end of the text
 pub at_end : {X : Type 0} (F G : Coming → X) (known : Option Coming) (f : Bool) → IsAtEnd f known → F (coming [] f) ≡ G (coming [] f) → option_map F known ≡ option_map G known
 at_end F G None f e same = refl
 at_end F G (Some c) f e same = ap Some (ap F (ended c f e) ∙ same ∙ sym (ap G (ended c f e)))

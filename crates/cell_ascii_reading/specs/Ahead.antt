@@ -20,7 +20,7 @@ before_coming bs c = record { bytes = bs ++ c.bytes; fails = c.fails }
 abbrev pub bytes_to_come : Ahead → Option Coming
 bytes_to_come a = option_map (before_coming a.buffered) a.rest
 
--- if the bytes to come are known, there are none, and the source ends or fails as stated
+-- if the bytes to come are known, none are left, and the source fails at its end exactly if `fails` is true
 abbrev pub IsAtEnd : Bool → Option Coming → Type 0
 IsAtEnd fails known = IfSome known (λ c. (c.bytes ≡ []) × (c.fails ≡ fails))
 

@@ -7,7 +7,7 @@ use Rattle.cell_ascii_reading.specs.declared.scanner.InLine.TheVariants.{Word, F
 use Rattle.cell_ascii_reading.proofs.StepLemmas.{room_still, smaller, step_reports}
 use Rattle.cell_ascii_reading.proofs.scanner.Scanner.skip_blanks.Goals as goal
 
--- the text has not ended
+-- a result is not both a word and the end of the text
 word_end : (P : Type 0) (r : Result InLine GridFault) → r ≡ Ok Word → r ≡ Ok End → P
 word_end P r one other = cc
 

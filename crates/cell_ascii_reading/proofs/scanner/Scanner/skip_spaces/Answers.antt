@@ -7,7 +7,7 @@ use Rattle.cell_ascii_reading.specs.declared.scanner.Next.TheVariants.{Word, End
 use Rattle.cell_ascii_reading.proofs.StepLemmas.{room_left, smaller, lines_still, lines_end, further_still, further_same, same_line, step_reports}
 use Rattle.cell_ascii_reading.proofs.scanner.Scanner.skip_spaces.Goals as goal
 
--- the text has not ended
+-- a result is not both a word and the end of the text
 word_end : (P : Type 0) (r : Result Next GridFault) → r ≡ Ok Word → r ≡ Ok End → P
 word_end P r one other = cc
 

@@ -86,7 +86,7 @@ returns-then-self-ge1048576-clause-step g c =
       end = tt;
     }
 
--- a line feed was passed
+-- a line feed was skipped
 pub returns-then-b-eq10-clause-step : goal.returns-then-b-eq10-clause-step
 returns-then-b-eq10-clause-step g c =
     let s = c.args.self.now in
@@ -106,7 +106,7 @@ returns-then-b-eq10-clause-step g c =
       end = tt;
     }
 
--- a blank was passed
+-- a blank was skipped
 pub returns-clause-step : goal.returns-clause-step
 returns-clause-step g c =
     let s = c.args.self.now in
