@@ -194,7 +194,7 @@ bytes-power (suc z) =
     pow-suc 256 z ∙ ap (λ (x : ℕ). x * 256) (bytes-power z) ∙ sym (pow-add 2 (8 * z) 8)
     ∙ ap (λ (i : ℕ). 2 ^ i) (sym count)
 
--- z low bytes that are 0, before a byte that is not, are counted with the trailing zero bits
+-- if z low bytes are 0 and the next byte is not, the number of trailing zero bits divided by 8 is z
 trailing-bytes : (z y : ℕ) → z ≤ 7 → 0 < y % 256 → count_trailing_zeros 64 (256 ^ z * y) / 8 ≡ z
 trailing-bytes z y few some =
     let rest = 64 - 8 * z in

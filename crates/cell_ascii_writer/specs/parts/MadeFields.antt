@@ -5,7 +5,7 @@ use Rattle.cell_core.specs.Text.{cell_text}
 use Rattle.cell_ascii_writer.specs.declared.fields.Field.{Field}
 use Rattle.cell_ascii_writer.specs.Fields.{IsFieldOf, digit_values}
 
--- the fields of cells stored as bytes
+-- each byte below 255 has the field of its cell, and byte 255 has the field of null if the null text is short
 pub record AreMade (null_text : List ℕ) (small : List Field) : Type 0 where
   pub null : length null_text ≤ 64
   pub categories : (i : ℕ) (d : Field) → i < 255 → IsFieldOf (cell_text null_text (byte_cell i)) (get_or small i d)
