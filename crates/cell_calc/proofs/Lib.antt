@@ -1,4 +1,4 @@
--- What several proofs share.
+-- Lemmas shared by several proofs.
 pub mod Strips
 pub mod Places
 pub mod Ready

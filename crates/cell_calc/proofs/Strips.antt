@@ -9,7 +9,7 @@ use Rattle.cell_calc_binding.specs.Applied.{operator_value}
 use Rattle.cell_calc_binding.specs.Offsets.{item_at}
 use Rattle.cell_calc.specs.RowValues.{at}
 
--- a property of each cell at the start of a row and of each cell after it holds of all cells
+-- if the cells at the start of a row and the cells after them have a property, all cells of the row have it
 after_front : (P : ℕ → CellValue → Type 0) (a : ℕ) (front ys : List CellValue) → length front ≡ a
     → ((c : ℕ) → c < a → P c (at front c)) → ((c : ℕ) → c < length ys → P (a + c) (at ys c))
     → (c : ℕ) → c < a + length ys → (b : Bool) → nat_lt c a ≡ b → P c (at (front ++ ys) c)
@@ -29,7 +29,7 @@ part_at source part first width from c right is place lt =
     let there : pos (from + c) +ℤ right ≡ pos (first + c) = omega (arith, ints, place) in
     rw there (ap (λ l. get_or l c None) is ∙ get_or-take width (drop first source) c None lt ∙ get_or-drop first source c None)
 
--- a property of the cells of three parts holds of the row that they form
+-- if the cells of three parts have a property, the cells of the row of these parts have it
 pub three_parts : (P : ℕ → CellValue → Type 0) (a b : ℕ) (l m r : List CellValue) → length l ≡ a → length m ≡ b
     → ((c : ℕ) → c < a → P c (at l c)) → ((c : ℕ) → c < b → P (a + c) (at m c)) → ((c : ℕ) → c < length r → P (a + (b + c)) (at r c))
     → (c : ℕ) → c < a + (b + length r) → P c (at (l ++ (m ++ r)) c)

@@ -15,7 +15,7 @@ pub no_front : {V : Type 0} (queue : List V) (n : ℕ) → slice_get queue 0 ≡
 no_front [] n none count some = omega arith
 no_front (x ∷ queue) n none count some = cc
 
--- moving a row from the queue to the ring keeps their total number
+-- moving a row from the queue to the ring keeps the total number of rows
 pub as_many : {V : Type 0} (rows queue more rest : List V) (x y : V) → slice_get queue 0 ≡ Some x
     → more ≡ rows ++ y ∷ [] → rest ≡ drop 1 queue → length more + length rest ≡ length rows + length queue
 as_many rows [] more rest x y front is_more is_rest = absurd (let no : ⊥ = cc in no)
