@@ -1,4 +1,4 @@
--- What several proofs share.
+-- Lemmas shared by several proofs.
 pub mod Fit
 pub mod Compact
 pub mod Index

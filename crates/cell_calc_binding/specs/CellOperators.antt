@@ -57,14 +57,14 @@ abbrev pub chosen_cell : CellValue → CellValue → CellValue → CellValue
 chosen_cell None a b = None
 chosen_cell (Some x) a b = if is_zero x then b else a
 
--- the smaller of two cells, and the larger; null if either is null
+-- the smaller and the larger of two cells; null if either is null
 abbrev pub lesser : CellValue → CellValue → CellValue
 lesser a b = of_both (λ x y. Some (int_min x y)) a b
 
 abbrev pub greater : CellValue → CellValue → CellValue
 greater a b = of_both (λ x y. Some (int_max x y)) a b
 
--- the smallest cell, and the largest; null if any is null or there are none
+-- the smallest and the largest of some cells; null if any cell is null or there are none
 abbrev pub least : List CellValue → CellValue
 least [] = None
 least (a ∷ xs) = fold lesser a xs

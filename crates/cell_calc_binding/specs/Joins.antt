@@ -3,7 +3,7 @@ use Rattle.std.specs.Prelude.{if◌then◌else◌}
 use Rattle.cell_core.specs.Grid.{CellValue}
 use Rattle.cell_calc_binding.specs.CellOperators.{lesser, greater, is_null}
 
--- the smaller of two cells, and the larger, ignoring null
+-- the smaller and the larger of two cells, ignoring null
 abbrev pub known_lesser : CellValue → CellValue → CellValue
 known_lesser a b = if is_null a then b else (if is_null b then a else lesser a b)
 
