@@ -52,7 +52,7 @@ bytes_of_each f table (v ∷ vs) (b ∷ bs) e is few each =
     ∙ ap (λ l. f (byte_cell b) ∷ l) (bytes_of_each f table vs bs (omega (arith, e)) is (λ i. few (suc i))
     (λ c lt. each (suc c) (omega (arith, lt))))
 
--- a property of each item also holds after one more item that has it
+-- if all items and an appended item have a property, all items of the longer list have it
 pub item_pushed : {A : Type 0} (d : A) (P : ℕ → A → Type 0) (old : List A) (x : A) (n : ℕ) → length old ≡ n
     → ((k : ℕ) → k < n → P k (get_or old k d)) → P n x → (k : ℕ) → k < n + 1 → P k (get_or (old ++ x ∷ []) k d)
 item_pushed d P old x n count done here =
@@ -61,7 +61,7 @@ item_pushed d P old x n count done here =
     (x ∷ []) d k lt)) (done k below))
     (subst (P n) (sym (get_or_at old x [] d n count)) here)
 
--- a property of each cell also holds after one more cell that has it
+-- if all cells and an appended cell have a property, all cells of the longer row have it
 pub one_pushed : (P : ℕ → CellValue → Type 0) (old : List CellValue) (x : CellValue) (n : ℕ) → length old ≡ n
     → ((k : ℕ) → k < n → P k (at old k)) → P n x → (k : ℕ) → k < n + 1 → P k (at (old ++ x ∷ []) k)
 one_pushed = item_pushed None

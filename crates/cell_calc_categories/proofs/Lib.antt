@@ -1,3 +1,3 @@
--- What several proofs share.
+-- Lemmas shared by several proofs.
 pub mod Categories
 pub mod MapLemmas
