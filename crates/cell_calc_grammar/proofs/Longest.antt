@@ -1,4 +1,4 @@
--- The first piece of a text is the longest word or sign that it begins with.
+-- The first piece of a text is the longest word or sign at its start.
 use Rattle.std.proofs.Common.{◌≡◌, ℕ, ◌+◌, ◌<◌, ◌≤◌, Bool, true, false, ◌&&◌, ◌||◌, nat_le, List, [], ◌∷◌, ◌++◌, length, drop, refl, ap, sym, ◌∙◌, arith, subst, Option, Some, None, cond, length-append, append_assoc}
 use Rattle.std.proofs.lemmas.Bool.Decides.{Decides-eqb, nat_tests}
 use Rattle.std.proofs.lemmas.List.Sums.{prefix_len-le-length}
@@ -77,7 +77,7 @@ found-all P (x ∷ xs) bytes s all h = go (bytes_eq x.0 bytes) refl h (found-all
 pub sign-passes : (q : List ℕ → Bool) (bytes : List ℕ) (s : Sign) → list_all q (map (λ x. x.0) signs) ≡ true → sign_of bytes ≡ Some s → q bytes ≡ true
 sign-passes q bytes s all is = found-all (λ x. q x ≡ true) signs bytes s (list_all-AllOf q (map (λ x. x.0) signs) all) is
 
--- a spelling that a text begins with is no longer than the text
+-- a spelling at the start of a text is no longer than the text
 starts_with-length : (text s : List ℕ) → starts_with nat_eq text s ≡ true → length s ≤ length text
 starts_with-length text s h =
     let e : text ≡ s ++ drop (length s) text = (starts_is Decides-eqb text s (starts_with nat_eq text s) refl).0 h in

@@ -23,7 +23,7 @@ left (Got a rest) = rest
 left (GotAll xs rest) = rest
 left (Stops kind rest) = rest
 
--- the tokens that a state has still to read
+-- the tokens that a state still has to read
 abbrev pub tokens : State → List Placed
 tokens (Operand ts) = ts
 tokens (Whole k ts) = ts

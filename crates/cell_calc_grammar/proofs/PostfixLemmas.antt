@@ -102,7 +102,7 @@ taking : {L : Type 0} (s : Step L) (rest : List (Step L)) (n : ℕ) → AreEnoug
 taking s rest n h = (omega arith, let e : (n + arity s) - arity s + 1 ≡ n + 1 = omega arith in rw e h)
 
 mutual
-  -- each step of an expression has its operands
+  -- each step of an expression has enough operands
   enough : {L : Type 0} (f : Tree L) (rest : List (Step L)) (n : ℕ) → AreEnough rest (n + 1) → AreEnough (postfix f ++ rest) n
   enough (Number i) rest n h = let e : n + 0 ≡ n = omega arith in rw e at (taking (step.Number i) rest n h)
   enough (Map l down right) rest n h = let e : n + 0 ≡ n = omega arith in rw e at (taking (step.Map l down right) rest n h)

@@ -84,12 +84,12 @@ pub data NoNumber : CalcKind → List Placed → Type 0 where
   none : {ts : List Placed} → IsNoNumber (head ts) → NoNumber Expected ts
   far : {n c : ℕ} {ts : List Placed} → 255 < n → NoNumber BadOffset (token_number_at n c ∷ ts)
 
--- reading an offset stops after its sign, or where a sign could be
+-- reading an offset stops after `front`, where the number of the offset should be
 abbrev pub NoOffset : CalcKind → List Placed → List Placed → Type 0
 NoOffset kind front rest =
     (f : ℕ → ℤ) × Signed f front × (front ≡ [] → IsNot Minus (head rest) × IsNot Plus (head rest)) × NoNumber kind rest
 
--- reading offsets stops, with the tokens read so far and the rest
+-- reading offsets stops after `front`, before `rest`
 pub data NoOffsets : CalcKind → List Placed → List Placed → Type 0 where
   first : {kind : CalcKind} {front rest : List Placed} → NoOffset kind front rest → NoOffsets kind front rest
   no_comma : {front rest : List Placed} {down : ℤ} → IsOffset front down → IsNot Comma (head rest)

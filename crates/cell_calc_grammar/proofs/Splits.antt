@@ -1,7 +1,7 @@
 -- Two cuts of the same list.
 use Rattle.std.proofs.Common.{◌≡◌, List, [], ◌∷◌, ◌++◌, length, refl, sym, ap, ◌∙◌, arith, length-append, append-nil}
 
--- two cuts are at the same index, or the first is before the second, or after it
+-- two cuts are at the same index, or one is before the other
 pub data Cuts {A : Type 0} (b : List A) (x : A) (r : List A) (b' : List A) (x' : A) (r' : List A) : Type 0 where
   same : b ≡ b' → x ≡ x' → r ≡ r' → Cuts b x r b' x' r'
   before : (m : List A) → b' ≡ b ++ x ∷ m → r ≡ m ++ x' ∷ r' → Cuts b x r b' x' r'
