@@ -27,7 +27,7 @@ use Rattle.cell_calc_grammar.proofs.Occurs.{left, find}
 use Rattle.cell_calc_grammar.proofs.Splits.{in_first, in_second, Stays, stays, not_longer, not_nothing}
 use Rattle.cell_calc_grammar.proofs.Walk.{shape_append}
 
--- a list whose shape has two parts has two parts with these shapes
+-- if the shape of a list has two parts, so does the list, and the first parts match
 split_shape : (ts : List Token) (us : List Token) (vs : List Placed) → shape vs ≡ ts ++ us → (ws xs : List Placed) × (vs ≡ ws ++ xs) × (shape ws ≡ ts)
 split_shape [] us vs e = ([], vs, refl, refl)
 split_shape (t ∷ ts) us [] e = absurd (let h : ⊥ = cc in h)
