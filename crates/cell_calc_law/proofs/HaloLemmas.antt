@@ -72,7 +72,7 @@ row-item : (r : Rectangle) (rows : List (List CellValue)) (z : ℤ) → item_at 
 row-item r rows (pos i) = row-cut r rows i
 row-item r rows (negsuc i) = sym (nothing-cut r.cols r.left)
 
--- no row is longer than the region
+-- no row has more cells than the region has columns
 row-length : (cols : ℕ) (rows : List (List CellValue)) → All (λ row. length row ≡ cols) rows → (z : ℤ) → length (item_at [] rows z) ≤ cols
 row-length cols rows wide (pos i) =
     ⊎_elim (λ within. let e = wide i [] within in omega (arith, e))

@@ -49,7 +49,7 @@ nothing-there : (z : ℤ) → item_at {A = CellValue} None [] z ≡ None
 nothing-there (pos n) = refl
 nothing-there (negsuc n) = refl
 
--- no row is longer than the region
+-- no row has more cells than the region has columns
 row-most : (region : RegionValue) (rows : List (List CellValue)) → IsFilled region rows → (z : ℤ)
     → length (item_at [] rows z) ≤ region.cols
 row-most region rows filled (negsuc i) = omega arith
