@@ -25,7 +25,7 @@ use Rattle.cell_calc_modes.specs.parts.Modes.{IsLongestRun, HaveLongest, unless_
 use Rattle.cell_calc_modes.specs.ColumnCells.{at, column}
 use Rattle.cell_calc_modes.proofs.Columns.{column_item, column_length, whole}
 
--- of two categories, one is smaller or they are equal
+-- a claim that follows from w < v, from w = v and from v < w is true
 pub by_order : {P : Type 0} (w v : ℤ) → (w <ℤ v → P) → (w ≡ v → P) → (v <ℤ w → P) → P
 by_order {P} w v less same greater = go (int_cmp w v) (int_ranks w v)
   where
@@ -137,7 +137,7 @@ old_longest cells b most u run v n is not_less counted few = record {
         let k = is.same in
         omega (arith, none, some, k)
 
--- a category that is not less than another in the cell order is not a smaller number
+-- if v is not less than u in the order of cells, v is not below u as a number
 not_below : (v u : ℤ) → is_lt (cell_cmp (Some v) (Some u)) ≡ false → v <ℤ u → ⊥
 not_below v u e less = go (int_cmp v u) (int_ranks v u) e
   where
@@ -330,7 +330,7 @@ frequent_is cells b most all within below same positive =
     passes None h = absurd (true≢false h)
     passes (Some w) h = let few = within w in grind (arith, few, same)
 
--- the longest run of sorted cells is the most frequent category of the same cells in any order
+-- the category of the longest run in sorted cells is the most frequent category of these cells in any order
 pub longest_is : (cells xs : List CellValue) (best : CellValue) (most : ℕ) (last : CellValue) (run : ℕ)
     → HaveLongest cells best most last run → All (λ cell. is_null cell ≡ false) cells → IsPermutation xs cells
     → best ≡ most_frequent xs
@@ -345,7 +345,7 @@ longest_is cells xs (Some b) most (Some u) run is all moved =
     occurs : (w : ℤ) → occurrences (Some w) cells ≡ occurrences (Some w) xs
     occurs w = sum_by-IsPermutation (λ x. if cell_eq (Some w) x then 1 else 0) xs cells moved
 
--- after the loop, the longest run is the most frequent category of all cells
+-- after the loop, the category of the longest run is the most frequent category of all cells
 pub longest_all : (cells xs : List CellValue) (i : ℕ) (best : CellValue) (most run : ℕ)
     → length cells ≤ i → All (λ cell. is_null cell ≡ false) cells
     → HaveLongest (take i cells) best most (at cells (i - 1)) run

@@ -1,4 +1,4 @@
--- What several proofs share.
+-- Lemmas shared by several proofs.
 pub mod Columns
 pub mod Frequent
 pub mod ModeLanes

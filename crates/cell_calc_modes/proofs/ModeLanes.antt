@@ -442,7 +442,7 @@ block_done P old new done c le was before each k lt = by (cases_lt k c)
         let here : c + (k - c) ≡ k = omega (arith, more) in
         subst (λ j. P j (at new j)) here (each (k - c) (omega (arith, more, lt)))
 
--- one more number of a block is the key of its cell
+-- adding the key of one more cell keeps each number of a block the key of its cell
 pub keys_more : (cells : List CellValue) (c k : ℕ) (keys : List ℕ) (key : ℕ) (cell : CellValue) → k < length keys
     → c + k < length cells
     → cell ≡ get_or cells (c + k) cell → key_cell key ≡ cell
