@@ -1,2 +1,2 @@
--- What several proofs share.
+-- Lemmas shared by several proofs.
 pub mod Reaches
