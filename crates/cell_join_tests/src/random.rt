@@ -8,7 +8,7 @@ use std::alloc::AllocGlobal;
 use std::process::Abort;
 use std::test::Fail;
 
-/// Checks that however a map is cut into a grid, its clumps, by edges and by corners, have the full map's numbers.
+/// Checks that the clumps of a map cut into any grid have the full map's numbers, by edges and by corners.
 pub(crate) fn expect_as_whole<R: Abort + AllocGlobal>(
     rt: &R,
     categories: &[i32],

@@ -8,7 +8,7 @@ use std::test::Fail;
 
 // By edges, the numbers of the full map are 1 1 2 2, 1 * 2 3 and 4 3 3 3.
 const BY_EDGES: &[u8] = b"1 1 1 1\n2 1 2 2\n3 1 1 4\n3 2 2 3\n4 1 1 3\n";
-// By edges and corners, they are 1 1 2 2, 1 * 2 1 and 3 1 1 1.
+// By edges and corners, the numbers of the full map are 1 1 2 2, 1 * 2 1 and 3 1 1 1.
 const BY_CORNERS: &[u8] = b"1 1 1 1\n2 1 1 2\n2 2 2 1\n3 1 1 3\n3 2 2 1\n4 1 1 1\n";
 
 // A sink with enough room, whose flush does not fail.
