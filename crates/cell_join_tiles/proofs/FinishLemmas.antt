@@ -34,7 +34,7 @@ use Rattle.cell_join_tiles.proofs.JoinedLemmas.{borders, lines}
 use Rattle.cell_join_tiles.proofs.RowsLemmas.{lists-same}
 use Rattle.cell_join_tiles.proofs.SideLemmas.{maps-same, number-inside, to-seams, from-seams}
 
--- ---- lists by their places
+-- ---- elements of lists
 
 shift-lists : {X : Type 0} (f : ℕ → List X) (a n : ℕ) → flat_map f (range_with_len (a + 1) n) ≡ flat_map (λ k. f (k + 1)) (range_with_len a n)
 shift-lists f a zero = refl
@@ -206,7 +206,7 @@ module _ (grid : List (List BorderValue)) (joiner : TileJoinerValue) (are : AreJ
         let all = borders-count-the-whole j whole heights widths map_of numbers_of counts_in cut b joiner.pairs at-seams ((clumps_in_grid counts_in - length paired) + get_or roots (length paired) 0) (h.count (clumps_in_grid counts_in) below) in
         subst (λ (n : ℕ). HasAreas j whole ((n - length paired) + get_or roots (length paired) 0)) (sym are.clumps) all
 
--- ---- what a joiner gives
+-- ---- the result of a joiner
 
 pub grid-runs : (grid : List (List BorderValue)) (joiner : TileJoinerValue) → AreJoinedTiles grid joiner → (paired list roots : List ℕ) (h : NumberPairs joiner.pairs paired list roots) (all : List Stretch) → all ≡ runs_of_tiles h.number 1 joiner.tiles → AreRunsOf joiner.joining grid all
 grid-runs grid joiner are paired list roots h all is = record {

@@ -16,7 +16,7 @@ use Rattle.cell_join_numbers.specs.Labelled.{HasAreas}
 use Rattle.cell_join_tiles.specs.parts.Greatest.{greater_of, greatest_in, greatest_of}
 use Rattle.cell_join_numbers.proofs.NumberLemmas.{before-then}
 
--- ---- no number is larger, and it is one
+-- ---- the largest number
 
 greater-least : (most : ℕ) (cell : CellValue) → most ≤ greater_of most cell
 greater-least most None = omega arith

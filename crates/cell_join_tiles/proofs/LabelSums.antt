@@ -6,7 +6,7 @@ use Rattle.std.proofs.lemmas.List.Sums.{sum_by-cons}
 use Rattle.cell_join_tiles.specs.Beginnings.{Begun, clumps_in_row, begun_before, begun_above}
 use Rattle.cell_join_tiles.proofs.StretchLemmas.{sum-cons}
 
--- ---- any sums
+-- ---- sums of any terms
 
 module _ {X : Type 0} (f : X → ℕ) where
   pub more-le : (xs : List X) (i k : ℕ) → i ≤ k → sum_by f (take i xs) ≤ sum_by f (take k xs)

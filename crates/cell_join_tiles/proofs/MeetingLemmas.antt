@@ -32,7 +32,7 @@ line_meeting-unlike a b f = cond-false (int_eq a.category b.category) ((a.label,
 line_meeting-same : (a b : Mark) → a.category ≡ b.category → line_meeting (Some a) (Some b) ≡ (a.label, b.label) ∷ []
 line_meeting-same a b e = line_meeting-alike a b ((Decides-int_eq a.category b.category).1 e)
 
--- ---- one place more
+-- ---- one more place
 
 range-more : (n : ℕ) → range_with_len 0 (n + 1) ≡ range_with_len 0 n ++ n ∷ []
 range-more n = sym (map-id (range_with_len 0 (n + 1))) ∙ map-range_with_len_more (λ (k : ℕ). k) 0 n n (omega arith) ∙ ap (λ ks. ks ++ n ∷ []) (map-id (range_with_len 0 n))
@@ -41,7 +41,7 @@ pub places-more : (f : ℕ → List (ℕ × ℕ)) (n : ℕ) → flat_map f (rang
 places-more f n =
     ap (flat_map f) (range-more n) ∙ flat_map-append f (range_with_len 0 n) (n ∷ []) ∙ ap (λ ps. flat_map f (range_with_len 0 n) ++ ps) (flat_map-cons f n [] ∙ append-nil (f n))
 
--- ---- which pairs there are
+-- ---- the pairs that meet
 
 pub places-have : (f : ℕ → List (ℕ × ℕ)) (x : ℕ × ℕ) (a n c : ℕ) → a ≤ c → c < a + n → Contains (f c) x → Contains (flat_map f (range_with_len a n)) x
 places-have f x a zero c low high h = absurd (omega (arith, low, high))

@@ -85,7 +85,7 @@ module _ (j : Joining) (whole : Grid) (heights widths : List ℕ) (map_of number
     only = at_cuts.only;
   }
 
-  -- ---- first cells there are
+  -- ---- the list of first cells
 
   firsts_of : (r c : ℕ) → r < length heights → c < length widths → HasAreas j (map_of r c) (greatest_of 0 (numbers_of r c).rows)
   firsts_of r c r_in c_in = has-areas j (map_of r c) (numbers_of r c) (borders.clumpings r c r_in c_in)

@@ -14,7 +14,7 @@ use Rattle.cell_join_tiles.specs.parts.RowLabels.{AreEnds, AreFirstLabels, in_ea
 use Rattle.cell_join_tiles.proofs.StretchLemmas.{Lies, lies, stretch-is}
 use Rattle.cell_join_tiles.proofs.LabelSums.{more-le, next-one, all-of, begun-next, above-next, above-le, above-whole}
 
--- ---- one more of a list of lists
+-- ---- one more list in a list of lists
 
 pub range-more : (n : ℕ) → range_with_len 0 (n + 1) ≡ range_with_len 0 n ++ n ∷ []
 range-more n = sym (map-id (range_with_len 0 (n + 1))) ∙ map-range_with_len_more (λ (k : ℕ). k) 0 n n (omega arith) ∙ ap (λ ks. ks ++ n ∷ []) (map-id (range_with_len 0 n))
@@ -65,7 +65,7 @@ module _ (begun ends : List ℕ) (are : AreEnds begun ends) where
   pub end-before : (row : ℕ) → row < length begun → get_or ends row 0 ≡ begun_before begun row + get_or begun row 0
   end-before row inside = are.each row inside ∙ begun-next begun row
 
--- ---- firsts
+-- ---- the labels of first clumps
 
 pub first-label : (base : ℕ) (tiles : List Begun) (c : ℕ) (firsts : List ℕ) → AreFirstLabels base tiles c firsts → length (get_or tiles c []) ≤ length firsts → (k : ℕ) → k < sum (get_or tiles c []) → tile_label firsts (get_or tiles c []) k ≡ row_label base tiles c k
 first-label base tiles c firsts are long k lt =

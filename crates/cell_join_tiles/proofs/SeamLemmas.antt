@@ -20,7 +20,7 @@ use Rattle.cell_join_tiles.specs.declared.marks.Mark.{Mark}
 use Rattle.cell_join_tiles.specs.SeamLines.{Line, line_meetings, seam_mark_of, IsLineOf, AreSeamLines, IsAtSide, IsAtRow, SeamLinesPair}
 use Rattle.cell_join_tiles.proofs.StretchLemmas.{Lies, lies}
 
--- ---- touching
+-- ---- cells that touch
 
 touch-more : (n : ℕ) (j : Joining) (c d : ℕ) → Touch j c d → Touch j (n + c) (n + d)
 touch-more n Edges c d h = ap (λ k. n + k) h

@@ -130,7 +130,7 @@ module _ (j : Joining) (whole : Grid) (heights widths : List ℕ) (map_of number
       (λ c lt. let c_in : c < length widths = omega (arith, lt, wide r r_in) in side-same r c r_in c_in (get_or widths c 0) (position (get_or heights r 0 - 1)) (border_at grid r c).last (have.tiles r c r_in c_in).last)
       ∙ sym (lines-flat (λ c. side_marks g r c (border_at grid r c).last.cells (border_at grid r c).last.numbers) (range_with_len 0 (length (tile_row_at grid r))))
 
-  -- ---- the pairs of rows of tiles are those at the seams
+  -- ---- the pairs of rows of tiles are the pairs at the seams
 
   abbrev pub AtSeams : ℕ × ℕ → Type 0
   AtSeams x = IsAtSide j heights widths (left_line grid) (right_line grid) x ⊎ IsAtRow j heights (first_seam_line grid) (last_line grid) x

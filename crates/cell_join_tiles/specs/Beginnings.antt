@@ -31,8 +31,8 @@ clumps_in_row tiles = sum_by clumps_in_tile tiles
 abbrev pub clumps_in_grid : List (List Begun) → ℕ
 clumps_in_grid grid = sum_by clumps_in_row grid
 
--- the number of clumps that begin before a row of a tile; that begin before a row of cells in any tile of a row of
--- tiles; and that begin in this row in the tiles on the left
+-- the number of clumps that begin before a row, in one tile and in all tiles of a row of tiles; and the number of
+-- clumps that begin in this row in the tiles on the left
 abbrev pub begun_before : Begun → ℕ → ℕ
 begun_before begun i = sum (take i begun)
 
@@ -96,6 +96,6 @@ pub record ArePaired (j : Joining) (m : Grid) (label_of : Position → ℕ) (pai
 abbrev pub LabelsFollowFirstCells : Type 0
 LabelsFollowFirstCells = (j : Joining) (whole : Grid) (heights widths : List ℕ) (map_of numbers_of : ℕ → ℕ → Grid) (firsts_of : ℕ → ℕ → List Position) (grid : List (List Begun)) → IsCutIntoTiles whole heights widths map_of → HaveBegun j heights widths map_of numbers_of firsts_of grid → (r c k s d l : ℕ) (one other : Position) → r < length heights → c < length widths → k < length (firsts_of r c) → s < length heights → d < length widths → l < length (firsts_of s d) → one ≡ moved_position (tile_place heights widths r c) (slice_index_or (firsts_of r c) k (position 0 0)) → other ≡ moved_position (tile_place heights widths s d) (slice_index_or (firsts_of s d) l (position 0 0)) → clump_label grid r c k < clump_label grid s d l → IsEarlierCell one other
 
--- these labels satisfy the conditions for labels: they are given to cells in row order, one per clump
+-- clump labels satisfy the conditions for labels: they are given to cells in row order, one per clump
 abbrev pub ClumpLabelsAreLabels : Type 0
 ClumpLabelsAreLabels = (j : Joining) (whole : Grid) (heights widths : List ℕ) (map_of numbers_of : ℕ → ℕ → Grid) (firsts_of : ℕ → ℕ → List Position) (grid : List (List Begun)) → IsCutIntoTiles whole heights widths map_of → HaveBegun j heights widths map_of numbers_of firsts_of grid → (label_of : Position → ℕ) → BearLabels heights widths numbers_of grid label_of → (starts : List Position) × (length starts ≡ clumps_in_grid grid) × ((pairs : List (ℕ × ℕ)) → ArePaired j whole label_of pairs → AreLabelled j whole starts label_of pairs)

@@ -19,6 +19,6 @@ RowsJoin = (grid : List (List BorderValue)) (row : List BorderValue) (old new : 
 abbrev pub JoinedTilesNumber : Type 0
 JoinedTilesNumber = (grid : List (List BorderValue)) (joiner : TileJoinerValue) → AreJoinedTiles grid joiner → (paired numbers roots : List ℕ) (h : NumberPairs joiner.pairs paired numbers roots) (runs : List Stretch) → runs ≡ runs_of_tiles h.number 1 joiner.tiles → AreRunsOf joiner.joining grid runs
 
--- each of these maps has the number of clumps that the joiner counts
+-- each map that is cut into the joined tiles has the number of clumps that the joiner counts
 abbrev pub JoinedTilesCount : Type 0
 JoinedTilesCount = (grid : List (List BorderValue)) (joiner : TileJoinerValue) → AreJoinedTiles grid joiner → (paired numbers roots : List ℕ) (h : NumberPairs joiner.pairs paired numbers roots) (n : ℕ) → n ≡ (joiner.clumps - length paired) + slice_index roots (length paired) → GridClumps joiner.joining grid n

@@ -16,7 +16,7 @@ use Rattle.cell_join_tiles.specs.JoinedBorders.{HaveBorders, begun_in}
 use Rattle.cell_join_tiles.specs.parts.RowLabels.{labels_in_tile}
 use Rattle.cell_join_tiles.specs.parts.RowMarks.{begun_of, first_in, last_in, pairs_within}
 
--- ---- what the joiner keeps of rows of tiles
+-- ---- the state that the joiner keeps
 
 -- the connectivity, the number of clumps, the pairs of labels that meet at seams, the last row of cells with its
 -- labels, and the labels of each tile's clumps
@@ -71,11 +71,11 @@ clumps_by_tile grid = flat_map (λ row. map (λ border. sum border.begun) row) g
 abbrev pub GridNumbers : Joining → List (List BorderValue) → List ℕ → Type 0
 GridNumbers j grid numbers = (whole : Grid) (heights widths : List ℕ) (map_of numbers_of : ℕ → ℕ → Grid) → IsCutIntoTiles whole heights widths map_of → HaveBorders j heights widths map_of numbers_of grid → (r c : ℕ) → r < length heights → c < length widths → (p : Position) (k : ℕ) → cell_at_position (numbers_of r c) p ≡ Some (pos k) → HasNumber j whole (moved_position (tile_place heights widths r c) p) (slice_index numbers (clumps_before_tile (begun_in grid) r c + (k - 1)))
 
--- each of these maps has `n` clumps
+-- each map that is cut into tiles with these borders has `n` clumps
 abbrev pub GridClumps : Joining → List (List BorderValue) → ℕ → Type 0
 GridClumps j grid n = (whole : Grid) (heights widths : List ℕ) (map_of numbers_of : ℕ → ℕ → Grid) → IsCutIntoTiles whole heights widths map_of → HaveBorders j heights widths map_of numbers_of grid → HasAreas j whole n
 
--- the runs of these numbers
+-- the runs of the numbers of a grid of tiles
 pub record AreRunsOf (j : Joining) (grid : List (List BorderValue)) (runs : List Stretch) : Type 0 where
   pub numbers : List ℕ
   pub many : length numbers ≡ sum (clumps_by_tile grid)

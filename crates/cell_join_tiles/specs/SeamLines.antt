@@ -13,7 +13,7 @@ use Rattle.cell_join_tiles.specs.declared.marks.Mark.{Mark}
 use Rattle.cell_join_tiles.specs.Beginnings.{Begun, clump_label, IsCutIntoTiles, tile_place}
 use Rattle.cell_join_tiles.specs.Borders.{ArePairedAtSeams, number_of, cell_label}
 
--- a line of cells
+-- a line of cells, each with its mark, or `None` for null
 abbrev pub Line : Type 0
 Line = List (Option Mark)
 

@@ -17,6 +17,6 @@ numbers_by_tile number grid = flat_map (numbers_of_row number grid) (range_with_
 abbrev pub clumps_before_tile : List (List Begun) → (r c : ℕ) → ℕ
 clumps_before_tile grid r c = sum_by clumps_in_row (take r grid) + sum_by clumps_in_tile (take c (slice_index_or grid r []))
 
--- the index at which each number is listed
+-- each clump's number is listed at the clump's index among the clumps of all tiles
 abbrev pub TileNumbersAreListed : Type 0
 TileNumbersAreListed = (number : ℕ → ℕ) (grid : List (List Begun)) (r c k : ℕ) → r < length grid → c < length (slice_index_or grid r []) → k < clumps_in_tile (slice_index_or (slice_index_or grid r []) c []) → slice_index (numbers_by_tile number grid) (clumps_before_tile grid r c + k) ≡ number (clump_label grid r c k)

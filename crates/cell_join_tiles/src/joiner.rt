@@ -22,9 +22,9 @@ use std::marker::Model;
 /// Why a row of tiles is not joined to the rows above.
 #[derive(Clone, Copy, Debug, PartialEq, Eq)]
 pub enum JoinerFault {
-    /// Its tiles do not all have the same number of rows.
+    /// The row's tiles do not all have the same number of rows.
     OtherRows,
-    /// With its clumps, the number of clumps does not fit in a `u64`.
+    /// With the row's clumps, the total number of clumps does not fit in a `u64`.
     TooManyClumps,
     /// Memory ran out.
     Memory,

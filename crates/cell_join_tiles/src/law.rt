@@ -33,7 +33,7 @@ pub fn borders_number_the_whole()
     ensures { BordersNumberTheWhole }
 {}
 
-/// The count of these numbers is the number of clumps in the full map.
+/// There are as many numbers as clumps in the full map.
 pub fn borders_count_the_whole()
     ensures { BordersCountTheWhole }
 {}
@@ -63,7 +63,7 @@ pub fn label_lines_label()
     ensures { LabelLinesLabel }
 {}
 
-/// They also determine the first labels of the tile to its right.
+/// The labels of the first clumps in each row of a tile also determine those labels for the tile to its right.
 pub fn label_lines_pass()
     ensures { LabelLinesPass }
 {}
@@ -73,7 +73,8 @@ pub fn grids_are_labelled()
     ensures { GridsAreLabelled }
 {}
 
-/// The position at which the number of each clump is listed, if numbers are listed tile by tile.
+/// If numbers are listed tile by tile, each clump's number is listed at the clump's position among the clumps of all
+/// tiles.
 pub fn tile_numbers_are_listed()
     ensures { TileNumbersAreListed }
 {}
@@ -89,7 +90,7 @@ pub fn joined_tiles_number()
     ensures { JoinedTilesNumber }
 {}
 
-/// What the joiner keeps is enough for the number of clumps of each of these maps.
+/// What the joiner keeps is enough for the number of clumps of each map that is cut into these tiles.
 pub fn joined_tiles_count()
     ensures { JoinedTilesCount }
 {}

@@ -108,10 +108,10 @@ pub(crate) struct RowJoin {
     pub(crate) pairs: Vec<(u64, u64)>,
     // The labels of each tile, including the tiles of the rows above.
     pub(crate) tiles: Vec<Vec<Span>>,
-    // The first and the last rows of its tiles.
+    // The first and the last rows of the row's tiles.
     pub(crate) first: Vec<Option<Mark>>,
     pub(crate) last: Vec<Option<Mark>>,
-    // The last column of its last tile.
+    // The last column of the last tile.
     pub(crate) right: Vec<Option<Mark>>,
 }
 

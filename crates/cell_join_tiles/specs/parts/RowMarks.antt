@@ -43,12 +43,12 @@ AreEven rows row = (c : ℕ) → c < length row → length (border_in row c).beg
 abbrev pub side_in : (base : ℕ) → List BorderValue → ℕ → SideValue → Line
 side_in base row c side = marks_of (row_label base (begun_of row) c) (sum (slice_index_or (begun_of row) c [])) side
 
--- the last column of the tile on its left
+-- the last column of the tile to the left of column `c`
 abbrev pub before_in : (base : ℕ) → List BorderValue → ℕ → Line
 before_in base row zero = []
 before_in base row (suc c) = side_in base row c (border_in row c).right
 
--- the pairs between these two columns, and the pairs of the full row
+-- the pairs between a tile's first column and the last column of the tile on its left, and the pairs of the full row
 abbrev pub pairs_before : Joining → (base : ℕ) → List BorderValue → ℕ → List (ℕ × ℕ)
 pairs_before j base row c = line_meetings j (before_in base row c) (side_in base row c (border_in row c).left)
 
@@ -62,6 +62,6 @@ first_in base row n = flat_map (λ c. side_in base row c (border_in row c).first
 abbrev pub last_in : (base : ℕ) → List BorderValue → ℕ → Line
 last_in base row n = flat_map (λ c. side_in base row c (border_in row c).last) (range_with_len 0 n)
 
--- pairs were added to others, some of which may have been there already
+-- pairs are added to other pairs, and may already be among them
 abbrev pub Adds : (old new added : List (ℕ × ℕ)) → Type 0
 Adds old new added = (x : ℕ × ℕ) → Contains new x ↔ (Contains old x ⊎ Contains added x)
