@@ -143,7 +143,7 @@ module _ (whole : Grid) (t : Tile) (tile : IsTile whole t) where
       let near_too : AreAdjacent j (moved_position t.place a) (moved_position t.place b) = subst (λ (s : Position). AreAdjacent j s (moved_position t.place b)) is_a (subst (λ (s : Position). AreAdjacent j p s) is_b near) in
       (a, b, is_a, is_b, AreJoined-adjacent j t.map a b v (adjacent-back t.place j a b near_too) (cell-inside p v in_p first) (cell-inside q v in_q second))
 
--- ---- which tile has both of two cells
+-- ---- the tile that contains both of two cells
 
 decide-in : (r : Rectangle) (p : Position) → IsIn r p ⊎ (¬ IsIn r p)
 decide-in r p = by (is_in r p.row p.col) refl

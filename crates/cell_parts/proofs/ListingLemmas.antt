@@ -16,7 +16,7 @@ use Rattle.cell_stats.proofs.TableLemmas.{found-listed, keys_of, stands}
 use Rattle.cell_parts.specs.TableParts.{count_in, IsMerge}
 use Rattle.cell_parts.specs.Merging.{IsListing, PartGroup, MergesMerge}
 
--- ---- the count of a combination is the count that is listed
+-- ---- the count of a combination is its listed count
 
 none-behind : (x : Combination) (es : Pairs) → AllByRecursion (λ y. combination_cmp x y ≡ Less) (keys_of es) → listed_of x es ≡ 0
 none-behind x [] above = refl
@@ -39,7 +39,7 @@ none-or-some : (o : Option ℕ) (n : ℕ) → 0 < n → n ≡ unwrap_or o 0 → 
 none-or-some None n some is = absurd (omega (arith, some, is))
 none-or-some (Some m) n some is = ap Some (sym is)
 
--- ---- merges, by the counts of combinations
+-- ---- merges, in terms of the counts of combinations
 
 pub IsMerge-from : (tables : List Pairs) (merged : Pairs) → IsListing merged → ((k : Combination) → count_in k merged ≡ sum_by (count_in k) tables) → IsMerge tables merged
 IsMerge-from tables merged listing sums = record {
@@ -93,7 +93,7 @@ merges-merge groups all pairs merge = record {
       (λ c. let both = h.0 c in (both.0, both.1 ∙ sums), λ p. h.1 (p.0, p.1 ∙ sym sums));
 }
 
--- ---- what is merged
+-- ---- the merged table
 
 pub listing-none : IsListing []
 unfolding IsStrictlySortedBy
