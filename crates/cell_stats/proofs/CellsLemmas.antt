@@ -81,7 +81,7 @@ flat_map-replicate-more f n x =
     by zero = append-nil (f x)
     by (suc n) = ap (λ (l : List ℕ). f x ++ l) (by n) ∙ sym (append_assoc (f x) (flat_map f (replicate n x)) (f x))
 
--- ---- a walk over a row, stretch after stretch
+-- ---- a walk over a row, stretch by stretch
 
 -- the walk is at a column, and count columns from there on have these cells
 pub record StandsAt (shelf : ShelfValue) (picks : List ℕ) (row cols col count : ℕ) (cursors : List CursorValue)

@@ -134,7 +134,7 @@ counts-add-up maps picks rows cols =
     let cells = all_combinations maps picks rows cols in
     tally-sum (kept_cells Nothing cells) (table_of Nothing cells) (counts_of-IsTally (kept_cells Nothing cells)) ∙ ap length (kept-nothing cells) ∙ length_all maps picks cols rows
 
--- ---- what a rule leaves out
+-- ---- the effect of a skip rule
 
 pub table-skips : (skip : Skip) (cells : List Combination) → table_of skip cells ≡ filter (λ pair. not (is_left_out skip pair.0)) (table_of Nothing cells)
 table-skips skip cells =

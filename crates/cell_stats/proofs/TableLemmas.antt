@@ -17,7 +17,7 @@ use Rattle.cell_stats_combinations.specs.LeftOut.{kept_cells, is_left_out}
 use Rattle.cell_stats_combinations.proofs.OrderLemmas.{combination_cmp-exact, is_equal}
 use Rattle.cell_stats.proofs.SortedLemmas.{both_true, is_less, each_found}
 
--- ---- the table as what is found in it
+-- ---- the table, in terms of lookups
 
 pub T_from : (b : Bool) → IsTrue b → T b
 T_from true e = tt
@@ -122,7 +122,7 @@ finds_from cells es t k None e = by (count_of k cells) refl
 pub IsFound-from : (cells : List Combination) (es : Pairs) → IsTally cells es → IsFound cells es
 IsFound-from cells es t = record { sorted = ascending_to es t.ascending; finds = λ k. finds_from cells es t k _ refl }
 
--- ---- there is one table
+-- ---- there is exactly one table
 
 pub one_table : (cells : List Combination) (a b : Pairs) → IsTally cells a → IsTally cells b → a ≡ b
 one_table cells a b p q =
@@ -165,7 +165,7 @@ counts_of-IsTally cells =
       finds = λ k. sym (finmap.get-entries m k) ∙ finmap.get-from_entries combination_cmp_total _ k ∙ found_among (λ x. count_of x cells) k cells ∙ occurring_itself (count_of k cells);
     })
 
--- ---- what is left out
+-- ---- combinations that are left out
 
 kept_out : (skip : Skip) (x : Combination) (cells : List Combination) → is_left_out skip x ≡ true → kept_cells skip (x ∷ cells) ≡ kept_cells skip cells
 kept_out skip x cells l = rw l refl

@@ -114,7 +114,7 @@ impl Table {
     }
 }
 
-/// A combination and how often it occurs.
+/// A combination and the number of times it occurs.
 #[derive(Clone, Copy)]
 pub struct Entry<'a> {
     /// The combination.

@@ -9,6 +9,6 @@ use Rattle.cell_stats.specs.TableText.{FormatValue, cell_line}
 abbrev pub selected_lines : FormatValue → Selection → List Combination → List ℕ
 selected_lines format s cells = flat_map (cell_line format s.shelf.now.maps s.picks.now) (kept_cells s.skip cells)
 
--- the cells of a row
+-- the combinations of a row
 abbrev pub selected_row : Selection → ℕ → List Combination
 selected_row s row = row_combinations s.shelf.now.maps s.picks.now s.shelf.now.region.cols row
