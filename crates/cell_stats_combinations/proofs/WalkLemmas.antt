@@ -94,7 +94,7 @@ passed-on maps row col n old new picks e f = e ∙ twice old picks f
         let others : map to_come old ≡ map (λ p. drop col (row_in maps row p)) picks = ap (drop 1) f in
         ap (λ l. l ∷ map (λ c. drop n (to_come c)) old) (ap (drop n) here ∙ drop-drop n col (row_in maps row p)) ∙ ap (λ l. drop (col + n) (row_in maps row p) ∷ l) (twice old picks others)
 
--- ---- its combinations
+-- ---- the combinations of a stretch
 
 -- n columns with the same combination
 pub stretch : (f : ℕ → Combination) (k : Combination) (col n : ℕ) → ((j : ℕ) → j < n → f (col + j) ≡ k) → map f (range_with_len 0 (col + n)) ≡ map f (range_with_len 0 col) ++ replicate n k
