@@ -18,7 +18,7 @@ use Rattle.cell_stats_combinations.proofs.CursorLemmas.{All-take-set}
 use Rattle.cell_stats_counts.proofs.GatheredLemmas.{entry-own}
 use Rattle.cell_stats_counts.proofs.HeldLemmas.{cond-add}
 
--- ---- from neighbours that ascend to all
+-- ---- from ascending neighbours to an ascending list
 
 abbrev pub Ascends : Counts → Type 0
 Ascends es = (i : ℕ) (d : Combination × ℕ) → suc i < length es → combination_cmp (get_or es i d).0 (get_or es (suc i) d).0 ≡ Less
@@ -34,7 +34,7 @@ unfolding IsStrictlySortedBy
 strictly [] up = tt
 strictly (e ∷ es) up = (below e.0 es (λ d some. up 0 d (omega (arith, some))) (λ i d within. up (suc i) d (omega (arith, within))), strictly es (λ i d within. up (suc i) d (omega (arith, within))))
 
--- ---- what is neither less nor equal is above
+-- ---- a combination that is neither less nor equal is above
 
 greater : (o : Ordering) → is_lt o ≡ false → is_eq o ≡ false → ordering_reverse o ≡ Less
 greater Less l e = cc
@@ -49,7 +49,7 @@ any [] i d e h = absurd (omega (arith, h))
 any (x ∷ xs) zero d e h = refl
 any (x ∷ xs) (suc i) d e h = any xs i d e (omega (arith, h))
 
--- ---- the steps of the joining
+-- ---- the steps of joining entries
 
 module _ (old : Counts) (rising : IsRising old) (zeros : HasNoZero old) where
   pub joined-start : 0 < length old → IsJoined old old 0 1
@@ -185,7 +185,7 @@ module _ (old : Counts) (rising : IsRising old) (zeros : HasNoZero old) (now : C
           subst HasNoZero (sym (take_more new (last + 1) d last_new)) (All-push (λ (e : Combination × ℕ). 0 < e.1) (take (last + 1) new) (get_or new (last + 1) d) before last_one);
     }
 
--- ---- what is joined at the end
+-- ---- the joined list at the end
 
 module _ (old now : Counts) (last at : ℕ) (joined : IsJoined old now last at) (end : length old ≤ at) where
   pub end-ascends : IsStrictlySortedBy combination_cmp (map (λ e. e.0) (take (last + 1) now))

@@ -1,4 +1,4 @@
--- How often each combination of categories occurs over several maps.
+-- The number of times that each combination of categories occurs over several maps.
 pub mod Counts
 pub mod Listed
 pub mod parts

@@ -9,11 +9,11 @@ use Rattle.cell_stats_counts.specs.Counts.{count_of}
 abbrev pub Counts : Type 0
 Counts = List (Combination × ℕ)
 
--- how many cells of a combination an entry counts
+-- the number of cells of a combination that an entry counts
 abbrev pub entry_of : Combination → Combination × ℕ → ℕ
 entry_of k entry = cond (eq_by_cmp combination_cmp k entry.0) entry.1 0
 
--- how many cells the list counts, with all entries of the combination added
+-- the number of cells of a combination that the list counts: the sum over its entries
 abbrev pub listed_of : Combination → Counts → ℕ
 listed_of k entries = sum_by (entry_of k) entries
 

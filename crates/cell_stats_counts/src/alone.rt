@@ -1,4 +1,4 @@
-//! Counting the cells of one map.
+//! Counts the cells of one map.
 
 ghost use Rattle.std.specs.Prelude.{◌≡◌, ◌+◌, ◌<◌, ◌^◌, ℕ, [], ◌∷◌, OnOk, length, map, sum_by};
 ghost use Rattle.cell_core_values.specs.Region.{IsRegion};

@@ -47,7 +47,7 @@ pub(crate) fn add_count(
     Ok(())
 }
 
-// The initial number of places of a table: smaller if there are few cells.
+// Returns the initial number of places of a table, which is smaller if there are few cells.
 fn places_for(shelf: &Shelf) -> usize
     ensures { 0 < result }
 {
@@ -56,7 +56,7 @@ fn places_for(shelf: &Shelf) -> usize
     (cells / 2).clamp(FEWEST, FIRST).next_power_of_two() as usize
 }
 
-// The initial places. They count nothing.
+// Returns the initial places, which count nothing.
 pub(crate) fn first_places(
     alloc: Global,
     shelf: &Shelf,

@@ -1,4 +1,4 @@
-//! How often each combination occurs.
+//! Counts how many times each combination occurs.
 
 ghost use Rattle.std.specs.Prelude.{◌≡◌, ◌+◌, ◌<◌, ◌≤◌, All, OnOk, IfOk, length, map};
 ghost use Rattle.cell_core_values.specs.Region.{IsRegion};
@@ -147,8 +147,8 @@ fn count_rows(
     Ok(())
 }
 
-/// The combinations of the cells of the picked maps that are not left out, in ascending order, each with the number of
-/// cells that have it. The picks are places on the shelf; there are 1 to 16, and a map may be picked twice.
+/// Returns the combinations of the picked maps' cells that are not left out, in ascending order, each with the number
+/// of cells that have it. The picks are indices on the shelf; there are 1 to 16, and a map may be picked twice.
 ///
 /// # Errors
 ///

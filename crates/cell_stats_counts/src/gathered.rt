@@ -1,4 +1,4 @@
-//! Counts of combinations of more than two maps, kept side by side, and the list that they become.
+//! Counts combinations of more than two maps side by side, and adds them to the list.
 
 ghost use Rattle.std.specs.Prelude.{◌≡◌, ◌+◌, ◌*◌, ◌<◌, ◌^◌, ℕ, OnOk, IfOk, IsTrue, cond, drop, length, take};
 ghost use Rattle.std.specs.declared.cmp.Ordering.TheVariants.{Less};
@@ -15,7 +15,8 @@ use cell_stats_combinations::combination::Combo;
 use std::alloc::Global;
 use std::cmp::Ordering;
 
-// Number of places of the index searched for a combination. Of millions, some are far from their own place.
+// The number of places of the index in which a combination is searched. Among millions, some are far from their own
+// place.
 const NEAR: usize = 1024;
 
 // Initial number of places of the index.
@@ -42,7 +43,7 @@ pub(crate) struct Gathered {
     index: Vec<u64>,
 }
 
-// A number of a cell.
+// Returns the code of a cell.
 #[inline(always)]
 pub(crate) fn code_of(cell: Cell) -> u64 {
     // 0 for null, since the lowest number is not a category.
@@ -50,7 +51,7 @@ pub(crate) fn code_of(cell: Cell) -> u64 {
     (i64::from(number) + 2147483648) as u64
 }
 
-// A number for a combination; each of its upper bits depends on every cell.
+// Returns a number for a combination; each of its upper bits depends on every cell.
 fn combination_hash(cells: &[Cell]) -> u64 {
     let mut number: u64 = 0;
     for cell in cells {
@@ -59,13 +60,13 @@ fn combination_hash(cells: &[Cell]) -> u64 {
     number
 }
 
-// The first place where a combination is searched, from the upper half of its number. The number of places is a power
-// of two.
+// Returns the first place where a combination is searched, from the upper half of its number. The number of places is a
+// power of two.
 fn own_slot(half: u64, places: usize) -> usize {
     (half as usize) & places.saturating_sub(1)
 }
 
-// The cells of the combination at a place.
+// Returns the cells of the combination at a place.
 fn cells_at(cells: &[Cell], width: usize, at: usize) -> &[Cell]
     ensures { result.now ≡ take width (drop (at * width) cells.now) }
 {
@@ -89,7 +90,8 @@ fn are_alike(one: &[Cell], other: &[Cell]) -> bool
     true
 }
 
-// The place of a combination, or else, as an error, a place of the index near its own that is free, or its own.
+// Returns the place of a combination. If there is none, returns as an error a free place of the index near the
+// combination's own, or its own place.
 fn place_of(key: &[Cell], half: u64, table: &Gathered) -> Result<usize, usize>
     ensures within { IfOk result (λ at. at < length table.now.counts.items) }
     ensures same { IfOk result (λ at.
@@ -125,7 +127,7 @@ fn note_again(index: &mut [u64], place: u64) {
     }
 }
 
-// An index with twice as many places.
+// Returns an index with twice as many places.
 fn longer_index(alloc: Global, index: &[u64]) -> Result<Vec<u64>, Memory> {
     let mut longer = vec![in alloc; NONE; index.len().saturating_mul(2)]?;
     for place in index {
@@ -222,7 +224,7 @@ fn push_entries(
     Ok(())
 }
 
-// The places of `many` combinations, sorted by their numbers.
+// Returns the places of `many` combinations, sorted by their numbers.
 fn order_of(
     alloc: Global,
     width: usize,
@@ -306,7 +308,7 @@ pub(crate) fn list_gathered(
     Ok(())
 }
 
-// Whether two entries count one combination.
+// Returns whether two entries count the same combination.
 fn are_same(entries: &[(Combo, u64)], a: usize, b: usize) -> bool
     requires { (a < length entries.now) × (b < length entries.now) }
     ensures { AreOfOne entries.now a b result }
@@ -314,8 +316,8 @@ fn are_same(entries: &[(Combo, u64)], a: usize, b: usize) -> bool
     entries[a].0 == entries[b].0
 }
 
-// Adds the entry at a place to the last entry if it has the same combination, or else keeps it as the next. Returns the
-// last place.
+// Adds the entry at a place to the last entry if both have the same combination; otherwise keeps it as the next entry.
+// Returns the last place.
 fn take_in(entries: &mut [(Combo, u64)], last: usize, at: usize) -> usize
     requires places { (last < at) × (at < length entries.old) }
     requires fits { CanAddUp entries.old last at }
@@ -349,7 +351,7 @@ fn join(entries: &mut [(Combo, u64)]) -> usize
     last + 1
 }
 
-// Whether a combination is less than another. Their first cells mostly decide.
+// Returns whether a combination is less than another. In most cases, the first cells decide.
 #[inline(always)]
 fn is_less(one: &Combo, other: &Combo) -> bool
     ensures { IsTrue result → combination_cmp one.now other.now ≡ Less }
@@ -362,7 +364,7 @@ fn is_less(one: &Combo, other: &Combo) -> bool
     one.cmp(other) == Ordering::Less
 }
 
-// Whether each combination is above the one before it.
+// Returns whether each combination is above the one before it.
 fn are_ascending(entries: &[(Combo, u64)]) -> bool
     ensures { IsTrue result → AreAscending entries.now }
 {
@@ -392,7 +394,7 @@ pub(crate) fn ordered_entries(mut entries: Vec<(Combo, u64)>) -> Vec<(Combo, u64
 }
 
 impl Gathered {
-    // No combinations yet.
+    // Returns a table without combinations.
     pub(crate) fn new(alloc: Global) -> Result<Gathered, Memory>
         ensures none { IfOk result
             (λ table. (width : ℕ) (k : Combination) → gathered_of width k table ≡ 0) }

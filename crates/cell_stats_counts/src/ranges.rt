@@ -1,4 +1,4 @@
-//! The range of the categories of a map, judged by some of its rows.
+//! Estimates the range of a map's categories from some of its rows.
 //!
 //! No contract says that a range contains all categories: those outside are counted too, only more slowly.
 
@@ -11,7 +11,7 @@ use cell_core::map::CellMap;
 use cell_core::shelf::Shelf;
 use cell_core_values::small_cells::cell_of_byte;
 
-// About this many rows of a map are looked at.
+// The approximate number of rows of a map that are sampled.
 const SAMPLE: u32 = 8;
 
 // Maximum number of categories that have their own place.
@@ -28,7 +28,7 @@ struct Sample {
 }
 
 impl Sample {
-    // The sample with one more row.
+    // Returns the sample with one more row.
     fn with_row(mut self, map: &CellMap, row: u32) -> Sample
         requires { row < map.now.region.rows }
     {
@@ -45,8 +45,8 @@ impl Sample {
         self
     }
 
-    // Places for the categories, if there are hardly more of them than stretches. Some places are left free on both
-    // sides.
+    // Returns a layout with a place for each category, if there are hardly more categories than stretches. Some places
+    // are left free on both sides.
     fn layout(self, times: u64) -> Layout {
         let CodeRange { smallest, largest } = self.range;
         if smallest > largest {
@@ -65,7 +65,7 @@ impl Sample {
     }
 }
 
-// Where combinations of the picked maps are searched.
+// Returns the layout in which combinations of the picked maps are searched.
 pub(crate) fn layout_for(shelf: &Shelf, picks: &[usize]) -> Layout
     requires { ArePicks shelf.now picks.now }
 {

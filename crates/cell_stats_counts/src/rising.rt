@@ -20,7 +20,7 @@ pub(crate) struct RisingEnd {
     pub(crate) ascends: bool,
 }
 
-// Whether a category is above all in the list, by its end.
+// Returns whether a category is known, from the end of the list, to be above all categories in the list.
 #[inline(always)]
 fn is_above(cell: Cell, end: RisingEnd, entries: &Vec<(Combo, u64)>) -> bool
     requires { AscendsTo end entries.now.items }
@@ -68,7 +68,7 @@ fn push_place(
     Ok(RisingEnd { last, ascends })
 }
 
-// Adds the categories of all taken places to the list. Returns whether it is known to ascend.
+// Adds the categories of all taken places to the list. Returns whether the list is known to ascend.
 pub(crate) fn push_alone(
     places: &[PairPlace],
     entries: &mut Vec<(Combo, u64)>,

@@ -1,4 +1,4 @@
-//! Rows in which most cells differ from their neighbours; they are counted cell by cell.
+//! Counts rows in which most cells differ from their neighbours, cell by cell.
 
 ghost use Rattle.std.specs.Prelude.{◌≡◌, ◌+◌, ◌<◌, ◌^◌, OnOk, IfOk, length, map};
 ghost use Rattle.cell_core.specs.Grid.{row_at};
@@ -16,7 +16,7 @@ use cell_stats_combinations::combination::Combo;
 use cell_stats_combinations::skip::{Skip, is_left_out};
 use std::alloc::Global;
 
-// Number of stretches of a row that are looked at. The row is varied if they have fewer than ENOUGH cells.
+// The number of stretches of a row that are examined. The row is varied if they have fewer than ENOUGH cells.
 const LOOK: usize = 8;
 
 const ENOUGH: u32 = 16;
@@ -24,7 +24,7 @@ const ENOUGH: u32 = 16;
 // In shorter rows, copying takes more time than it saves.
 const SHORT: u32 = 64;
 
-// Whether most of the first cells of a row differ from their neighbours.
+// Returns whether most of the first cells of a row differ from their neighbours.
 pub(crate) fn is_varied(map: &CellMap, row: u32) -> bool
     requires { row < map.now.region.rows }
     ensures width { length (row_at map.now row) ≡ map.now.region.cols }
@@ -39,7 +39,7 @@ pub(crate) fn is_varied(map: &CellMap, row: u32) -> bool
     map.region().cols() >= SHORT
 }
 
-// A copy of the cells of a row.
+// Returns a copy of the cells of a row.
 fn row_cells(alloc: Global, map: &CellMap, row: u32) -> Result<Vec<Cell>, Memory>
     requires { row < map.now.region.rows }
     ensures cells { IfOk result (λ cells. cells.items ≡ row_at map.now row) }

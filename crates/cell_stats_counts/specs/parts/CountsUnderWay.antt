@@ -11,11 +11,11 @@ use Rattle.cell_stats_counts.specs.parts.HeldPlaces.{paired_of}
 use Rattle.cell_stats_combinations.specs.parts.Same.{is_same}
 use Rattle.cell_stats_counts.specs.parts.SideBySide.{gathered_of, IsSideBySide}
 
--- the number of counted cells
+-- the number of cells of a combination that are counted
 abbrev pub total_of : ℕ → Combination → CountPlaces → Counts → ℕ
 total_of width k places entries = paired_of width k places.pairs.places.items + listed_of k entries + gathered_of width k places.wide
 
--- count more cells of each combination can be counted
+-- `count` more cells of each combination can be counted
 abbrev pub HasRoom : ℕ → CountPlaces → Counts → ℕ → Type 0
 HasRoom width places entries count = (k : Combination) → total_of width k places entries + count < 2 ^ 64
 
@@ -23,18 +23,18 @@ HasRoom width places entries count = (k : Combination) → total_of width k plac
 abbrev pub AreCounted : ShelfValue → List ℕ → Skip → ℕ → CountPlaces → Counts → Type 0
 AreCounted shelf picks skip row places entries = (k : Combination) → total_of (length picks) k places entries ≡ count_of k (kept_cells skip (all_combinations shelf.maps picks row shelf.region.cols))
 
--- counting can continue for combinations of width maps
+-- counting can continue for combinations of `width` maps
 pub record IsCounting (width : ℕ) (places : CountPlaces) (entries : Counts) : Type 0 where
   pub side : IsSideBySide width places.wide
   pub pairs : 0 < length places.pairs.places.items
   pub no_zero : HasNoZero entries
 
--- nothing was counted yet
+-- no cells are counted yet
 pub record AreNone (places : CountPlaces) : Type 0 where
   pub counts : (width : ℕ) (k : Combination) → total_of width k places [] ≡ 0
   pub going : (width : ℕ) → IsCounting width places []
 
--- count cells of a combination were counted, and counting can continue
+-- `count` cells of a combination were counted, and counting can continue
 pub record HasCounted (cells : Combination) (count : ℕ) (places : CountPlaces) (entries : Counts) (more : CountPlaces) (longer : Counts) : Type 0 where
   pub counts : (k : Combination) → total_of (length cells) k more longer ≡ total_of (length cells) k places entries + cond (is_same k cells) count 0
   pub going : IsCounting (length cells) more longer

@@ -29,11 +29,11 @@ pub record IsJoined (old now : Counts) (last at : ℕ) : Type 0 where
   pub counts : (k : Combination) → listed_of k (take (last + 1) now) + listed_of k (drop at old) ≡ listed_of k old
   pub no_zero : HasNoZero (take (last + 1) now)
 
--- whether the entries in two places have the same combination
+-- whether the entries at two indices have the same combination
 abbrev pub AreOfOne : Counts → ℕ → ℕ → Bool → Type 0
 AreOfOne entries a b same = (d : Combination × ℕ) → same ≡ is_same (slice_index_or entries a d).0 (slice_index_or entries b d).0
 
--- and if they have, their sum fits in 64 bits
+-- if two entries have the same combination, the sum of their counts fits in 64 bits
 abbrev pub CanAddUp : Counts → ℕ → ℕ → Type 0
 CanAddUp entries a b = (d : Combination × ℕ) → (slice_index_or entries a d).0 ≡ (slice_index_or entries b d).0
     → (slice_index_or entries a d).1 + (slice_index_or entries b d).1 < 2 ^ 64

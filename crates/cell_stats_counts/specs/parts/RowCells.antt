@@ -12,6 +12,6 @@ both [] ys = []
 both (x ∷ xs) [] = []
 both (x ∷ xs) (y ∷ ys) = (x ∷ y ∷ []) ∷ both xs ys
 
--- how many cells from a column on have a combination and are not left out
+-- the number of cells from a column on that have a combination and are not left out
 abbrev pub count_from : Skip → Combination → List Combination → ℕ → ℕ
 count_from skip k cells col = count_of k (kept_cells skip (drop col cells))
