@@ -5,7 +5,7 @@ use Rattle.cell_core_devices.specs.declared.source.Asked.TheVariants.{Going, End
 use Rattle.rcell.specs.declared.run_fault.RunFault.{RunFault}
 use Rattle.rcell.specs.declared.run_fault.RunFault.TheVariants.{ScriptRead}
 
--- to its end, to a read error, or neither
+-- the source was read to its end, to a read error, or to neither
 abbrev pub asked_by : {X : Type 0} → Result X RunFault → Asked
 asked_by (Ok text) = Ended
 asked_by (Err ScriptRead) = Failed

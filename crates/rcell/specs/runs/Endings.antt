@@ -26,11 +26,11 @@ abbrev pub IsTextRefusal : List (List ℕ) → Result (List ℕ) RunFault → Ru
 IsTextRefusal known (Err first) fault = fault ≡ first
 IsTextRefusal known (Ok text) fault = (inner : ScriptFault) × (IsScriptFault known text inner × (fault ≡ Script inner))
 
--- the error of a script: in reading its bytes, or else in its lines
+-- the error of a script: an error in reading its bytes; otherwise the first error in its lines
 abbrev pub IsScriptRefusal : List (List ℕ) → Coming → RunFault → Type 0
 IsScriptRefusal known script fault = IsTextRefusal known (script_text script) fault
 
--- the error in the grids, or else in the script over their names
+-- the error in the grids; if there is none, the error in the script over the grids' names
 abbrev pub IsRefusalAfter : Coming → Result (Option ShelfValue) RunFault → RunFault → Type 0
 IsRefusalAfter script (Err first) fault = fault ≡ first
 IsRefusalAfter script (Ok None) fault = ⊥
