@@ -142,7 +142,7 @@ words_found program (own ∷ word ∷ second ∷ words) good =
     let are = matches_are program own word second words (plain_of _ good) in
     (ap (λ rows. is_some (first_of (codes "FIRST") rows)) are, ap (λ rows. is_some (all_of (codes "REST") rows)) are)
 
--- ---- what clap takes
+-- ---- the words that clap accepts
 
 all_pass : (words : List Text) → list_all (λ word. true) words ≡ true
 all_pass [] = refl
