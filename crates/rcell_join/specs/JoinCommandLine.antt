@@ -77,7 +77,7 @@ without_flag flag words = filter (λ word. not (is_flag flag word)) words
 abbrev pub labels_flag : List ℕ
 labels_flag = codes "-l"
 
--- one or more tables
+-- the request for one or more tables, in a format
 abbrev pub asked_of_tables : List (List ℕ) → Result FormatValue JoinRefusal → Result RequestValue JoinRefusal
 asked_of_tables [] reading = Err (refusals.Usage usages.Tables)
 asked_of_tables (table ∷ tables) reading = reading >>= λ format. Ok (Tables format (table ∷ tables))
@@ -121,7 +121,7 @@ asked_border words = joined_tiles usages.Border words >>= λ tiles. border_of ti
 abbrev pub asked_clumps : List (List ℕ) → Result RequestValue JoinRefusal
 asked_clumps words = joined_tiles usages.Clumps words >>= λ tiles. Ok (Clumps tiles.0 tiles.1)
 
--- a numbering, and one or more tables
+-- the request for a numbering and one or more tables
 abbrev pub asked_of_sizes : List (List ℕ) → Result FormatValue JoinRefusal → Result RequestValue JoinRefusal
 asked_of_sizes (numbering ∷ table ∷ tables) reading = reading >>= λ format. Ok (Sizes format numbering (table ∷ tables))
 asked_of_sizes words reading = Err (refusals.Usage usages.Sizes)
