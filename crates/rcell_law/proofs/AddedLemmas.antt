@@ -47,7 +47,7 @@ pub reads-as-written : (counts numbers : List ℕ) → AreInRange counts numbers
     → areas_reading_of (written_text (areas_text (stretches_of counts numbers))) ≡ text_read counts numbers
 reads-as-written counts numbers are = text-reads-as-itself (stretches_of counts numbers) (readable counts numbers are)
 
--- ---- it is not too long
+-- ---- the text is not too long
 
 reported-long : (before : Option Stretch) (stretches : List Stretch) → AreReadable before stretches
     → length stretches ≤ length (numbers_read stretches)
@@ -112,7 +112,7 @@ module _ (counts numbers : List ℕ) (are : AreInRange counts numbers) where
       no-next (stretches_of_parts is.read.parts ++ is.read.part.stretches) is.place.areas.stretches
       is.place.areas_line is.read.stretches (omega (arith, is.read.areas_line)) is.wrong
 
--- ---- nothing else is wrong
+-- ---- the text has no other error
 
 pub added-up : (format : FormatValue) (text : Coming) (texts : List Coming) (counts numbers : List ℕ)
     (tables : List Pairs) (cells : ℕ) → areas_reading_of text ≡ text_read counts numbers

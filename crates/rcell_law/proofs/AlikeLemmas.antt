@@ -48,7 +48,7 @@ bare_twice (m ∷ maps) = ap (λ (ms : List Grid). without_labels m ∷ ms) (bar
 pub bare_alike : (shelf : ShelfValue) → AreAlike shelf (bare shelf)
 bare_alike shelf = record { region = refl; names = refl; maps = bare_twice shelf.maps }
 
--- ---- what a command writes
+-- ---- the output of a command
 
 module _ (a b : ShelfValue) (alike : AreAlike a b) where
   same_rows : a.region.rows ≡ b.region.rows
@@ -89,7 +89,7 @@ module _ (a b : ShelfValue) (alike : AreAlike a b) where
   same_text (OutAscii place null_text) none = same_grid_text place null_text
   same_text _ none = refl
 
--- ---- areas read no labels
+-- ---- clumps do not depend on labels
 
 module _ (j : Joining) (m n : Grid) (same : m.rows ≡ n.rows) where
   cell_same : (p : Position) → cell_at_position m p ≡ cell_at_position n p

@@ -24,7 +24,7 @@ use Rattle.rcell_law.proofs.AcceptedLemmas.{as_many, grids_have_maps}
 use Rattle.rcell_law.proofs.GrownLemmas.{script_new, HasGrown, IsOrdered, executes_grown, executes_to_one}
 use Rattle.rcell_law.proofs.WrittenLemmas.{names_written, all_denote}
 
--- ---- what the second part writes
+-- ---- the output of the second part
 
 joined : (shelf between : ShelfValue) (one two : List Statement) (text : List ℕ) → Executes shelf one text between →
     (rest : List ℕ) → IsOutput between two rest ↔ IsOutput shelf (one ++ two) (text ++ rest)

@@ -44,7 +44,7 @@ values_exist bound shelf =
       },
     )
 
--- ---- a map by rules
+-- ---- a map made by rules
 
 pub classes_filled : (rules : List RuleValue) (m : Grid) → IsFilled m.region m.rows → IsFilled m.region
     (reclassed_map rules m).rows

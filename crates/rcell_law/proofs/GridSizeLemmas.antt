@@ -86,7 +86,7 @@ module _ (skip : Skip) where
         tiles-list j tiles counts tables have.1 (All-tail (IsNumberedTile j) tile tiles numbered) are.1,
       )
 
--- ---- the places of tiles cover the whole
+-- ---- the tiles cover the full map
 
 sum-more : (n : ℕ) (ns : List ℕ) → sum (n ∷ ns) ≡ n + sum ns
 sum-more n ns = sum_by-cons (λ (k : ℕ). k) n ns

@@ -87,7 +87,7 @@ module _ (j : Joining) where
       ∙ ap (λ (l : List Rectangle). map (between (top, row_height row)) (stretches 0 widths) ++ l)
       (rows-places (top + row_height row) tiles widths counts (drop (sum count) numbers) sized.1 counted.1)
 
-  -- ---- they have all numbers
+  -- ---- the tiles have all numbers
 
   row-numbers : (top left height : ℕ) (row : List NumberedTile) (widths counts numbers : List ℕ)
       → AllZip (IsSized height) row widths → AllZip (IsCounted j) row counts
@@ -131,7 +131,7 @@ module _ (j : Joining) where
       (rows-numbers (top + row_height row) tiles widths counts (drop n numbers) sized.1 counted.1 rest)
       ∙ take-append-drop n numbers
 
--- ---- they are tiles of the full map, and have its numbers
+-- ---- the tiles are tiles of the full map, and have its numbers
 
 module _ (j : Joining) (whole : Grid) where
   -- a tile at its place, with `count` clumps and their numbers in the full map from a place on
@@ -314,7 +314,7 @@ module _ (j : Joining) (whole : Grid) where
       (omega (arith, length-drop (sum count) numbers, many, counts-more j count counts))
       (other-rows top row tiles widths count counts numbers are))
 
--- ---- each is a tile of the grid, in their order
+-- ---- each tile is a tile of the grid, in order
 
 pub record IsJoinedOf (tile : NumberedTile) (t : JoinedTile) : Type 0 where
   pub numbers : t.numbered.numbers ≡ tile.numbers

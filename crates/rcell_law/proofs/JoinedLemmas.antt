@@ -89,7 +89,7 @@ script_both known text front back one two ends first second =
           (sym (numbered_both 1 (script_lines text) (script_lines back)) ∙ ap (numbered_lines 1) (sym lines)) both;
     }
 
--- ---- what is written does not depend on numbers of lines
+-- ---- the output does not depend on line numbers
 
 executes_later : (n : ℕ) (statements : List Statement) (shelf after : ShelfValue) (text : List ℕ)
     → Executes shelf statements text after ↔ Executes shelf (map (statement_later n) statements) text after

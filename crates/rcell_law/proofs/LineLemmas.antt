@@ -6,7 +6,7 @@ use Rattle.std.proofs.lemmas.List.{take-append-le, drop-append-le, drop_all, len
 use Rattle.bstr.specs.Text.{line_len, lines_from, lines_of, without_terminator}
 use Rattle.rcell_script.specs.Lines.{script_lines, ScriptLine, numbered_lines}
 
--- ---- the first line of a text that ends at a line's end
+-- ---- the first line of a text that ends with a line feed
 
 same_len : (front back : List ℕ) → line_len (front ++ 10 ∷ back) ≡ line_len (front ++ 10 ∷ [])
 unfolding line_len

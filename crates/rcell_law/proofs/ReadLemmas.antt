@@ -27,7 +27,7 @@ use Rattle.rcell.specs.runs.Accepted.{AreGrids, IsAccepted}
 use Rattle.rcell.specs.runs.Endings.{IsReadScript}
 use Rattle.rcell.proofs.runs.AcceptedLemmas.{AllDenote, names_of}
 
--- ---- one grid more
+-- ---- one more grid
 
 -- a grid is added to a shelf after its maps
 record IsPlaced (g : Named) (shelf after : ShelfValue) : Type 0 where

@@ -40,7 +40,7 @@ use Rattle.cell_join_law.specs.WrittenBorders.{written_text}
 use Rattle.cell_join_law.proofs.WrittenLemmas.{null-good}
 use Rattle.rcell_law.specs.MapRuns.{MapRun, NumbersClumps}
 
--- ---- what stands for null in a grid text
+-- ---- the null text of a grid
 
 abbrev IsGoodNull : Command → Type 0
 IsGoodNull (OutAscii place null_text) = IsNullText null_text
@@ -76,7 +76,7 @@ script-good : (known : List (List ℕ)) (text : List ℕ) (statements : List Sta
 unfolding IsScript
 script-good known text statements is = group-good known (numbered_lines 1 (script_lines text)) statements is.grouped
 
--- ---- what the two statements write
+-- ---- the output of the two statements
 
 pub last-there : (maps : List Grid) (m : Grid) → slice_get (maps ++ m ∷ []) (length maps) ≡ Some m
 last-there maps m =

@@ -194,7 +194,7 @@ numbers_in j m made filled is made_filled clumping = cells-in made made_filled
         let most = is.cells_most in
         subst InRange (sym given.2) (number-in given.0 (omega (arith, low, most)))
 
--- ---- what holds of each map
+-- ---- properties of each map
 
 -- a map has the region, its rows and columns, and only categories in range
 record IsSound (region : RegionValue) (m : Grid) : Type 0 where
@@ -369,7 +369,7 @@ module _ (region : RegionValue) (is : IsRegion region) where
   executes_sound (s ∷ ss) shelf after text good h (next, (rest, (step, (others, same)))) =
       executes_sound ss next after rest good.1 (after_sound shelf s.command next good.0 h step) others
 
--- ---- and can be written
+-- ---- the maps can be written
 
 sound_writable : (region : RegionValue) → IsRegion region → (null_text : List ℕ) → whole_number null_text ≡ None →
     (m : Grid) → IsSound region m → IsWritable null_text m

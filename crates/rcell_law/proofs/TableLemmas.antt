@@ -56,7 +56,7 @@ picked-alone maps m n last rows cols =
     ap (λ (k : ℕ). cells_at (slice_get (maps ++ m ∷ []) k) rows cols) last
     ∙ ap (λ (o : Option Grid). cells_at o rows cols) (last-there maps m)
 
--- ---- what the two statements write
+-- ---- the output of the two statements
 
 -- the map of numbers, and the table printed from it
 pub record HasCounted (shelf : ShelfValue) (place n : ℕ) (joining : Joining) (target : List ℕ) (options : StatsOptions)

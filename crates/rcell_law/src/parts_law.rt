@@ -17,7 +17,8 @@ pub fn runs_of_parts_join()
     ensures { RunsOfPartsJoin }
 {}
 
-/// If these outputs are merged without an error, the result is the output over the full maps, byte for byte.
+/// If the outputs in `runs_of_parts_join` are merged without an error, the result is the output over the full maps,
+/// byte for byte.
 pub fn joined_runs_are_one_run()
     ensures { JoinedRunsAreOneRun }
 {}
@@ -27,7 +28,8 @@ pub fn labelled_runs_of_parts_join()
     ensures { LabelledRunsOfPartsJoin }
 {}
 
-/// If these outputs are merged without an error, the result is the output over the full maps, byte for byte.
+/// If the outputs in `labelled_runs_of_parts_join` are merged without an error, the result is the output over the full
+/// maps, byte for byte.
 pub fn joined_labelled_runs_are_one_run()
     ensures { JoinedLabelledRunsAreOneRun }
 {}
@@ -40,7 +42,7 @@ pub fn scripts_of_parts_join()
     one_script();
 }
 
-/// The outputs merge into the output of `run` over the full grids, if such a run exists.
+/// The outputs in `scripts_of_parts_join` merge into the output of `run` over the full grids, if such a run exists.
 pub fn script_runs_are_one_run()
     ensures { ScriptRunsAreOneRun }
 {
@@ -98,7 +100,7 @@ pub fn sizes_of_the_grid()
     ensures { SizesOfTheGrid }
 {}
 
-/// These sizes exist, and none exceeds the number of cells of the map.
+/// The sizes in `sizes_of_the_grid` exist, and none exceeds the number of cells of the map.
 pub fn grid_sizes_exist()
     ensures { GridSizesExist }
 {
