@@ -43,7 +43,7 @@ fn kind_of_row(error: RowError) -> ErrorKind
     }
 }
 
-// Reads a row's numbers and mask into buffers. Packs the cells into their bytes if possible, or else writes them to
+// Reads a row's numbers and mask into buffers. Packs the cells into their bytes if possible; otherwise writes them to
 // `cells`.
 #[tactic(auto, unfolding(crate::specs::Rows::cells_at))]
 fn read_cells<R: Read>(

@@ -108,8 +108,8 @@ pub fn pack_row(nodata: Option<i64>, mask: &[u8], bytes: &mut [u8]) -> bool
     }
 }
 
-/// Reads a row of numbers. Packs it in place and returns true if each cell fits in a byte, or else writes the cells to
-/// a slice of the same length and returns false. An empty mask hides nothing.
+/// Reads a row of numbers. If each cell fits in a byte, packs the row in place and returns true; otherwise writes the
+/// cells to a slice of the same length and returns false. An empty mask hides nothing.
 ///
 /// # Errors
 ///

@@ -144,7 +144,7 @@ fn fill_row_of(
     }
 }
 
-// Returns the number that denotes null, if it is a category, or else the smallest `i32`, which is not a category.
+// Returns the number that denotes null if it is a category, and otherwise the smallest `i32`, which is not a category.
 fn null_number(nodata: Option<i64>) -> i32
     ensures { IsNullNumber nodata result }
 {
