@@ -214,7 +214,7 @@ not_write fault (errors.MemoryAt line) end is same = is
 not_write fault errors.MemoryAtQuestion end is same = is
 not_write fault errors.Write end is same = is
 
--- ---- what became of a response, from how it ended
+-- ---- the outcome of a response, by how it ended
 
 -- all bytes of a text were accepted
 taken_whole : (error : Option PipeError) (before : Option (List ℕ)) (text : List ℕ) {now : Option (List ℕ)}

@@ -67,7 +67,8 @@ byte_of_cell None = 255
 byte_of_cell (Some (pos n)) = if nat_le n 254 then n else 255
 byte_of_cell (Some (negsuc n)) = 255
 
--- the cells of a map, row by row: 1, then one byte per cell if all cells fit, or else 6, then four bytes per cell
+-- the cells of a map, row by row: if every cell fits in a byte, 1 and then one byte per cell; otherwise 6 and then four
+-- bytes per cell
 abbrev pub rows_bytes : List (List CellValue) → List ℕ
 rows_bytes rows = if are_small rows then 1 ∷ flat_map (map byte_of_cell) rows else 6 ∷ flat_map (flat_map wide_bytes) rows
 

@@ -35,7 +35,7 @@ question_fault Text names question = Some OfText
 question_fault Frames names question =
     if is_none (place_of question.map names) || has_unknown_zones names question.zones then Some UnknownMap else None
 
--- the error of this question, or else the first error among the questions after it
+-- the error of this question; if it has none, the first error among the questions after it
 abbrev pub fault_or : ℕ → Option QuestionKind → Option QuestionError → Option QuestionError
 fault_or number (Some kind) others = Some (record { kind = kind; number = number })
 fault_or number None others = others

@@ -17,7 +17,7 @@ entry_bytes parts.Mark maps places k = 0 ∷ []
 entry_bytes parts.Cells maps places k = flat_map wide_bytes k
 entry_bytes parts.Labels maps places k = flat_map (λ p. text_bytes (label_of_cell maps p.0 p.1)) (zip places k)
 
--- `f` for each combination that is not left out
+-- the results of `f` for all combinations that are not left out, one after another
 abbrev pub kept_entry_bytes : (Combination → List ℕ) → Skip → List Combination → List ℕ
 kept_entry_bytes f skip cells = flat_map f (kept_cells skip cells)
 
