@@ -206,7 +206,7 @@ module _ (g : Need → ℕ) where
             let first : most i (step_reads s) ≡ at_step at 0 s = one s in
             rw (most-append i (step_reads s) (flat_map step_reads ss), first, ← rest) (omega arith)
 
--- ---- what an expression reads is its reach
+-- ---- the reads of an expression are its reach
 
 step_up : (i : ℕ) (s : Step ℕ) → most (λ n. n.margin.up) i (step_reads s) ≡ at_step (up_at i) 0 s
 step_up i (step.Map j down right) = omega arith

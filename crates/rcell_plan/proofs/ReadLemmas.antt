@@ -59,7 +59,7 @@ module _ (x y : List Grid) (s : GridPosition) where
         (all_right (ReadsAlike x y s) (postfix a) (postfix_all xs) h) in
         ap (λ (v : CellValue). v ∷ argument_values xs x s) first ∙ ap (λ (vs : List CellValue). value a y s ∷ vs) rest
 
--- ---- what reads need
+-- ---- the needs of reads
 
 module _ (P : Need → Type 0) (splits : Splits P) (known : List (List Need)) where
   -- a property of the needs of all reads holds for the needs of each read

@@ -10,7 +10,7 @@ abbrev pub place_among : ℕ → List Need → ℕ
 place_among place [] = 0
 place_among place (x ∷ xs) = if nat_le place x.place then 0 else place_among place xs + 1
 
--- joins the need with the need `x` at this position if both are for the same map, or else inserts it before `x`
+-- joins the need with the need `x` at this position if both are for the same map; otherwise inserts the need before `x`
 abbrev pub put_at : List Need → ℕ → Need → Option Need → List Need
 put_at xs at n None = xs ++ n ∷ []
 put_at xs at n (Some x) = if x.place == n.place then slice_set xs at (joined x n) else insert xs at n
