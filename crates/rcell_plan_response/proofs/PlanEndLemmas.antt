@@ -49,7 +49,7 @@ use Rattle.rcell_plan_response.specs.Responses.{IsAskedBy, WritesFrames}
 use Rattle.rcell_plan_response.specs.parts.RequestStops.{error_of_stop, end_of_stop}
 use Rattle.rcell_plan_response.specs.parts.Answered.{IsOfFeed, IsOfSource}
 
--- ---- what was written
+-- ---- the written response
 
 -- a response that ends under a condition ends under a weaker condition
 pub ends_more : (says more : List ℕ → Option PipeError → Type 0)
@@ -171,7 +171,7 @@ only_end_of_plan read response (Some (errors.MemoryAt line)) is = tt
 only_end_of_plan read response (Some errors.MemoryAtQuestion) is = tt
 only_end_of_plan read response (Some errors.Write) is = tt
 
--- ---- how far the source was asked
+-- ---- the read state of the source
 
 -- a request that is read is asked for to its end
 pub asked_of_run : (form : RunForm) (request : RunRequestValue) (response : List ℕ) (error : Option PipeError)

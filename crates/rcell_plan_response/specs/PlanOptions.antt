@@ -34,7 +34,7 @@ command_inputs (Clump place target joining) = place ∷ []
 command_inputs (Stats places options) = places
 command_inputs (OutAscii place null_text) = place ∷ []
 
--- the combination of `after=`, or an empty one without this option
+-- the combination of `after=`, or an empty combination without this option
 abbrev pub after_combination : Option Combination → Combination
 after_combination None = []
 after_combination (Some k) = k
