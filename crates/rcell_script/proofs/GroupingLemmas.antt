@@ -100,7 +100,7 @@ end-read rules l s e =
     let is : bytes_eq (trimmed_text l) (codes "end") ≡ true = (bytes_decides (trimmed_text l) (codes "end")).1 e in
     short-rule rules l s ∙ rw (other, is) refl
 
--- ---- what was read, as groups
+-- ---- the lines read, as groups
 
 -- the lines of an r.reclass that is being read, up to its end
 record Inside (known : List (List ℕ)) (block : OpenReclass) (lines : List ScriptLine)
