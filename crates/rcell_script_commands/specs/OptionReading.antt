@@ -70,7 +70,7 @@ null_text_of value = if is_null_text value then Ok value else Err BadOption
 abbrev pub table_null_text_of : List ℕ → Result (List ℕ) OptionFault
 table_null_text_of value = if is_table_null_text value then Ok value else Err BadOption
 
--- ---- what was read
+-- ---- the options so far
 
 -- the options in a command's words
 pub record Given : Type 0 where
