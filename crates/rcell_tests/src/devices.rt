@@ -1,4 +1,4 @@
-//! Tests runs whose sources fail, are cut off or never end, and counts how often a sink is flushed.
+//! Tests runs whose sources fail, are cut off or never end, and counts how many times a sink is flushed.
 
 ghost use Rattle.std.specs.Prelude.{◌≡◌, ◌≤◌, length, IfOk};
 
@@ -30,7 +30,7 @@ const ALL_BYTES: u64 = 111;
 /// Maximum length of a script in bytes.
 const MOST_BYTES: usize = 1048576;
 
-// What follows the bytes of a source.
+// How a source continues after its bytes.
 #[derive(Clone, Copy)]
 enum Then<'a> {
     Ends,

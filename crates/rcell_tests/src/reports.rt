@@ -55,7 +55,7 @@ fn expect_calc_line<R: Abort + AllocGlobal>(
     expect_line(rt, RunFault::Script(fault), "script:6", text.as_str())
 }
 
-// The text for each kind of error of a grid.
+// The text for each kind of grid error.
 const GRID_KINDS: [(GridKind, &str); 15] = [
     (GridKind::BadHeader, "bad header line"),
     (GridKind::TwiceKey, "key given twice"),
@@ -94,7 +94,7 @@ fn reports_faults_of_grids(rt: HostRuntime) -> Result<(), Fail> {
     )
 }
 
-// The text for each kind of error of a script, except in expressions.
+// The text for each kind of script error, except in expressions.
 const SCRIPT_KINDS: [(ScriptKind, &str); 13] = [
     (ScriptKind::UnknownCommand, "unknown command"),
     (ScriptKind::BadOption, "bad option"),
@@ -114,7 +114,7 @@ const SCRIPT_KINDS: [(ScriptKind, &str); 13] = [
     (ScriptKind::Memory, "no memory"),
 ];
 
-// The text for each kind of error of an expression, without its column.
+// The text for each kind of expression error, without its column.
 const CALC_KINDS: [(CalcKind, &str); 10] = [
     (CalcKind::BadByte, "bad byte"),
     (CalcKind::BadNumber, "bad number"),
