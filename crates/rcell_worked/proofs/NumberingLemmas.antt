@@ -150,7 +150,7 @@ module _ (j : Joining) (m numbers : Grid) (firsts : List Position) (path : Posit
   abbrev first_of : Position → Position
   first_of p = first_at (number p - 1)
 
-  -- ---- what the tests show
+  -- ---- consequences of the tests
 
   record IsNumbered (p : Position) : Type 0 where
     some : 0 < number p

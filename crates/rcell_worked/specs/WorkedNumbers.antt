@@ -32,7 +32,7 @@ field_rows =
     ∷ (None ∷ class 0 ∷ None ∷ class 5 ∷ [])
     ∷ (class 0 ∷ class 5 ∷ class 5 ∷ class 5 ∷ []) ∷ []
 
--- its numbers by edges
+-- the map's clump numbers by edges
 abbrev pub edge_rows : List (List CellValue)
 edge_rows =
     (class 1 ∷ class 2 ∷ class 1 ∷ None ∷ [])
@@ -40,7 +40,7 @@ edge_rows =
     ∷ (None ∷ class 4 ∷ None ∷ class 5 ∷ [])
     ∷ (class 6 ∷ class 5 ∷ class 5 ∷ class 5 ∷ []) ∷ []
 
--- its numbers by edges and corners
+-- the map's clump numbers by edges and corners
 abbrev pub corner_rows : List (List CellValue)
 corner_rows =
     (class 1 ∷ class 2 ∷ class 1 ∷ None ∷ [])
@@ -54,7 +54,7 @@ pub record IsOnlyClumping (j : Joining) (m numbers : Grid) : Type 0 where
   pub clumping : IsClumping j m numbers
   pub only : (other : Grid) → IsFilled other.region other.rows → IsClumping j m other → other ≡ numbers
 
--- with any labels; the clump maps have none
+-- the clump maps of the map with any labels; the clump maps have no labels
 pub record WorkedNumbers : Type 0 where
   pub by_edges : (labels : Labels) → IsOnlyClumping Edges (square labels field_rows) (square no_labels edge_rows)
   pub by_corners : (labels : Labels)

@@ -5,7 +5,7 @@ use Rattle.rcell_worked.specs.WorkedRuns.{Prints, land, zone}
 pub record WorkedTables : Type 0 where
   -- the first example of the documents: the count of each category, with null last
   pub counted : Prints (land ∷ []) (codes "r.stats -c input=land\n") (codes "1 5\n2 4\n3 2\n* 1\n")
-  -- without null
+  -- the counts of the categories, without null
   pub without_null : Prints (land ∷ []) (codes "r.stats -c -n input=land\n") (codes "1 5\n2 4\n3 2\n")
   -- two maps, and the table after one of its combinations
   pub crossed : Prints (land ∷ zone ∷ [])
