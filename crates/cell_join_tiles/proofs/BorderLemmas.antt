@@ -144,7 +144,7 @@ module _ (j : Joining) (whole : Grid) (heights widths : List ℕ) (map_of number
       let t = labels grid high_of short l lt in
       (record { r = t.r; c = t.c; k = t.k }, record { clump = clump-of t.r t.c t.k t.clump; is = t.is })
 
-  -- the clumps in the order of their labels, and their first cells
+  -- the clumps in the order of their labels, with their first cells
   pub chosen : Found IsNamed (clumps_in_grid grid)
   chosen = found IsNamed (clumps_in_grid grid) named
 

@@ -11,7 +11,7 @@ use Rattle.cell_join_tiles.proofs.LabelSums.{more-le, next-one, all-of, between,
 
 -- ---- orders
 
--- row order in the full map: by rows of tiles, by rows in them, by columns of tiles, by numbers
+-- the row order in the full map: by row of tiles, row in the tile, column of tiles, and number
 abbrev pub IsBefore : (r i c k s h d l : ℕ) → Type 0
 IsBefore r i c k s h d l = (r < s) ⊎ ((r ≡ s) × ((i < h) ⊎ ((i ≡ h) × ((c < d) ⊎ ((c ≡ d) × (k < l))))))
 
@@ -43,7 +43,7 @@ in-some-order r i c k s h d l =
 -- ---- a row of tiles
 
 module _ (tiles : List Begun) where
-  -- the clump of number k + 1 of a tile begins in a row
+  -- clump number k + 1 of the tile in column c begins in row i
   pub record Begins (i c k : ℕ) : Type 0 where
     pub c_in : c < length tiles
     pub at : Lies (get_or tiles c []) k i

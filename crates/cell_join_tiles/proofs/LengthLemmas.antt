@@ -8,14 +8,14 @@ use Rattle.std.proofs.lemmas.List.Elements.{All-head, All-tail}
 sum-more : (n : ℕ) (ns : List ℕ) → sum (n ∷ ns) ≡ n + sum ns
 sum-more n ns = sum_by-cons (λ (k : ℕ). k) n ns
 
--- where a stretch begins
+-- the number at which a stretch begins
 abbrev pub before : List ℕ → ℕ → ℕ
 before ns i = sum (take i ns)
 
 pub before-more : (n : ℕ) (ns : List ℕ) (i : ℕ) → before (n ∷ ns) (suc i) ≡ n + before ns i
 before-more n ns i = sum-more n (take i ns)
 
--- the stretch that a number lies in
+-- the index of the stretch in which a number lies
 abbrev pub index_in : List ℕ → ℕ → ℕ
 index_in [] x = 0
 index_in (n ∷ ns) x = cond (ltb x n) 0 (suc (index_in ns (x - n)))

@@ -49,7 +49,7 @@ module _ (j : Joining) (m : Grid) (firsts : List Position) (all : AreFirsts j m 
       omega (arith, most, least, long)
 
   module _ (numbers : Grid) (clumping : IsClumping j m numbers) where
-    -- where the first cell of the area of a cell is listed
+    -- the place at which the first cell of a cell's clump is listed
     pub record ListedAt (p : Position) : Type 0 where
       pub place : ℕ
       pub inside : place < length firsts

@@ -103,7 +103,7 @@ module _ (one other : Line) where
           (Contains-append_right (line_meeting (here d) (there d) ++ line_meeting (here d) (there (d + 1))) (line_meeting (here (d + 1)) (there d)) (x.label, y.label)
           (one-has (here (d + 1)) (there d) x y (ap here e ∙ first) second same))
 
-  -- two places whose marks make a pair
+  -- two places whose marks form a pair
   pub record Meets (j : Joining) (a b : ℕ) : Type 0 where
     pub c : ℕ
     pub d : ℕ

@@ -164,7 +164,7 @@ module _ (firsts begun : List ℕ) where
   all-labels n e =
       labels-so-far n (omega (arith, e)) ∙ ap (λ (k : ℕ). map (tile_label firsts begun) (range_with_len 0 k)) (all-of (λ (k : ℕ). k) begun n (omega (arith, e)))
 
--- the labels of the clumps of a tile of a row of tiles
+-- the labels of all clumps of a tile are its labels in the row of tiles
 pub tile-labels : (base : ℕ) (tiles : List Begun) (c : ℕ) (firsts : List ℕ) → AreFirstLabels base tiles c firsts → length (get_or tiles c []) ≤ length firsts → map (tile_label firsts (get_or tiles c [])) (range_with_len 0 (sum (get_or tiles c []))) ≡ labels_in_tile base tiles c
 tile-labels base tiles c firsts are long =
     let begun = get_or tiles c [] in

@@ -65,7 +65,7 @@ pub if-ok : {A E : Type 0} (r : Result A E) (P Q : A → Type 0) → IfOk r P �
 if-ok (Ok a) P Q p more = more a p
 if-ok (Err e) P Q p more = tt
 
--- at most as many roots as labels come before a label
+-- at most as many roots come before a label as paired labels do
 pub few-roots : (paired numbers roots : List ℕ) → AreInPlaces paired numbers roots → (first place : ℕ) → labels_before paired first ≡ place → get_or roots place 0 ≤ place
 few-roots paired numbers roots ready first place is =
     let most = count_by-le-length (λ l. ltb l first) paired in
@@ -80,7 +80,7 @@ pub if-none : {A : Type 0} (r : Option A) (P : Type 0) → P → IfNone r P
 if-none None P p = p
 if-none (Some a) P p = tt
 
--- the runs of the next tile come first
+-- the runs of the remaining tiles begin with the runs of the next tile
 pub tiles-split : (number : ℕ → ℕ) (tiles : List (Vec Span Global)) (k : ℕ) (d : Vec Span Global) → k < length tiles → (spans : List Span) → spans ≡ (get_or tiles k d).items → runs_of_tiles number (k + 1) (labels_of_tiles (drop k tiles)) ≡ stretches_in (k + 1) (map number (labels_in spans)) ++ runs_of_tiles number (k + 1 + 1) (labels_of_tiles (drop (k + 1) tiles))
 tiles-split number tiles k d lt spans is =
     let one : suc k ≡ k + 1 = omega arith in

@@ -22,7 +22,7 @@ behind-run band first last number previous (suc n) rest end most e m =
     (eq-eqb (previous + 1) (previous + 1) refl)
     ∙ behind-run band first (last + 1) number (previous + 1) n rest end most (omega (arith, e)) (omega (arith, m))
 
--- the first line of a band
+-- a run of numbers at the start of a band is the band's first line
 first-run : (band first last count : ℕ) (rest : List ℕ) → 0 < count → last + 1 ≡ first + count
     → stretches_in band (range_with_len first count ++ rest) ≡ stretches_behind band 1 count first last rest
 first-run band first last zero rest some e = absurd (omega (arith, some))
@@ -62,7 +62,7 @@ in_lines-more : (band : ℕ) (before : List Stretch) (numbers run : List ℕ) (o
 in_lines-more band before numbers run old new line after h step = λ rest.
     ap (λ (l : List ℕ). before ++ stretches_in band l) (append_assoc numbers run rest) ∙ h (run ++ rest) ∙ step rest
 
--- a new line, a line that continues, and one after another
+-- a line with this stretch and this last number
 abbrev pub line_of : (band first last number previous : ℕ) → Option Line
 line_of band first last number previous =
     Some (record { stretch = record { band = band; first = first; last = last; number = number }; previous = previous })
