@@ -125,7 +125,7 @@ module _ (whole : Grid) (t : Tile) (tile : IsTile whole t) where
       let inner = joined-moved j h.0 h.1 h.4 in
       subst (λ (s : Position). AreJoined j whole s q) (sym h.2) (subst (λ (s : Position). AreJoined j whole (moved_position t.place h.0) s) (sym h.3) inner)
 
-  -- a cell of the full map in the rectangle, as a cell of the tile
+  -- a cell of the full map in the tile's rectangle is a cell of the tile
   cell-inside : (s : Position) (v : ℤ) → IsIn t.place s → cell_at_position whole s ≡ Some v → cell_at_position t.map (inside-of t.place s) ≡ Some v
   cell-inside s v is_within is =
       let within = in-bounds t.place s.row s.col is_within in
@@ -133,7 +133,7 @@ module _ (whole : Grid) (t : Tile) (tile : IsTile whole t) where
       let col : s.col - t.place.left < t.place.cols = omega (arith, within.from_left, within.before_end) in
       tile.cells (inside-of t.place s) row col ∙ ap (cell_at_position whole) (sym (moved-inside t.place s is_within)) ∙ is
 
-  -- adjacent cells of the same category that both lie in the tile are joined in it
+  -- adjacent cells of the same category that both lie in the tile are joined in the tile
   step-in : (j : Joining) (p q : Position) (v : ℤ) → AreAdjacent j p q → cell_at_position whole p ≡ Some v → cell_at_position whole q ≡ Some v → IsIn t.place p → IsIn t.place q → AreJoinedIn j t p q
   step-in j p q v near first second in_p in_q =
       let a = inside-of t.place p in

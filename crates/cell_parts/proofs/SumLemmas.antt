@@ -17,7 +17,7 @@ use Rattle.cell_parts.proofs.BlockLemmas.{block, part-block}
 
 -- ---- sums along a line
 
--- the sum of n terms, from the a-th on
+-- the sum of n terms from the a-th term on
 abbrev pub line : (ℕ → ℕ) → ℕ → ℕ → ℕ
 line g a zero = 0
 line g a (suc n) = g a + line g (a + 1) n
