@@ -13,7 +13,7 @@ of_from numbers n r c e = (cell_eq-Decides (cell_at numbers r c) (Some (pos n)))
 pub of_to : (numbers : Grid) (n r c : ℕ) → is_in_patch numbers n r c ≡ true → cell_at numbers r c ≡ Some (pos n)
 of_to numbers n r c e = (cell_eq-Decides (cell_at numbers r c) (Some (pos n))).0 e
 
--- at most k steps across edges from one cell to another
+-- a cell is at most k steps across edges from another cell
 abbrev pub IsNear : ℕ → ℕ → ℕ → ℕ → ℕ → Type 0
 IsNear k r c a b = (a - r) + (r - a) + ((b - c) + (c - b)) ≤ k
 

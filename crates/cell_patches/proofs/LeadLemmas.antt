@@ -127,7 +127,7 @@ lead_same f g lead same h = record {
   first = λ z other is equal. h.first z other is (sym (same other) ∙ equal);
 }
 
--- the cells that a pair gains
+-- counts in which one pair has gained cells
 abbrev pub IsAddedTo : (ℤ → ℤ → ℕ) → (ℤ → ℤ → ℕ) → ℤ × ℤ → ℕ → Type 0
 IsAddedTo f g pair cells = (v z : ℤ) → g v z ≡ f v z + cond (same_pair pair (v, z)) cells 0
 
@@ -166,7 +166,7 @@ pub idle : (b : Bool) (cells : ℕ) → cells ≡ 0 → cond b cells 0 ≡ 0
 idle true cells none = none
 idle false cells none = refl
 
--- a table in which one pair gains cells
+-- in a table, only the count of the pair that gains cells changes
 pub cells_more : {S : Type 0} (old new : HashMap (ℤ × ℤ) ℕ S) (pair q : ℤ × ℤ) (was cells : ℕ)
     → was ≡ cells_in_table old pair
     → get same_pair new q ≡ cond (same_pair pair q) (Some (was + cells)) (get same_pair old q)

@@ -14,7 +14,7 @@ use Rattle.cell_patches.specs.parts.Passes.{one_of, core_at, delayed, IsPatchRea
 use Rattle.cell_patches.proofs.InsideLemmas.{of_from, of_to, inside_south}
 use Rattle.cell_patches.proofs.SumLemmas.{earlier_more, earlier_row, earlier_none, earlier_most}
 
--- a choice of two numbers
+-- one of two numbers, chosen by a test
 abbrev pick : Bool → ℕ → ℕ → ℕ
 pick t a b = cond t a b
 
@@ -202,7 +202,7 @@ read_none m numbers depth n =
       last_col = λ lt. absurd (omega arith);
     }
 
--- all patches are read up to the next cell
+-- a cell outside all patches leaves their measures unchanged
 pub all_other : (m numbers : Grid) (depth r c : ℕ) (patches : List Patch)
     → ((k : ℕ) → is_in_patch numbers (k + 1) r c ≡ false)
     → ((n : ℕ) → cell_at numbers r c ≡ Some (pos n) → n ≤ length patches)
