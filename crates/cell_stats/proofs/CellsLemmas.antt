@@ -83,7 +83,7 @@ flat_map-replicate-more f n x =
 
 -- ---- a walk over a row, stretch by stretch
 
--- the walk is at a column, and count columns from there on have these cells
+-- the walk is at a column, and `count` columns from there on have these cells
 pub record StandsAt (shelf : ShelfValue) (picks : List ℕ) (row cols col count : ℕ) (cursors : List CursorValue)
     (cells : Combination) : Type 0 where
   pub wide : AreWideRows shelf row picks

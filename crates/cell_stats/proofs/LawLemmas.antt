@@ -22,7 +22,7 @@ use Rattle.cell_stats.proofs.TableLemmas.{T_from, from_T, IsTally, IsTally-from,
 use Rattle.cell_stats_combinations.proofs.WalkLemmas.{length_all}
 use Rattle.cell_stats.proofs.WidthLemmas.{table-wide}
 
--- 1 if the pair has the combination
+-- 1 if the pair has the combination, otherwise 0
 abbrev mark : Combination → Combination × ℕ → ℕ
 mark k pair = cond (eq_by_cmp combination_cmp pair.0 k) 1 0
 

@@ -42,7 +42,7 @@ combination-others format maps (p ∷ picks) (x ∷ k) d e some same =
     join-more format.separator (cell_text format.null_text x) (if format.labels then label_of_cell maps p x ∷ [] else []) (flat_map (λ p. cell_fields format maps p.0 p.1) (zip picks k))
     ∙ ap (λ (l : List ℕ). pick_text format maps p x ++ l) (others-preceded format maps (zip picks k))
 
--- the fields of a combination, followed by more
+-- the fields of a combination are followed by further fields, each after the separator
 pub line-more : (format : FormatValue) (maps : List Grid) (picks : List ℕ) (k : Combination) (more : List (List ℕ)) → 0 < length picks → length k ≡ length picks → join_with_byte format.separator (combination_fields format maps picks k ++ more) ≡ join_with_byte format.separator (combination_fields format maps picks k) ++ preceded_texts format.separator more
 line-more format maps [] k more some same = absurd (omega arith)
 line-more format maps (p ∷ picks) [] more some same = absurd (omega arith)
@@ -50,7 +50,7 @@ line-more format maps (p ∷ picks) (x ∷ k) more some same =
     let others = (if format.labels then label_of_cell maps p x ∷ [] else []) ++ flat_map (λ p. cell_fields format maps p.0 p.1) (zip picks k) in
     join-more format.separator (cell_text format.null_text x) others more
 
--- a cell, followed by its label
+-- the text of a pick is the cell, followed by its label
 pub pick_text-label : (format : FormatValue) (maps : List Grid) (place : ℕ) (cell : CellValue) → cell_text format.null_text cell ++ preceded_texts format.separator (if format.labels then label_of_cell maps place cell ∷ [] else []) ≡ pick_text format maps place cell
 pick_text-label format maps place cell = sym (join-cons format.separator (cell_text format.null_text cell) (if format.labels then label_of_cell maps place cell ∷ [] else []))
 
@@ -66,7 +66,7 @@ pick_text-with format maps place cell on =
     ∙ ap (λ (b : Bool). cell_text format.null_text cell ++ preceded_texts format.separator (if b then label_of_cell maps place cell ∷ [] else [])) (sym on) ∙ pick_text-label format maps place cell
 
 module _ (picks : List ℕ) (k : Combination) (i : ℕ) (within : i < length picks) (same : length k ≡ length picks) where
-  -- the pick and the cell at a place
+  -- the pair at a place is the pick and the cell at that place
   pub zip-at : (x : CellValue) → x ≡ get_or k i x → (get_or picks i 0, x) ≡ get_or (zip picks k) i (0, x)
   zip-at x is =
       let within_too : i < length k = omega (arith, within, same) in

@@ -197,7 +197,7 @@ count_kept skip k (x ∷ cells) = by (is_left_out skip x) (eq_by_cmp combination
         ∙ ap (λ n. cond (is_left_out skip k) 0 n) (sym (count_cons k x cells ∙ ap (λ b. cond b 1 0 + count_of k cells) e ∙ zero-add (count_of k cells)))
 
 module _ (skip : Skip) (cells : List Combination) (es : Pairs) where
-  -- an entry of the table of kept cells is an entry of the table of all cells that is not left out
+  -- a combination has a count among the kept cells exactly if it is not left out and has this count among all cells
   stands_kept : (b : Bool) (k : Combination) (n : ℕ) → is_left_out skip k ≡ b → ((0 < n) × (n ≡ count_of k (kept_cells skip cells))) ↔ ((is_left_out skip k ≡ false) × ((0 < n) × (n ≡ count_of k cells)))
   stands_kept true k n left = (
     λ h.
