@@ -62,6 +62,6 @@ All-take-front P xs i y h all =
       rw (get_or-append_seam (take i xs) y [] y) at (both (length (take i xs)) y (omega (arith, length-append (take i xs) (y ∷ [])))),
     )
 
--- the row of a map on the shelf
+-- the row at a place is the row of the map at that place
 pub row-of : (maps : List Grid) (row p : ℕ) (m : Grid) → slice_get maps p ≡ Some m → row_in maps row p ≡ row_at m row
 row-of maps row p m e = ap (λ o. option_map_or (λ x. row_at x row) o []) e

@@ -13,7 +13,7 @@ use Rattle.cell_stats_combinations.proofs.combination.Combo.read.Goals as goal
 abbrev behind : Bor (List ℕ)
 behind = record { ref_ptr = (0, 0); now = [] }
 
--- the parts from a place on: the part there, and the parts after it
+-- the parts from a place on are the part there and the parts after it
 rest_first : (items : List (Bor (List ℕ))) (i : ℕ) (d : Bor (List ℕ)) → i < length items
     → map (λ w. w.now) (drop i items) ≡ (get_or items i d).now ∷ map (λ w. w.now) (drop (i + 1) items)
 rest_first items i d within = rw (add-one, drop-cons items i d) refl
