@@ -55,7 +55,7 @@ module _ (skip : Skip) (k q : Combination) (n : ℕ) (xs : List Combination) whe
       ∙ ap (λ m. count_of k (kept_cells skip xs) + m) (count-stretch skip k q n false l)
 
 module _ (maps : List Grid) (picks : List ℕ) (cols : ℕ) where
-  -- a count of the cells so far fits
+  -- the count in the cells so far is less than 2^63
   pub count_small : (skip : Skip) (k : Combination) (r c : ℕ) → r ≤ 65535 → c ≤ 65535 → cols ≤ 65535 → count_of k (kept_cells skip (all_combinations maps picks r cols ++ map (combination_at maps picks r) (range_with_len 0 c))) < 2 ^ 63
   count_small skip k r c hr hc hcols =
       let m = mul-le-mul hr hcols in

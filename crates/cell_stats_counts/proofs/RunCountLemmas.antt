@@ -97,7 +97,7 @@ counted-alone skip k maps picks row p cols m old new sole e wide was grown =
     ∙ ap (λ (l : List Combination). count_of k (kept_cells skip l)) (sym (all_combinations_more maps picks cols row))
     ∙ ap (λ r. count_of k (kept_cells skip (all_combinations maps picks r cols))) (sym (add-one row))
 
--- the count of the rows above is less than 65535 rows of cells
+-- the count in the rows above a row is less than 2^63
 pub few-alone : (skip : Skip) (k : Combination) (maps : List Grid) (picks : List ℕ) (row cols old : ℕ)
     → row ≤ 65535 → cols ≤ 65535 → old ≡ count_of k (kept_cells skip (all_combinations maps picks row cols)) → old < 2 ^ 63
 few-alone skip k maps picks row cols old hr hc was =
