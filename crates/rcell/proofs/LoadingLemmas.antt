@@ -73,7 +73,7 @@ first_placed r grid region shelf name map is same reported =
     ∙ ap (λ r. Ok (record { region = r; names = name ∷ []; maps = map ∷ [] })) same in
     subst (λ (x : Result ShelfValue RunFault). AnswersInput (λ s. s) r x) first reported
 
--- the outcome of placing a map is the outcome for the grid that it was read from
+-- placing a map that was read from a grid places the grid
 pub grid_placed : (given : Option Coming) (placed : Result ShelfValue RunFault) (grid : ℕ)
     (shelf : Option ShelfValue) (name : List ℕ) (map : Grid)
     → IfSome given (λ c. grid_of c ≡ Ok map) → AnswersInput (λ s. s) placed (shelf_placed grid shelf name map)
@@ -121,7 +121,7 @@ module _ {R : Type 0} (coming : R → Option Coming) (grid : ℕ) (shelf : Optio
       ap (then_grids (λ s. shelf_from (grid + 1) (Some s) named))
       (ap (λ name. with_grid grid shelf name (grid_of n.1)) (sym report.0.0) ∙ first)
 
-  -- one more grid is placed
+  -- one more grid is placed, and the loading continues with the others
   pub shelf_more : (gs : List (List ℕ × R)) (next : ShelfValue) (named : List Named) → gs ≡ g ∷ rest
       → Report coming gs named
       → IfSome (coming g.1) (λ c. with_grid grid shelf g.0 (grid_of c) ≡ Ok next)

@@ -12,7 +12,7 @@ use Rattle.cell_calc_binding.specs.Reach.{up_of, down_of}
 use Rattle.cell_calc.specs.Window.{Window, IsWindowOf}
 use Rattle.rcell.specs.parts.WindowsSet.{IsSet, AreSet, then_maps, picked_maps}
 
--- an item before the last, and the last item
+-- appending an item keeps the earlier items, and puts the item at the end
 pub before : {A : Type 0} (xs ys : List A) (i : ℕ) → i < length xs → slice_get (xs ++ ys) i ≡ slice_get xs i
 before [] ys i lt = absurd (let no : ⊥ = omega arith in no)
 before (x ∷ xs) ys zero lt = refl

@@ -37,7 +37,7 @@ free_from start (x ∷ xs) name back distinct =
 free : (front : List (List ℕ)) (name : List ℕ) (back : List (List ℕ)) → AreDistinct (front ++ name ∷ back) → place_of name front ≡ None
 free front name back distinct = free_from 0 front name back distinct
 
--- each grid's text denotes the map in its place
+-- each grid's text denotes the map at its place
 abbrev pub AllDenote : List Named → List Grid → Type 0
 AllDenote grids maps = AllZip (λ g m. Denotes g.1 m) grids maps
 

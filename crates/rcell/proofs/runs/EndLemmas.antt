@@ -63,7 +63,7 @@ module _ (shelf : ShelfValue) (statements : List Statement) (numbered : All (λ 
         first = (false, flush ∙ ap (λ (f : Faults). after_flush f true) puts);
       }
 
-  -- an execution and its flush together give the outcome of a run
+  -- an execution and its flush together give the end of a run
   pub is_end : (executed : Result ℕ Stopped) (outcome : Outcome) → outcome ≡ run_ended executed fails → IfOk executed (λ written. IsDone shelf statements before now written)
       → IfErr executed (λ s. Stops shelf statements before now s.written s.stop) → between ≡ after_put old (stops_write executed) → new ≡ after_execution between executed fails
       → IsRunEnd shelf statements before now old new outcome

@@ -63,7 +63,7 @@ module _ (statements : List Statement) (i : ℕ) (s : Statement) (h : i < length
       appended = appends.adds before start executed.text (rw (t, f) at executed.appended);
     }
 
-    -- if memory ran out at the statement at place i, the statements before it are written
+    -- if memory ran out at the statement at place i, the output of the statements before it is written
     pub before_at : old.failed ≡ false → old.held ≡ [] → IsShelfBefore shelf statements before taken old.written s.line
     before_at good none =
         let put = appended_put executed.appended good none in
@@ -80,7 +80,7 @@ module _ (statements : List Statement) (i : ℕ) (s : Statement) (h : i < length
           count = put.1.0;
         }
 
--- after the statements before place i, the output is a prefix of the full output
+-- after the statements before place i, the sink has accepted a prefix of the output
 pub executed_within : (shelf after : ShelfValue) (statements : List Statement) (i : ℕ) (before now : Option (List ℕ)) (start faults : Faults) (block : BlockValue)
     → HasExecuted shelf (take i statements) before start now faults block after → IsWithin shelf statements before now block.written
 executed_within shelf after statements i before now start faults block executed = record {
