@@ -111,7 +111,7 @@ module _ {P : Type 0} {files : P → List ℕ → Option Coming} {opened : P →
   all_of_some {a} {b} {paths} is = some_of (length paths) (opened_as (sym (take_all (length paths) paths (omega
       arith))) is)
 
-  -- the report after files are opened counts from the start
+  -- an error that is reported after files are opened is reported for the work as a whole
   pub told_after : {a b c : P} {paths : List (List ℕ)} {program : List ℕ} {place : Option PlaceValue} {status : ℕ} →
       OpensFiles files opened errors failed a b paths
       → HasReported opened errors failed b c program place status → IsTold errors failed a c program place status
