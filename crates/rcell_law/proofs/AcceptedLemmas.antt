@@ -20,7 +20,7 @@ use Rattle.rcell.proofs.runs.AcceptedLemmas.{AllDenote}
 use Rattle.rcell_law.specs.OutputExists.{AcceptedHaveOutput}
 use Rattle.rcell_law.proofs.ExistLemmas.{HasMaps, CanMake, CanMakeAll, executes_somehow}
 
--- a line that spells a command names a known map
+-- a command that a line spells reads a known map
 spelled_can : (known : List (List ℕ)) (line : List ℕ) (c : Command) → SpellsCommand known line c → CanMake known c
 spelled_can known line (Reclass place target rules) h = absurd h
 spelled_can known line (Clump place target joining) h = place_of-within h.maps.input known place h.maps.read

@@ -67,7 +67,7 @@ pub record IsOrdered (region : RegionValue) (shelf : ShelfValue) : Type 0 where
   pub distinct : AreDistinct shelf.names
   pub one_region : All (λ m. m.region ≡ region) shelf.maps
 
--- the same shelf with some more names and maps at its end
+-- a shelf with further names and maps at its end
 pub record HasGrown (region : RegionValue) (shelf after : ShelfValue) : Type 0 where
   pub names : List (List ℕ)
   pub maps : List Grid
@@ -154,7 +154,7 @@ executes_grown (s ∷ ss) region shelf is new text after (next, (rest, (step, (o
     grown_twice region shelf next after first
     (executes_grown ss region next first.ordered (subst (λ ns. AreNewTo ns ss) (sym names) new.1) rest after others)
 
--- statements leave one shelf
+-- statements leave only one shelf
 pub executes_to_one : (statements : List Statement) (shelf : ShelfValue) (a b : List ℕ) (x y : ShelfValue)
     → Executes shelf statements a x → Executes shelf statements b y → x ≡ y
 executes_to_one [] shelf a b x y one other = one.1 ∙ sym other.1

@@ -19,7 +19,7 @@ use Rattle.rcell_law.proofs.CutLemmas.{cut_in_two}
 use Rattle.rcell.proofs.OutputLemmas.{names_after}
 use Rattle.rcell_law.proofs.LineLemmas.{script_lines_joined, numbered_both, numbered_later, line_later}
 
--- the names known after statements
+-- the names known after the statements
 abbrev known_after_all : List (List ℕ) → List Statement → List (List ℕ)
 known_after_all known [] = known
 known_after_all known (s ∷ ss) = known_after_all (known_after known s.command) ss
@@ -45,7 +45,7 @@ group_both known _ _ ys two
     (record { line = line.number; command = Reclass place target given } ∷ (statements ++ two)))
     (sym (append_assoc inner (last ∷ lines) ys)) (reclass last spells are end rest)
 
--- a statement n lines further down
+-- a statement moved n lines down
 abbrev statement_later : ℕ → Statement → Statement
 statement_later n s = record { line = n + s.line; command = s.command }
 

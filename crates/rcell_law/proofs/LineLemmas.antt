@@ -94,7 +94,7 @@ lines_both (suc n) front back long =
     ∙ ap (λ (ls : List (List ℕ)). ls ++ lines_from (length back) back)
     (sym (lines_first n text (omega (arith, long_text))))
   where
-    -- the lines after the first line split in the same way
+    -- the lines after the first line are split in the same way
     rest : ((other : List ℕ) → length (other ++ 10 ∷ back) ≤ n → lines_from n (other ++ 10 ∷ back) ≡ lines_from n
         (other ++ 10 ∷ []) ++ lines_from (length back) back)
         → (len : ℕ) → 1 ≤ len → len ≤ length front + 1 → length (front ++ 10 ∷ back) ≡ length front + length (10 ∷ back)
@@ -149,7 +149,7 @@ numbered_both first (x ∷ xs) ys =
     ap (λ (ls : List ScriptLine). record { number = first; bytes = x } ∷ ls)
     (numbered_both (first + 1) xs ys ∙ ap (λ (n : ℕ). numbered_lines (first + 1) xs ++ numbered_lines n ys) e)
 
--- a line n lines further down
+-- a line moved n lines down
 abbrev pub line_later : ℕ → ScriptLine → ScriptLine
 line_later n line = record { number = n + line.number; bytes = line.bytes }
 

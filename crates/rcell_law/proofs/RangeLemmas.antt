@@ -165,7 +165,7 @@ result_in function.KnownMode s xs is all = frequent_in (known_cells xs) (known_i
 -- ---- expressions
 
 abbrev mutual
-  -- the numbers of an expression are categories
+  -- the numbers in an expression are categories
   pub HasCategories : Formula → Type 0
   HasCategories (Number n) = n ≤ 2147483647
   HasCategories (Map i down right) = Unit {0}

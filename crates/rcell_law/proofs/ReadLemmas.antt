@@ -99,7 +99,7 @@ one-more g gs shelf after m denotes same rest = record {
   one_region = All-cons (λ m. m.region ≡ shelf.region) m rest.maps same rest.one_region;
 }
 
--- for any shelf, the remaining grids are added to it
+-- for any shelf, the remaining grids are added to that shelf
 abbrev Rest : List Named → ℕ → ShelfValue → Type 0
 Rest gs grid after = (next : ShelfValue) → AreDistinct next.names → shelf_from grid (Some next) gs ≡ Ok (Some after)
     → ArePlaced gs next after
