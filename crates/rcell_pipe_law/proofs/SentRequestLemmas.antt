@@ -51,7 +51,7 @@ new_name : (shelf : ShelfValue) (name : List ℕ) (back : List (List ℕ)) → A
     → is_new (Some shelf) name ≡ true
 new_name shelf name back distinct = ap is_none (free_from 0 shelf.names name back distinct)
 
--- the shelf with more maps
+-- the shelf, with further maps
 abbrev with_maps : ShelfValue → List SentMap → ShelfValue
 with_maps shelf ms = record {
   region = shelf.region;
