@@ -26,7 +26,7 @@ read_more w old one two three front more n before same passed grown =
     ∙ ap (λ (xs : List ℕ). after xs (after (drop n two.unread) rest)) (sym grown)
     ∙ ap (λ (f : FeedValue). after more (left w f)) (sym passed)
 
--- the bytes that were read
+-- the next n bytes are read if the source has them
 pub bytes_at-all : (n : ℕ) (front : List ℕ) (c rest : Coming) → c ≡ after front rest → length front ≡ n → bytes_at n c ≡ Ok (front, rest)
 unfolding bytes_at
 bytes_at-all n front c rest is len =

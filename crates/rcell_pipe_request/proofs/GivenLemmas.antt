@@ -107,7 +107,7 @@ going : (w : Coming) (gave : List ℕ) → starts_with gave w.bytes ≡ true →
 unfolding may_hold
 going w gave is = joins _ _ is refl
 
--- a source that has ended or failed was not asked before
+-- a source that ends or fails in a call was still open before the call
 from_going : (w : Coming) (gave now : List ℕ) (asked after : Asked) (fails : Bool) (fault : DeviceFault)
     → after ≡ (if fails then after_take {E = DeviceFault} asked (Err fault) else after_take {E = DeviceFault} asked (Ok 0))
     → now ≡ gave → may_hold now after w ≡ true

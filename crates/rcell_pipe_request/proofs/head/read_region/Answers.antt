@@ -6,7 +6,7 @@ use Rattle.rcell_pipe_request.specs.RequestFields.{number_at}
 use Rattle.rcell_pipe_request.specs.Heads.{EdgesValue, edges_at, region_at}
 use Rattle.rcell_pipe_request.proofs.head.read_region.Goals as goal
 
--- the parts of a region make the region
+-- the edges, rows and columns that are read make up the region
 region_of_parts : (c c1 c2 c3 : Coming) (edges : EdgesValue) (rows cols : ℕ) (region : RegionValue) → edges_at c ≡ Ok (edges, c1) → number_at w32 c1 ≡ Ok (rows, c2) → number_at w32 c2 ≡ Ok (cols, c3)
     → region_fault (record { north = edges.north; south = edges.south; east = edges.east; west = edges.west; rows = rows; cols = cols }) ≡ Ok region → region_at c ≡ Ok (region, c3)
 unfolding region_at
