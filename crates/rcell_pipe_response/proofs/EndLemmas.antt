@@ -177,7 +177,7 @@ module _ (read : Result RunRequestValue RequestError) (shelf : ShelfValue) (stat
       (w.after, w.executed) failed
       (record { front = w.prefix; rest = w.rest; whole = refl; taken = w.taken; count = count ∙ w.count })
 
--- an error with a test of memory that is false is not an error of memory
+-- an error for which `is_memory` is false is not an error of memory
 pub not_memory : (kind : ScriptKind) → is_memory kind ≡ false → kind ≢ script_kinds.Memory
 not_memory kind not same = absurd (cc (not, ap is_memory same))
 

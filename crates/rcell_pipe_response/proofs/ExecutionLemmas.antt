@@ -30,7 +30,7 @@ next_at : (statements : List Statement) (i : ℕ) (s : Statement) → i < length
 next_at statements i s h read = rw add-one (drop-cons statements i s h ∙ ap (λ x. x ∷ drop (suc i) statements) (sym read))
 
 module _ {S : Type 0} {taken : S → Option (List ℕ)} {faults : S → Faults} (statements : List Statement) (i : ℕ) (s : Statement) (h : i < length statements) (read : s ≡ get_or statements i s) {shelf after : ShelfValue} {old was : S} {block middle : BlockValue} (given : HasGiven taken faults shelf (take i statements) old block was middle after) where
-  -- the statement in place i is executed
+  -- the statement at place i is executed
   pub given_more : (next : ShelfValue) (now : S) (new : BlockValue) → IsShelfAfter after s.command next → Appends taken faults was middle (frames_bytes (command_frames after s.line s.command)) now new
       → HasGiven taken faults shelf (take (i + 1) statements) old block now new next
   given_more next now new step appends =
@@ -43,7 +43,7 @@ module _ {S : Type 0} {taken : S → Option (List ℕ)} {faults : S → Faults} 
         appends = subst (λ (bytes : List ℕ). Appends taken faults old block bytes now new) (sym (flat_map-append frame_bytes given.frames more)) (appends_then given.appends appends);
       }
 
-  -- memory ran out at the statement in place i
+  -- memory ran out at the statement at place i
   pub given_before : StopsBefore taken faults shelf statements old block was middle s.line
   given_before = record {
     first = take i statements;
@@ -55,7 +55,7 @@ module _ {S : Type 0} {taken : S → Option (List ℕ)} {faults : S → Faults} 
     given = given;
   }
 
--- the sink failed after the first statements
+-- the sink failed after the first i statements
 pub given_within : {S : Type 0} {taken : S → Option (List ℕ)} {faults : S → Faults} (statements : List Statement) (i : ℕ) {shelf after : ShelfValue} {old now : S} {block new : BlockValue} → HasGiven taken faults shelf (take i statements) old block now new after
     → new.failed ≡ true → StopsWithin taken faults shelf statements old block now new
 given_within statements i {after = after} given failed = record { first = take i statements; others = drop i statements; whole = take-append-drop i statements; after = after; given = given; failed = failed }

@@ -4,7 +4,7 @@ use Rattle.cell_core_devices.specs.Device.{Faults}
 use Rattle.cell_core_devices.specs.Blocks.{BlockValue, Appends}
 use Rattle.cell_core_devices.proofs.BlockLemmas.{appends_none, appends_then}
 
--- once the rest is appended, the whole list is appended since the first state
+-- appending the rest completes the list that was begun at the first state
 pub record Leads {S : Type 0} (taken : S → Option (List ℕ)) (faults : S → Faults) (first : S) (start : BlockValue) (all : List ℕ) (out : S) (block : BlockValue) (rest : List ℕ) : Type 0 where
   pub on : (now : S) (new : BlockValue) → Appends taken faults out block rest now new → Appends taken faults first start all now new
 

@@ -36,7 +36,7 @@ pub some_seen : {A B : Type 0} (f : A → B) (x : Option A) → is_some (option_
 some_seen f None = refl
 some_seen f (Some a) = refl
 
--- if the first of two has no error and neither do the others, there is none
+-- if no first error is reported, neither this question nor a later one has an error
 none_of_both : (number : ℕ) (fault : Option QuestionKind) (others : Option QuestionError)
     → fault_or number fault others ≡ None → (fault ≡ None) × (others ≡ None)
 none_of_both number None others h = (refl, h)
@@ -79,7 +79,7 @@ pub none_left : (form : RunForm) (names : List (List ℕ)) → first_fault form 
 unfolding first_fault
 none_left form names = refl
 
--- one more frame of a question
+-- one more question adds one more frame
 answers_more : (first : List QuestionValue) (shelf : ShelfValue) (question : QuestionValue) (place n : ℕ)
     (frames : List OutputFrame) (frame : OutputFrame) → n ≡ place + length first → AreAnswers shelf place first frames
     → IsAnswer shelf n question frame → AreAnswers shelf place (first ++ question ∷ []) (frames ++ frame ∷ [])
@@ -159,7 +159,7 @@ names_at_end (s ∷ ss) shelf after frames x =
     names_at_end ss x.0 after x.1.0 x.1.1.1.0
     ∙ ap (λ (names : List (List ℕ)). all_names names ss) (names_after shelf s.command x.0 x.1.1.0)
 
--- statements give their frames without questions
+-- statements without questions give only their own frames
 pub gives_none : (shelf after : ShelfValue) (statements : List Statement) (frames : List OutputFrame)
     → GivesFrames shelf statements frames after → GivesAll shelf statements [] frames
 gives_none shelf after statements frames given = record {
