@@ -30,7 +30,7 @@ module _ {X : Type 0} (P : X → Type 0) where
 
 -- ---- a list of joined needs
 
--- a property of joined needs that holds for both needs
+-- if joined needs have the property, both needs have it
 abbrev pub Splits : (Need → Type 0) → Type 0
 Splits P = (a b : Need) → a.place ≡ b.place → P (joined a b) → P a × P b
 

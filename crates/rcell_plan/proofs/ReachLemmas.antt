@@ -193,7 +193,7 @@ module _ (g : Need → ℕ) where
     most-append i [] ys = omega arith
     most-append i (x ∷ xs) ys = rw (most-append i xs ys) (omega arith)
 
-    -- the maximum at a place over the reads of all steps
+    -- the maximum at a place over the listed reads is the maximum over all steps
     pub most_steps : (at : ℕ → ℤ → ℤ → ℕ) (i : ℕ) → ((s : Step ℕ) → most i (step_reads s) ≡ at_step at 0 s)
         → (f : Formula)
         → most i (expression_reads f) ≡ fold_steps at 0 max (postfix f)
@@ -241,7 +241,7 @@ step_right i (step.Binary op) = refl
 step_right i (step.Call f n) = refl
 
 module _ (f : Formula) where
-  -- the needs of an expression are its reach in each direction
+  -- the margins of the reads are the expression's reach in each direction
   toward : (g : Need → ℕ) → ((a b : Need) → g (joined a b) ≡ max (g a) (g b)) → (at : ℕ → ℕ → ℤ → ℤ → ℕ)
       → ((i : ℕ) (s : Step ℕ) → most g i (step_reads s) ≡ at_step (at i) 0 s)
       → All (λ n. g n ≡ fold_maps (at n.place) 0 max f) (expression_reads f)
