@@ -102,7 +102,7 @@ end-read rules l s e =
 
 -- ---- the lines read, as groups
 
--- the lines of an r.reclass that is being read, up to its end
+-- the remaining lines of an r.reclass that is being read, up to its end
 record Inside (known : List (List ℕ)) (block : OpenReclass) (lines : List ScriptLine)
     (statements : List Statement) : Type 0 where
   rules : List RuleValue
