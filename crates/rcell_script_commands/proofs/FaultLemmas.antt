@@ -6,7 +6,7 @@ use Rattle.rcell_script_commands.specs.ScriptFaults.{kind_of, in_script}
 use Rattle.rcell_script_commands.specs.declared.script_fault.ScriptKind.{ScriptKind}
 use Rattle.rcell_script_commands.specs.declared.script_fault.ScriptKind.TheVariants as script
 
--- the result of options that fail for a reason other than memory
+-- options that fail for a reason other than memory give an error of the script
 pub reported : {A : Type 0} (r : Result A OptionFault) (fault : OptionFault) (kind : ScriptKind) → kind ≡ kind_of fault → kind ≢ script.Memory
     → (fault ≢ option.Memory → r ≡ Err fault) → in_script r ≡ Err kind
 reported r fault kind same other fails = rw (fails (λ memory. other (same ∙ ap kind_of memory))) (ap Err (sym same))

@@ -59,6 +59,6 @@ mutual
       let both = neither (first_unknown names a) (fold_all (unknown_at names) None first_column xs) h in
       omega (arith, top-placed names a both.0, top-placed_all names xs both.1)
 
--- a map that an assignment makes reads known maps
+-- the map of an assignment reads only known maps
 pub fits_known : (names : List (List ℕ)) (e : Term) (bound : Formula) → bound ≡ with_places names e → first_unknown names e ≡ None → top_of bound ≤ length names
 fits_known names e bound is h = subst (λ f. top_of f ≤ length names) (sym is) (top-placed names e h)

@@ -15,7 +15,7 @@ list_all-no [] i d h bad = absurd (omega arith)
 list_all-no (x ∷ xs) zero d h bad = rw bad refl
 list_all-no (x ∷ xs) (suc i) d h bad = rw (list_all-no xs i d (omega arith) bad) (and-false _)
 
--- one text is not a name
+-- if one text is not a name, its error is the error of all
 pub names_from-fails : (xs : List (Bor (List ℕ))) (i : ℕ) (d : Bor (List ℕ)) (fault : OptionFault) → i < length xs
     → option_name (get_or xs i d).now ≡ Err fault → names_from (texts xs) ≡ Err fault
 names_from-fails xs i d fault h bad = search (rules, get_or, list_all-no)
@@ -24,7 +24,7 @@ names_from-fails xs i d fault h bad = search (rules, get_or, list_all-no)
 pub option_name-is : (text name : List ℕ) → option_name text ≡ Ok name → (name ≡ text) × (is_name name ≡ true)
 option_name-is text name e = search rules
 
--- a value has one part or more
+-- a value has at least one part
 pub parts-some : (parts : List (Bor (List ℕ))) (value : List ℕ) (n : ℕ) → map (λ w. w.now) parts ≡ parts_of value
     → n ≡ length parts → 1 ≤ n
 parts-some parts value n e count = omega (arith, count, length-map parts (λ w. w.now), ap length e, length-slice_split (λ b. b == 44) value)

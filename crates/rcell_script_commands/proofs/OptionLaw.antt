@@ -53,7 +53,7 @@ keys-apart Clump = refl
 keys-apart Stats = refl
 keys-apart OutAscii = refl
 
--- the value of a pair whose text asks for a key
+-- the value of a pair whose text is the text of the key
 abbrev pair_value : Option (List ℕ) → List ℕ → List ℕ → Option (List ℕ)
 pair_value None t v = None
 pair_value (Some text) t v = cond (bytes_eq t text) (Some v) None

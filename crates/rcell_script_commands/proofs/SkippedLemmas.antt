@@ -6,7 +6,7 @@ use Rattle.cell_core_values.specs.Blanks.{is_blank, before_blanks, trimmed_text}
 use Rattle.cell_core_values.specs.Words.{is_word, words_of}
 use Rattle.rcell_script_commands.specs.Skipped.{is_comment}
 
--- no words, or a comment
+-- the words have no content: there are none, or they are a comment
 abbrev pub say_nothing : List (List ℕ) → Bool
 say_nothing [] = true
 say_nothing (w ∷ ws) = is_comment w

@@ -160,7 +160,7 @@ after-none width None None e f = refl
 after-none width None (Some combination) e f = let g : None ≡ Some combination = cc in cc
 after-none width (Some text) after e f = cc
 
--- the text that spells a combination
+-- the text of `after`, which spells the combination
 record AfterText (width : ℕ) (values : List (List ℕ)) (after : Option Combination) : Type 0 where
   text : Option (List ℕ)
   is : IsGivenText values text
@@ -376,7 +376,7 @@ pub head-says : (known : List (List ℕ)) (line : List ℕ) (head : Head) → Is
     → (length line ≤ 65535) × Says known line head
 head-says known line head h = search (rules, mapcalc-sound, words-sound, ltb-false)
 
--- a line whose first word is not `r.mapcalc`
+-- a line whose first word is not `r.mapcalc` is read by its words
 other-head : (known : List (List ℕ)) (line : List ℕ) (head : Result Head ScriptKind) (ws : List (List ℕ))
     → length line ≤ 65535 → words_of line ≡ ws → is_mapcalc ws ≡ false
     → head_of_words known ws ≡ head → IsHead known line head
