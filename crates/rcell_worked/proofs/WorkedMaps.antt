@@ -44,7 +44,7 @@ both_shelf = record {
 abbrev pub small_shelf : ShelfValue
 small_shelf = shelf_of_one (codes "land") small_map
 
--- r.stats -c
+-- the options of `r.stats -c`
 abbrev pub counts : StatsOptions
 counts = record {
   skip = Nothing;
