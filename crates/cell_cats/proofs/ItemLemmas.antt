@@ -93,7 +93,7 @@ module _ (items : List (Bor (List ℕ) × Bor (List ℕ))) (i : ℕ) (d : Bor (L
       let none : ranges_of (pairs (drop i items)) ≡ None = at_drop_more (λ l. ranges_of (pairs l)) items i d h ∙ rw bad refl in
       so_far ∙ ap (after done) none
 
--- a left side is read as items unless it is a lone `*`
+-- words other than a lone `*` are read as items
 module _ (ws : List (Bor (List ℕ))) (lone : false ≡ is_lone_star (item_texts ws)) (some : false ≡ (length ws == 0)) where
   left-items : left_side (item_texts ws) ≡ option_map Some (items_of (item_texts ws))
   left-items = by ws lone some

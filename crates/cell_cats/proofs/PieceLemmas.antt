@@ -98,7 +98,7 @@ cut old new outputs p low at others all x above =
       last = λ q a b. others q (λ e. omega (arith, ints)) ∙ s.last q (omega (arith, ints)) b;
     }))
 
--- painting a range sets its outputs, if a piece begins right after its last category
+-- painting a range sets the outputs of the range, if a piece begins right after the range
 pub range-painted : (old new : ℤ → Option (Option Output)) (outputs : ℤ → Option Output) (ends : ℤ × ℤ) (output : Output) (from to : ℤ) (after : Option Output)
     → from ≤ℤ to → ((x : ℤ) → from ≤ℤ x → x ≤ℤ to → is_in_ends ends x ≡ true) → ((x : ℤ) → x <ℤ from → is_in_ends ends x ≡ false) → ((x : ℤ) → to <ℤ x → is_in_ends ends x ≡ false)
     → old (to +ℤ pos 1) ≡ Some after → new from ≡ Some (Some output)

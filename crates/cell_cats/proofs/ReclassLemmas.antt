@@ -84,7 +84,7 @@ module _ (read : RunValue) (old rest : List RunValue) (next : old ≡ read ∷ r
         ∙ ap (λ l. l ++ new_row rules (written_out rest))
         (new_row-replicate rules read.1 read.0 ∙ ap (replicate read.1) (sym applied))
 
-    -- the run is written as a new run
+    -- the run read is appended as a new run
     pub run-next : (made : List RunValue) (all : List CellValue)
         → written_out made ++ new_row rules (written_out old) ≡ all
         → written_out (made ++ (x, read.1) ∷ []) ++ new_row rules (written_out rest) ≡ all
@@ -93,7 +93,7 @@ module _ (read : RunValue) (old rest : List RunValue) (next : old ≡ read ∷ r
         ∙ append_assoc (written_out made) (replicate read.1 x) (new_row rules (written_out rest))
         ∙ ap (λ l. written_out made ++ l) (sym run) ∙ whole
 
-    -- the run extends the last run written
+    -- the run read extends the last run written
     pub run-on : (made : List RunValue) (k : ℕ) (all : List CellValue)
         → written_out (made ++ (x, k) ∷ []) ++ new_row rules (written_out old) ≡ all
         → written_out (made ++ (x, k + read.1) ∷ []) ++ new_row rules (written_out rest) ≡ all

@@ -1,4 +1,4 @@
--- The last element that passes a test, after each further element.
+-- The last element that passes a test, when elements are appended one by one.
 use Rattle.std.proofs.Common.{◌≡◌, ℕ, ◌+◌, ◌<◌, Bool, true, false, List, [], ◌∷◌, ◌++◌, length, take, get_or, Option, Some, refl, ap, sym, ◌∙◌}
 use Rattle.std.specs.Option.{option_map}
 use Rattle.std.proofs.lemmas.List.{take_more}
@@ -23,7 +23,7 @@ pub last_output-no : (p : RuleValue → Bool) (xs : List RuleValue) (i : ℕ) (d
     → last_output p (take (i + 1) xs) ≡ last_output p (take i xs)
 last_output-no p xs i d h e = ap (λ l. last_output p l) (take_more xs i d h) ∙ ap (option_map (λ rule. rule.output)) (last_such-no p (take i xs) (get_or xs i d) e)
 
--- if the next rule lists the category, it determines the output
+-- if the next rule lists the category, the output is this rule's output
 pub listed : (p : RuleValue → Bool) (xs : List RuleValue) (i : ℕ) (d r : RuleValue) → i < length xs → r ≡ get_or xs i d → true ≡ p r
     → Some r.output ≡ last_output p (take (i + 1) xs)
 listed p xs i d r h is e = ap (λ rule. Some rule.output) is ∙ sym (last_output-yes p xs i d h (sym (e ∙ ap p is)))
