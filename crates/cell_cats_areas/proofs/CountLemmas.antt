@@ -91,7 +91,7 @@ some_cell : (x y : CellValue) → (x ≡ None → y ≡ None) → IsSome y → I
 some_cell None y nulls some = subst IsSome (nulls refl) some
 some_cell (Some v) y nulls some = refl
 
--- the first cells up to a numbered cell leave out none
+-- the first cells up to a numbered cell leave no earlier first cell out
 leading_up_to : (j : Joining) (m : Grid) (p : Position) (n : ℕ) → (h : HasNumber j m p n) → AreLeading j m h.firsts
 leading_up_to j m p n h = record {
   in_order = h.up_to.in_order;

@@ -93,7 +93,7 @@ LeadsToOpen-after table a b open_of a_inside b_inside reports =
     let both = by_order (λ h l. (get_or table h 0 ≡ h) × (get_or table l 0 ≡ l)) (open_of a) (open_of b) (a_open, b_open) (b_open, a_open) in
     LeadsToOpen-closed table (max (open_of a) (open_of b)) (min (open_of a) (open_of b)) open_of (omega arith) (omega arith) both.0 both.1 reports
 
--- joining two labels by their open labels, once these were found
+-- joining two labels is correct if `high` and `low` are the maximum and minimum of their open labels
 pub LeadsToOpen-joined : (table : List ℕ) (a b first second high low : ℕ) (open_of : ℕ → ℕ) → a < length table → b < length table → LeadsToOpen table open_of → first ≡ open_of a → second ≡ open_of b → high ≡ max first second → low ≡ min first second → LeadsToOpen (set table high low) (after_join open_of a b)
 LeadsToOpen-joined table a b first second high low open_of a_inside b_inside reports e d high_is low_is =
     let high' : high ≡ max (open_of a) (open_of b) = omega arith in

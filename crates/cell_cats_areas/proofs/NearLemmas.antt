@@ -16,7 +16,7 @@ use Rattle.cell_cats_areas.proofs.PathLemmas.{AreJoined-adjacent, AreJoined-sym,
 use Rattle.cell_cats_areas.proofs.MeetingLemmas.{AreSound-joined, after_join_keeps, after_join_one}
 use Rattle.cell_cats_areas.proofs.StartLemmas.{same_position, earlier_adjacent, count_le, alike_from, alike_to}
 
--- a cell that equals a category is that category
+-- a cell that the test finds equal to a category has this category
 pub is_alike : (x y : CellValue) (v : ℤ) (b : Bool) → y ≡ Some v → b ≡ cell_eq x y → b ≡ true → x ≡ Some v
 is_alike x y v b is test yes' = alike_to x y v is (sym test ∙ yes')
 
@@ -91,11 +91,11 @@ module _ (j : Joining) (m : Grid) (r c : ℕ) (v : ℤ) (table labels : List ℕ
   abbrev ReportedOf : Position → Labelled → Type 0
   ReportedOf q x = Reported m (length labels) (area_label_at m labels) q v x
 
-  -- adjacent cells that were read lead to the same label
+  -- adjacent cells of the same category that were read lead to the same label
   met : (p q : Position) (x y : Labelled) → AreAdjacent j p q → ReportedOf p x → ReportedOf q y → f (area_label_at m labels p) ≡ f y.label
   met p q x y near t s = rd.meet p q v near t.is s.is t.read s.read ∙ ap f (sym s.label)
 
-  -- a cell takes a neighbour's label if every earlier neighbour leads to the same label
+  -- a cell takes a neighbour's label if every earlier neighbour of its category leads to the same label
   pub shared : (q : Position) (x : Labelled) → IsEarlier j r c q → ReportedOf q x → ((p : Position) → IsEarlier j r c p → cell_at_position m p ≡ Some v → f (area_label_at m labels p) ≡ f x.label) → Shares j m table labels f r c v x.label
   shared q x earlier t meet = record {
     after = f;
@@ -163,7 +163,8 @@ module _ (m : Grid) (r c : ℕ) (v : ℤ) (table labels : List ℕ) (f : ℕ →
 -- ---- neighbours by edges and corners
 
 module _ (m : Grid) (r c : ℕ) (v : ℤ) (table labels : List ℕ) (f : ℕ → ℕ) (near : Near) (n : AreNear m (length labels) (area_label_at m labels) r c near) (rd : AreRowsRead EdgesAndCorners m table labels f) where
-  -- a property that holds of each of the four neighbours holds of every earlier neighbour
+  -- a property that holds of each of the four neighbours of the category holds of every earlier neighbour of the
+  -- category
   each : (P : Position → Type 0) → ((p : Position) → IsLeft r c p → Reported m (length labels) (area_label_at m labels) p v near.left → P p) → ((p : Position) → IsAbove r c p → Reported m (length labels) (area_label_at m labels) p v near.above → P p) → ((p : Position) → IsUpperLeft r c p → Reported m (length labels) (area_label_at m labels) p v near.upper_left → P p) → ((p : Position) → IsUpperRight r c p → Reported m (length labels) (area_label_at m labels) p v near.upper_right → P p) → (p : Position) → IsEarlier EdgesAndCorners r c p → cell_at_position m p ≡ Some v → P p
   each P left above upper_left upper_right p (inl (inl h)) is = left p h (label_left m (length labels) (area_label_at m labels) r c v near n p h is)
   each P left above upper_left upper_right p (inl (inr h)) is = above p h (label_above m (length labels) (area_label_at m labels) r c v near n p h is)
@@ -181,13 +182,13 @@ module _ (m : Grid) (r c : ℕ) (v : ℤ) (table labels : List ℕ) (f : ℕ →
       (λ p h s. let a = h.0 in let b = h.1 in met EdgesAndCorners m r c v table labels f rd p t.0 near.upper_left near.above (beside EdgesAndCorners p t.0 (omega arith) (omega arith)) s t.2)
       (λ p h s. let a = h.0 in let b = h.1 in sym (met EdgesAndCorners m r c v table labels f rd t.0 p near.above near.upper_right (beside EdgesAndCorners t.0 p (omega arith) (omega arith)) t.2 s ∙ ap f s.label) ∙ ap f (sym t.2.label)))
 
-  -- the upper left neighbour is adjacent to the left one, so both lead to the same label
+  -- if the upper left and the left neighbour have the category, their labels lead to the same label
   under_left : (p l : Position) → IsUpperLeft r c p → IsLeft r c l → Reported m (length labels) (area_label_at m labels) p v near.upper_left → Reported m (length labels) (area_label_at m labels) l v near.left → f (area_label_at m labels p) ≡ f near.left.label
   under_left p l h g s t =
       let a = h.0 in let b = h.1 in let z = g.0 in let w = g.1 in
       sym (met EdgesAndCorners m r c v table labels f rd l p near.left near.upper_left (below EdgesAndCorners l p (omega arith) (omega arith)) t s ∙ ap f s.label) ∙ ap f (sym t.label)
 
-  -- the neighbour above is adjacent to the left one, so both lead to the same label
+  -- if the neighbour above and the left neighbour have the category, their labels lead to the same label
   over_left : (p l : Position) → IsAbove r c p → IsLeft r c l
       → Reported m (length labels) (area_label_at m labels) p v near.above → Reported m (length labels)
       (area_label_at m labels) l v near.left → f (area_label_at m labels p) ≡ f near.left.label

@@ -70,7 +70,7 @@ not_before r c q (inl lt) (inr h) = let e = h.0 in omega arith
 not_before r c q (inr g) (inl gt) = let e = g.0 in omega arith
 not_before r c q (inr g) (inr h) = let less = g.1 in let more = h.1 in omega arith
 
--- an adjacent cell that comes earlier is one of these neighbours
+-- an adjacent cell that comes earlier is one of the neighbours that `IsEarlier` lists
 pub adjacent_earlier : (j : Joining) (r c : ℕ) (q : Position) → AreAdjacent j q (position r c) → IsEarlierCell q (position r c) → IsEarlier j r c q
 adjacent_earlier Edges r c q (inl (e, inl h)) before = inl (e, h)
 adjacent_earlier Edges r c q (inl (e, inr h)) before = absurd (not_before r c q before (inr (e, omega arith)))
@@ -227,7 +227,7 @@ module _ (j : Joining) (m : Grid) where
   pub count_stays : (r c : ℕ) → c < m.region.cols → begins j m (position r c) ≡ false → starts j m (suc (r * m.region.cols + c)) ≡ starts j m (r * m.region.cols + c)
   count_stays r c lt is = count_same (r * m.region.cols + c) (sym (begins_at r c lt) ∙ is)
 
-  -- a cell that gets its own label gets the count of such cells before it
+  -- a cell that gets a label of its own gets the number of such cells before it as its label
   pub start_here : (p : Position) → IsInside m p → begins j m p ≡ true → start_of_run j m (starts j m (cell_place m.region.cols p)) ≡ p
   start_here p inside is =
       let place : ℕ = cell_place m.region.cols p in
