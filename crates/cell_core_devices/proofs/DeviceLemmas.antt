@@ -7,7 +7,7 @@ pub append_known-append : (o : Option (List ℕ)) (xs ys : List ℕ) → append_
 append_known-append None xs ys = refl
 append_known-append (Some zs) xs ys = ap Some (append_assoc zs xs ys)
 
--- two adjacent pieces taken one after another are the joined piece
+-- taking two adjacent pieces one after another is taking the joined piece
 pub took_more : (o : Option (List ℕ)) (bs : List ℕ) (i n : ℕ) → append_known (append_known o (take i bs)) (take n (drop i bs)) ≡ append_known o (take (i + n) bs)
 took_more o bs i n = append_known-append o (take i bs) (take n (drop i bs)) ∙ ap (append_known o) (sym (take-add i n bs))
 
@@ -15,6 +15,6 @@ took_more o bs i n = append_known-append o (take i bs) (take n (drop i bs)) ∙ 
 pub whole_rest : (bs : List ℕ) (i : ℕ) → take (length bs - i) (drop i bs) ≡ drop i bs
 whole_rest bs i = take_all (length bs - i) (drop i bs) (omega (arith, length-drop i bs))
 
--- two adjacent pieces are the joined piece, even if the second is cut from the rest of a slice
+-- taking two adjacent pieces is taking the joined piece, even if the second is cut from the rest of a slice
 pub put_more : (o : Option (List ℕ)) (bs : List ℕ) (i n : ℕ) → append_known (append_known o (take i bs)) (take n (take (length bs - i) (drop i bs))) ≡ append_known o (take (i + n) bs)
 put_more o bs i n = ap (λ (xs : List ℕ). append_known (append_known o (take i bs)) (take n xs)) (whole_rest bs i) ∙ took_more o bs i n

@@ -18,8 +18,8 @@ is_at Ended true false = true
 is_at Failed false true = true
 is_at asked ended failed = false
 
--- a reader's knowledge about its source: whether the source is in the assumed state, so that it was never asked after
--- its end or an `Err`; and whether it returned an `Err`
+-- a reader's knowledge about its source: whether the source is in the assumed state, so that the source was never asked
+-- after its end or an `Err`; and whether the source returned an `Err`
 pub record Heard : Type 0 where
   pub sure : Bool
   pub failed : Bool
