@@ -1,4 +1,4 @@
--- The border of a map is consistent.
+-- Each cell of a map's border matches its number.
 use Rattle.std.proofs.Common.{◌≡◌, ℕ, pos, ◌+◌, ◌-◌, ◌<◌, ◌≤◌, List, Bool, false, ◌==◌}
 use Rattle.std.proofs.Common.{Some, None}
 use Rattle.std.proofs.Common.{Ok, if◌then◌else◌, length, sum, take, get_or, ap, refl, sym, ◌∙◌, arith}
@@ -25,7 +25,7 @@ use Rattle.cell_join_borders.specs.parts.MadeBorder.{HasEachNumber}
 use Rattle.cell_join_borders.specs.declared.pair_fault.PairKind.TheVariants.{BelowOne, TooLarge}
 use Rattle.cell_join_borders.proofs.SideLemmas.{down-at, down-long}
 
--- ---- a cell and its number fit together
+-- ---- a cell matches its number
 
 good : (most n : ℕ) → 0 < n → n ≤ most → number_fault most (pos n) ≡ None
 good most n some few =

@@ -43,7 +43,7 @@ filled-of row count width long few ended =
     (let short = length-take-le count row (omega (arith, long, few)) in omega (arith, short, past))))
     (cases_lt i count))
 
--- if two rows fit together, so do their first cells
+-- if two rows match, their first cells match
 fit-taken : (most : List ℕ) (cells numbers : List CellValue) → AreLinesFit most cells numbers
     → AreLinesFit most (take (length most) cells) (take (length most) numbers)
 fit-taken most cells numbers fit col lt =

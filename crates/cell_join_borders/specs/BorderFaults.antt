@@ -35,7 +35,7 @@ side_places tile begun = (0, most_in_row tile.cols begun 0) ∷ (2, most_in_row 
 
 -- ---- a border whose cells and numbers match
 
--- a side contains a cell and a number for each maximum, and they match
+-- a side contains a cell and a number for each maximum, and each cell matches its number
 pub record IsSideFit (most : List ℕ) (side : Side) : Type 0 where
   pub cells : length side.cells.items ≡ length most
   pub numbers : length side.numbers.items ≡ length most
