@@ -30,7 +30,7 @@ use Rattle.cell_join_clumps.specs.declared.clumps_fault.ClumpsFault.TheVariants.
 use Rattle.cell_join_clumps.specs.declared.tile_grid.TileGrid.{TileGrid}
 use Rattle.cell_join_clumps.proofs.RowLemmas.{last-get}
 
--- a place within a list has an item
+-- the item at a place within a list is found
 pub got : (xs : List RegionValue) (i : ℕ) (x : RegionValue) → true ≡ nat_lt i (length xs) → x ≡ get_or xs i x
     → slice_get xs i ≡ Some x
 got xs i x within is =
@@ -42,7 +42,7 @@ past xs i out =
     let least : length xs ≤ i = grind (arith, nat_tests) in
     slice_get_past xs i least
 
--- a row is complete if the row above has no tile at the row's length
+-- a row is complete if the row above it is not longer
 pub whole-reported : (above row seen : List RegionValue) (place : ℕ) → seen ≡ above → place ≡ length row
     → nat_lt place (length seen) ≡ false → IsWhole above row
 whole-reported above row seen place is long out =
@@ -152,7 +152,7 @@ whole-row above (tile ∷ row) some whole = record { first = tile; whole = whole
 
 -- ---- tiles that do not continue the grid
 
--- a text with another connectivity than the joined texts is reported
+-- a text whose connectivity differs from the requested one is reported
 pub otherwise : (coming : Option Coming) (j : Joining) (place : ℕ) (tile : BorderText)
     → IfSome coming (λ text. SpellsBorder text tile.joining tile.region tile.border)
     → IsBorderFit tile.region tile.border → tile.joining ≢ j
