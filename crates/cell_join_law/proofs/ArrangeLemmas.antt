@@ -349,7 +349,7 @@ none-more u [] [] some e = slice_get_past u 0 (let none = some refl in subst (λ
 none-more u [] (region ∷ rest) some e = absurd (cc)
 none-more u (t ∷ row) rest some e = absurd (cc)
 
--- if tiles read so far begin a grid, the next tile of the grid may follow them
+-- if the tiles read so far begin a grid, the next tile of the grid may follow them
 pub goes-there : (u v : List RegionValue) (rows : List (List RegionValue)) (row : List RegionValue)
     (grid : List (List RegionValue)) (rest : List RegionValue) → u ≡ v → AreRows u rows → AreWide row
     → LieBeside None row → RowFitsUnder (last_row u rows) row → (row ≡ [] → rows ≡ []) → (row ≡ [] → u ≡ [])

@@ -72,7 +72,7 @@ none-some : (c : CellValue) → c ≡ None → IsSome c → ⊥
 none-some None none some = cc
 none-some (Some v) none some = cc
 
--- the rows of a consistent side are correct
+-- if the cells of a side match their numbers, the rows of the side are correct
 side-right : (m : Grid) (row width : ℕ) (most : List ℕ) (side : Side) → length most ≤ width → IsSideFit most side
     → row_at m row ≡ filled_row width side.cells.items → row_at m (row + 1) ≡ filled_row width side.numbers.items
     → AreRowsRight m row most
@@ -106,7 +106,7 @@ right-not-wrong m row most Counts right wrong = wrong
 right-not-wrong m row most Sum right wrong = wrong
 right-not-wrong m row most Memory right wrong = wrong
 
--- ---- the map of a consistent border
+-- ---- the map of a border whose cells match their numbers
 
 one-connectivity : (i j : Joining) → connectivity i ≡ connectivity j → i ≡ j
 one-connectivity Edges Edges same = refl
@@ -235,7 +235,7 @@ module _ (j : Joining) (tile : RegionValue) (border : Border) (fit : IsBorderFit
   map-right (Pair f) not wrong = wrong-side (Pair f) wrong.0 wrong.1 wrong.2 wrong.3 wrong.4
   map-right Memory not wrong = not refl
 
--- the text of a consistent border has no error
+-- the text of a border whose cells match their numbers has no error
 pub none-wrong : (text : Coming) (j : Joining) (tile : RegionValue) (border : Border) → IsBorderText text j tile border
     → (fault : BorderFault) → fault ≢ Memory → IsBorderFault text fault → ⊥
 none-wrong text j tile border is fault not wrong = by fault not wrong

@@ -100,7 +100,7 @@ in-band band (n ∷ ns) sizes many = behind ns band 1 1 n n sizes (omega arith) 
 
 -- ---- the table of a tile
 
--- the table lists one size per clump, and then null
+-- the table lists `count` sizes, and then the entry of null, if any
 pub record Lists (skip : Skip) (count : ℕ) (table : Pairs) : Type 0 where
   pub sizes : List ℕ
   pub nulls : ℕ

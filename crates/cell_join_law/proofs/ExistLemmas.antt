@@ -97,7 +97,7 @@ module _ (j : Joining) (whole numbered : Grid) (is : IsClumping j whole numbered
   most = All-from_get_or (λ (n : ℕ). n ≤ whole.region.rows * whole.region.cols) sizes 0
       (λ i lt. omega (arith, at i lt, size-few numbered whole.region.rows whole.region.cols (i + 1)))
 
--- if the sizes of each number add up to its cells in the full map, the numbering and tables have sizes
+-- if the sizes of each number add up to the number's cells in the full map, the numbering and tables have sizes
 pub have-sizes : (j : Joining) (whole numbered : Grid) → IsClumping j whole numbered
     → IsFilled whole.region whole.rows → (skip : Skip) (counts numbers : List ℕ) (tables : List Pairs)
     → length numbers ≡ sum counts → AllZip (Lists skip) counts tables

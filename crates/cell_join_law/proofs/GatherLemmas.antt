@@ -20,7 +20,7 @@ use Rattle.cell_join_law.specs.TileGrids.{NumberedTile, all_tiles, map_regions, 
 use Rattle.cell_join_law.proofs.ArrangeLemmas.{AreRows, AreWide, IsWide, all_regions, wide-back, wide-front}
 use Rattle.cell_join_law.proofs.BorderLemmas.{one-border}
 
--- ---- the regions of the tiles whose borders the texts are
+-- ---- the regions of the tiles that texts describe
 
 region-wide : (e : RegionValue) → region_fault e ≡ Ok e → IsWide e
 region-wide e good = by (is_rectangle e) (is_side e.rows) (is_side e.cols) (is_countable e) refl good
@@ -52,7 +52,7 @@ module _ (j : Joining) where
   spelled-wide (text ∷ texts) (tile ∷ tiles) spelled =
       (region-wide tile.region spelled.0.tile_is.fit.good, spelled-wide texts tiles spelled.1)
 
-  -- two lists of tiles with the same texts have the same regions
+  -- two lists of tiles described by the same texts have the same regions
   pub same-regions : (texts : List Coming) (a b : List BorderText) → AllZip (SpellsJoined j) texts a
       → AllZip (SpellsJoined j) texts b → regions_of a ≡ regions_of b
   same-regions [] [] [] one other = refl

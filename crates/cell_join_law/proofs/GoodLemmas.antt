@@ -1,4 +1,4 @@
--- Texts of borders that fit together are not rejected.
+-- Texts of borders that form a grid are not rejected.
 use Rattle.std.proofs.Common.{◌≡◌, ◌+◌, ◌*◌, ◌≤◌, ◌^◌, ℕ, List, [], ◌∷◌, ◌++◌, length, sum, Some}
 use Rattle.std.proofs.Common.{None}
 use Rattle.std.proofs.Common.{inl, inr, ◌⊎◌, refl, ap, sym, ◌∙◌, subst, arith, append_assoc, append-nil, length-append}
@@ -86,7 +86,7 @@ goes-somewhere place above row tile Write goes wrong = wrong
 -- ---- texts that follow others
 
 module _ (j : Joining) where
-  -- the tiles of the following texts complete the tiles read
+  -- the tiles read and the tiles of the following texts are all tiles
   record AreThen (after : List Coming) (reported all : List BorderText) : Type 0 where
     more : List BorderText
     spelled : AllZip (SpellsJoined j) after more

@@ -6,7 +6,7 @@ use Rattle.cell_cats_areas.specs.Areas.{Position, cell_at_position, HasNumber, I
 use Rattle.cell_cats_areas.proofs.LawLemmas.{HasNumber-one}
 use Rattle.cell_parts.proofs.AreaLemmas.{is-some}
 
--- the full map's number for a cell's number in a tile; the list gives the numbers of the tile's clumps
+-- the full map's number of a cell, looked up by the cell's number in the tile
 abbrev pub number_there : List ℕ → CellValue → CellValue
 number_there numbers None = None
 number_there numbers (Some (pos n)) = Some (pos (get_or numbers (n - 1) 0))

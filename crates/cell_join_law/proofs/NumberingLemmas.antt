@@ -47,7 +47,7 @@ use Rattle.cell_join_law.proofs.PlaceLemmas.{got, map-to, zip-long, zip-right}
 use Rattle.cell_join_law.proofs.SizedLemmas.{Each, IsTileOfRegion, grid-sized, numbered-filled}
 use Rattle.cell_join_law.proofs.SizedLemmas.{numbered-regions, some-heights, some-widths}
 
--- ---- a border belongs to every map with the same numbers for its clumps
+-- ---- all maps of the clump numbers of a map give the same border
 
 numbers-alike : (j : Joining) (m a b : Grid) → IsClumping j m a → IsClumping j m b → (p : Position)
     → cell_at_position a p ≡ cell_at_position b p
@@ -86,7 +86,7 @@ border-too j rows cols m a b border own has =
       };
     }
 
--- ---- the tiles whose borders the texts are, and the tiles of the map
+-- ---- the tiles that the texts describe are the tiles of the map
 
 -- the tile has the border that was read, and as many clumps as it counts
 record HasReported (j : Joining) (tile : NumberedTile) (reported : BorderText) : Type 0 where

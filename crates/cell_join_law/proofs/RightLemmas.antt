@@ -142,7 +142,7 @@ all-up-to (suc count) numbers all =
       ap (λ n. up_to n numbers) one,
     )
 
--- if numbers contain each number from 1 to a count, there are at least that many of them
+-- a list that contains each number from 1 to a count has at least that many elements
 all-fit : (count : ℕ) (numbers : List ℕ) → ((n : ℕ) → n < count → Contains numbers (n + 1)) → count ≤ length numbers
 all-fit count numbers all = omega (arith, all-up-to count numbers all, few-up-to count numbers)
 
@@ -353,7 +353,7 @@ walk band (reading ∷ before) rest behind (part ∷ parts) (own ∷ all) good a
     no-length [] e = refl
     no-length (x ∷ l) e = absurd (omega arith)
 
--- ---- numbers up to a count
+-- ---- ranges of numbers
 
 record IsRangeCut (a count n : ℕ) : Type 0 where
   more : List ℕ

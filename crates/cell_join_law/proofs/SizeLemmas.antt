@@ -173,7 +173,7 @@ stands-apart n number numbers from count x here = by (stands_for n numbers (from
         number-of : {a b : ℕ} → Some (pos a) ∷ [] ≡ Some (pos b) ∷ [] → a ≡ b
         number-of e = ap (λ (k : Combination). number-in (first-cell k)) e
 
--- the cells that stand for a number through one clump are that clump's cells, if the clump has the number
+-- the number of cells that stand for n through one clump is the clump's size if the clump has number n, and otherwise 0
 count-first : (n number from : ℕ) (cells : List Combination) →
     count_by (λ x. n == number && eq_by_cmp combination_cmp (Some (pos from) ∷ []) x) cells
     ≡ size_for n number (count_of (Some (pos from) ∷ []) cells)

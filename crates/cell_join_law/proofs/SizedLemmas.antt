@@ -1,4 +1,4 @@
--- The tiles of a grid have the rows of their row of tiles and the columns of their column.
+-- Each tile of a grid has the height of its row of tiles and the width of its column of tiles.
 use Rattle.std.proofs.Common.{◌≡◌, ℕ, ◌<◌, List, [], ◌∷◌, ◌++◌, length, map, None, Some, refl, ◌∙◌, subst}
 use Rattle.std.proofs.Common.{arith}
 use Rattle.std.specs.Prelude.{All}

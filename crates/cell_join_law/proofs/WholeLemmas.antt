@@ -93,7 +93,7 @@ table-some skip cells table is =
     (All-weaker (Contains table) (λ (e : Combination × ℕ). 0 < e.1) (λ e there. ((is.counted e.0 e.1).0 there).1.0) table
     (All-contains_itself table))
 
--- ---- as many numbers as the full map has clumps
+-- ---- there are as many numbers as clumps in the full map
 
 no-null : (nulls : ℕ) → entry_of_null AnyNull nulls ≡ []
 no-null zero = refl
@@ -131,7 +131,7 @@ module _ (j : Joining) (whole numbered : Grid) (is : IsClumping j whole numbered
 
 -- ---- the sums of the sizes
 
--- sizes that fit a numbering are sums by the numbers of all clumps
+-- the sizes of a numbering and tables are the sizes in the tables, added up by number
 pub tally-of : (areas numbers : List ℕ) → length numbers ≡ sum areas → (tables : List Pairs) (sizes : List ℕ)
     → HaveSizes (record { stretches = stretches_of areas numbers; fault = None }) (map table_read tables) sizes
     → HasTally numbers (flat_map listed_sizes tables) sizes
@@ -140,7 +140,7 @@ tally-of areas numbers many tables sizes have =
     (subst (λ (l : List ℕ). HasTally l (flat_map (λ (part : BandSizes). part.sizes) have.parts) sizes)
     (numbers-are-read areas numbers many) have.tally)
 
--- if each number's sizes add up to its cells in the full map, the sums are the full map's table
+-- if the sizes of each number add up to the number's cells in the full map, the sums are the full map's table
 module _ (j : Joining) (whole numbered : Grid) (is : IsClumping j whole numbered)
     (filled : IsFilled whole.region whole.rows) (numbers listed sizes : List ℕ) (tally : HasTally numbers listed sizes)
     (some : All (λ (n : ℕ). 0 < n) listed)

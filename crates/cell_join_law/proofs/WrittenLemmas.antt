@@ -62,7 +62,7 @@ filled-in width cells each =
     All-map InRange (λ col. get_or cells col None) (range_with_len 0 width)
     (λ i d lt. each (get_or (range_with_len 0 width) i d))
 
--- a number that fits a cell is in range
+-- a number that matches a cell is in range
 pair-in : (most : ℕ) (cell number : CellValue) → most ≤ most_clumps → pair_fault most cell number ≡ None
     → InRange number
 pair-in most None None few fits = tt
