@@ -1,4 +1,4 @@
--- The fields of a line, one after another.
+-- The fields of a line are read one after another.
 use Rattle.std.proofs.Common.{◌≡◌, ℕ, ◌<◌, List, [], ◌∷◌, ◌++◌, length, Bool, true, false, Some, None, Result, Ok, Err, refl, ap, sym, ◌∙◌, cond, ◌==◌}
 use Rattle.std.proofs.lemmas.List.{append_assoc, append-nil}
 use Rattle.std.proofs.lemmas.List.Splits.{slice_split_first}
@@ -33,7 +33,7 @@ fields-cons null_text field p (b ∷ bs) = by (p b) (slice_split p bs)
     by false [] = refl
     by false (part ∷ parts) = refl
 
--- before the first field, there are no cells
+-- putting no cells before an entry leaves the entry unchanged
 pub fields-start : (null_text : List ℕ) (separator : ℕ) (line : List ℕ) → with_cells [] (entry_of_line separator null_text line) ≡ entry_of_line separator null_text line
 fields-start null_text separator line = with_cells-none (entry_of_line separator null_text line)
 

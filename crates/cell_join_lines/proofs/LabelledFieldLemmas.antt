@@ -34,7 +34,7 @@ module _ (separator : ℕ) (null_text : List ℕ) where
   abbrev spells : List ℕ → Result (Combination × ℕ) TableKind
   spells rest = labelled_entry_of_line separator null_text rest
 
-  -- before the first field, there are no cells
+  -- putting no cells before an entry leaves the entry unchanged
   pub labelled-start : (line : List ℕ) → with_cells [] (spells line) ≡ spells line
   labelled-start line = with_cells-none (spells line)
 
@@ -43,7 +43,7 @@ module _ (separator : ℕ) (null_text : List ℕ) where
     cut : slice_split is_separator rest ≡ field ∷ slice_split is_separator others
     cut = slice_split_first is_separator rest 0 h ∙ (λ i. sym is i ∷ slice_split is_separator (sym left i))
 
-    -- a line without a label after its cell has no count either
+    -- a cell without a label after it is reported as a bad count
     pub labelled-short : (cells : Combination) → position_or_len is_separator others ≡ length others
         → with_cells cells (spells rest) ≡ Err BadCount
     labelled-short cells none = ap (λ fields. with_cells cells (entry_of_labelled null_text fields)) (cut

@@ -47,7 +47,7 @@ module _ (format : FormatValue) where
     lines = (let same : labelled_from_head format (Some e) line c ≡ left = cc in sym same);
   }
 
-  -- a text with line number 2 has read its first line
+  -- if a text's line number is 2, its first line was read
   pub first-behind : (lines : List Labelled) (text : TextValue) → labelled_from format text ≡ Some lines
       → text.number ≡ 2 → IsBehind format lines text
   first-behind lines text known number = record {
