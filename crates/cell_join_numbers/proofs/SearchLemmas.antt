@@ -1,4 +1,4 @@
--- How many of the ascending labels come before a label, and where a search finds the label.
+-- The number of labels before a label, in ascending order, and the place at which a search finds the label.
 use Rattle.std.proofs.Common.{◌≡◌, ℕ, zero, suc, ◌+◌, ◌-◌, ◌<◌, ◌≤◌, List, length, get_or, Ok, Err, Bool, true, false, ltb, refl, ap, sym, ◌∙◌, arith, ⊎_elim}
 use Rattle.std.specs.List.{AllPairs}
 use Rattle.std.specs.List.Sorted.{IsBinarySearchResult}
@@ -54,7 +54,7 @@ module _ (ts : List ℕ) (order : AllPairs ◌<◌ ts) where
       let same : labels_before ts (l + 1) ≡ labels_before ts (suc l) = ap (labels_before ts) (omega arith) in
       omega (arith, own, one, same, next-before ts order l)
 
-  -- if no listed label is left before an end, the count at the end is the place
+  -- if no listed label from the place on is below an end, the place is the number of listed labels below the end
   pub before-end : (l place end : ℕ) → labels_before ts l ≡ place → l ≤ end
       → ((place < length ts) × (get_or ts place 0 < end) → ⊥) → labels_before ts end ≡ place
   before-end l place end is le none =

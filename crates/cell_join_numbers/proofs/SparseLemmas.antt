@@ -212,7 +212,7 @@ module _ (n : ℕ) (pairs : List (ℕ × ℕ)) (ts sparse : List ℕ) (touching 
           follows.stays l e
           ∙ sym (cond-false (is_touching ts l) (get_or ts (place_leads (labels_before ts l)) 0) l e)
 
-  -- the number of the label at a place, computed from the place that it leads to
+  -- the number of the label at a place, in terms of the place to which that place leads
   place-number : (r : ℕ) → r < length ts →
       sparse_number pairs ts sparse (get_or ts r 0)
       ≡ (get_or ts (place_leads r) 0 - place_leads r) + label_number sparse (place_leads r)

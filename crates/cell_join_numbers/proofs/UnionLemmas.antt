@@ -22,7 +22,7 @@ LeadTo-halved table x f down inside h = record {
 
 -- ---- joining two labels
 
--- a label to which neither joined label leads stays its own
+-- an open label larger than the open labels of two joined labels still leads to itself
 join-other : (f : ℕ → ℕ) (a b k : ℕ) → f k ≡ k → f a < k → f b < k → after_join f a b k ≡ k
 join-other f a b k own one other =
     let most : max (f a) (f b) < k = omega (arith, one, other) in
