@@ -152,7 +152,7 @@ module _ {R : Type 0} (coming : R → Option Coming) (format : FormatValue) (tex
       };
     }
 
-    -- the first number without a size is the one left out, since no size read is 0
+    -- the first number without a size is the number left out, since no size read is 0
     pub left-out : (number : ℕ) → IsFirstWithoutSize sizes number
         → HasNumberLeftOut (areas_reading_of text) (map (reading_of format 1) texts) number
     left-out number is =

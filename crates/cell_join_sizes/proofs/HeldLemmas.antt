@@ -42,7 +42,7 @@ pub read-more : (known : Option AreasReading) (stretches : List Stretch) (text :
 read-more known stretches text s so is = so ∙ ap (option_map (with_stretches stretches)) (read-first text s is)
     ∙ stretches-both stretches (s ∷ []) (areas_behind text)
 
--- a run that cannot be read is the numbering's error
+-- if a run cannot be read, the numbering has this error
 pub read-stops : (known : Option Coming) (stretches : List Stretch) (behind : Option AreasReading) (fault : AreasFault)
     → option_map areas_reading_of known ≡ option_map (with_stretches stretches) behind
     → IfSome behind (λ reading. reading ≡ areas_stopped fault.line fault.kind)

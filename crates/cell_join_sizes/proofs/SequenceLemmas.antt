@@ -28,7 +28,7 @@ start-of (Some s) is =
     let one : s.first ≡ 1 = grind (arith, nat_tests, so.1) in
     (one, so.0, λ some. absurd (omega arith))
 
--- a run in sequence after a run of the tile is the next run after its last clump
+-- a run in sequence after a run of the tile starts right after the last clump of that run, or belongs to another tile
 pub next-of : (band : ℕ) (before : Stretch) (head : Option Stretch) → before.band ≡ band
     → IfSome head (λ s. in_sequence (Some before) s ≡ Ok s)
     → IfSome head (IsNextIn band (before.last + 1))
@@ -53,7 +53,7 @@ pub first-in : (place band : ℕ) (head : Option Stretch) → band ≡ place + 1
 first-in place band None is start = tt
 first-in place band (Some s) is start = (start.1, λ same. start.0, λ other. start.0)
 
--- a run that begins a later tile does not belong to this tile
+-- a run that begins a later tile does not belong to the tile before it
 pub not-own : (bands : ℕ) (head : Option Stretch) → 0 < bands → IfSome head (IsBandStart bands)
     → IfSome head (λ s. s.band ≢ bands)
 not-own bands None some start = tt

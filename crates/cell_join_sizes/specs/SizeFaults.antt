@@ -118,7 +118,8 @@ pub record HasEntryMore (place : ReadingPlace) (line : ℕ) : Type 0 where
   pub most : nulls ≡ [] → entry.0 ≢ None ∷ []
   pub at : line ≡ place.table_line + length nulls
 
--- the next line of the table has an error, or, if all clumps of the tile are counted, the line after the entry of null
+-- the next line of the table has an error or, if all clumps of the tile are counted, the line after the entry of null
+-- has an error
 pub record HasTableFault (place : ReadingPlace) (fault : TableFault) : Type 0 where
   pub on : IsReadOn place.areas.stretches place.areas.fault
   pub fault_is : place.left.fault ≡ Some fault

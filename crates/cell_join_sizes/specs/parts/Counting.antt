@@ -65,7 +65,7 @@ pub record HasCountedBand (band line start now : ℕ) (areas after : Option Area
 abbrev pub IsLeftOver : TableReading → Type 0
 IsLeftOver reading = IsNullEntry reading.entries × (reading.fault ≡ None)
 
--- a table was read to its end, if it is known
+-- a table, if known, was read to its end
 pub record HasReadBand (band start now : ℕ) (areas after : Option AreasReading) (table : Option TableReading) (old new : List ℕ) : Type 0 where
   pub part : BandSizes
   pub reported : areas ≡ option_map (with_stretches part.stretches) after
