@@ -100,7 +100,7 @@ module _ (k : Combination) where
       by true is = cc
       by false is = refl
 
-  -- ---- tables, one of which an entry was taken from
+  -- ---- tables after an entry was taken from one of them
 
   swapped : (a b c : Option ℕ) → sum_if_any a (sum_if_any b c) ≡ sum_if_any b (sum_if_any a c)
   swapped None b c = refl
@@ -172,7 +172,7 @@ got (y ∷ ys) (suc i) d x is = got ys i d x is
 abbrev pub nothing : TextValue
 nothing = record { width = 0; head = None; line = []; number = 0; coming = None; heard = record { sure = false; failed = false } }
 
--- the lines of a text, without its head if the head has the combination
+-- the lines of a text, without the head's line if the head has the combination
 abbrev pub lines_past : FormatValue → Combination → TextValue → Option (List Labelled)
 lines_past format k text = option_map (past_labelled k) (labelled_from format text)
 
@@ -508,7 +508,7 @@ module _ (format : FormatValue) (k : Combination) where
     abbrev NoneGoesOn : Type 0
     NoneGoesOn = All (λ (text : TextValue). head_count k text.head ≡ None) now
 
-    -- if no text continues with the combination, its entry is complete and the lines past it remain
+    -- if no text continues with the combination, the combination's entry is complete and the lines past it remain
     gone-none-left : (sum : ℕ) → total ≡ Some sum → NoneGoesOn
         → HasTaken read readings now ((k, sum) ∷ []) × (map (labelled_from format) now ≡ map (lines_past format k) now)
     gone-none-left sum is none = (gone-all sum is (none-count now gone.after gone.known none), none-lines now none)
@@ -525,7 +525,7 @@ module _ (format : FormatValue) (k : Combination) where
     gone-ended : All (λ (text : TextValue). text.head ≡ None) now → NoneGoesOn
     gone-ended done i d within = ap (head_count k) (done i d within)
 
-    -- if the first text continues with another combination, no text continues with this one
+    -- if the first text continues with a different combination, no text continues with the combination
     gone-other : (entry : Combination × ℕ) → BeginsWith now entry → is_of k entry ≡ false → NoneGoesOn
     gone-other entry starts other = (λ i d within. no-count (get_or now i d).head
         (λ e. none-goes-on (heads_of now) starts.first i starts.goes not least (inside-heads i within)

@@ -48,7 +48,7 @@ contains-cases x y xs at = by at.0 at.1 at.2
 not-itself : (k : Combination) → combination_cmp k k ≢ Less
 not-itself k less = (let same : combination_cmp k k ≡ Equal = tied_itself combination_cmp_total k in cc)
 
--- a combination smaller than all entries is not among them
+-- a combination smaller than the combinations of all entries is not among them
 above : (k : Combination) (entries : List LabelledEntry) (line : Labelled)
     → AllByRecursion (λ other. combination_cmp k other ≡ Less) (keys_of entries) → Contains (labelled_of entries) line
     → line.0 ≡ k → ⊥
@@ -85,7 +85,7 @@ same-labels whole up (x ∷ xs) (y ∷ ys) same first second =
     let count : x.1 ≡ y.1 = ap (λ (e : Combination × ℕ). e.1) here in
     λ i. (labelled i, count i) ∷ same-labels whole up xs ys rest first.1 second.1 i
 
--- lines among the other entries are also among all entries
+-- lines among the labels of some entries are still among them after another entry is put first
 stand-behind : (first : LabelledEntry) (entries others : List LabelledEntry)
     → AllByRecursion (λ (e : LabelledEntry). Contains (labelled_of entries) e.0) others
     → AllByRecursion (λ (e : LabelledEntry). Contains (labelled_of (first ∷ entries)) e.0) others

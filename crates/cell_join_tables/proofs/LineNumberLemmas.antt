@@ -36,7 +36,7 @@ module _ (format : FormatValue) where
       (set-behind wholes old first on.text
       (λ w. next-behind format w (get_or old first on.text) on.text (has on.text) on.labelled on.number) was)
 
-  -- texts with line number 2 have read their first lines
+  -- if the line number of each text is 2, the first lines of the texts were read
   pub behind-first : (texts : List TextValue) (comings : List Coming)
       → map (λ (text : TextValue). labelled_from format text) texts
       ≡ map (λ (c : Coming). Some (labelled_in format c.bytes)) comings

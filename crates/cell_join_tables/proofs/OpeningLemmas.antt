@@ -98,7 +98,7 @@ module _ {R X : Type 0} (coming : R → Option Coming) (read : X → Option Tabl
               (ap fault_place stop)));
         }
 
-    -- a text that is rejected is the first error
+    -- the error of a rejected text is the first error of all texts
     pub opened-refused : ((x : X) (r : TableReading) → read x ≡ Some r → GoesOn r) → (fault : TableFault)
         → IfSome (coming source) (λ c. reading_of format width c ≡ stopped fault.line fault.kind)
         → IsFirstFault (readings_of format comings) (length texts) fault
@@ -117,7 +117,7 @@ module _ {R X : Type 0} (coming : R → Option Coming) (read : X → Option Tabl
       nothing [] give = refl
       nothing (c ∷ others) give = cc
 
--- ---- properties of open texts
+-- ---- the contents of open texts
 
 module _ {R X Y : Type 0} (coming : R → Option Coming) (see : X → Option Y) (of : Coming → Y) where
   abbrev seen_of : Coming → Option Y
@@ -137,14 +137,14 @@ module _ {R X Y : Type 0} (coming : R → Option Coming) (see : X → Option Y) 
             ∙ ap (λ o. map see texts ++ (o ∷ map seen_of others)) (sym is ∙ ap (option_map of) one) ∙ known;
       }
 
-  -- one more text is seen
+  -- opening one more text adds its contents
   pub seen-more : (source : R) (left sources : List R) (texts : List X) (text : X) (comings : List Coming)
       → sources ≡ source ∷ left → HasSeen coming see of sources texts comings
       → option_map of (coming source) ≡ see text → HasSeen coming see of left (texts ++ text ∷ []) comings
   seen-more source left sources texts text comings is seen same = more-seen source left texts text seen.others comings
       (subst (λ rs. Give coming rs seen.others) is seen.give) seen.known same
 
-  -- once no source is left, all texts were seen
+  -- once no source is left, the open texts have the contents of all sources
   pub seen-all : (left : List R) (texts : List X) (comings : List Coming) → left ≡ []
       → HasSeen coming see of left texts comings → map see texts ≡ map seen_of comings
   seen-all left texts comings none seen = by seen.others (subst (λ rs. Give coming rs seen.others) none seen.give)

@@ -77,7 +77,7 @@ other-default (p ∷ ps) zero d e within = refl
 other-default (p ∷ ps) (suc i) d e within = other-default ps i d e (omega (arith, within))
 
 module _ (format : FormatValue) (texts : List TextValue) where
-  -- the texts begin with only one entry
+  -- the texts begin with at most one entry
   pub one-begin : (a b : Combination × ℕ) → BeginsWith texts a → BeginsWith texts b → a ≡ b
   one-begin a b one other = by texts one.first (omega (arith, length-map texts (λ (text : TextValue). combination_of text.head), one.goes.within)) one.is
       (λ text. ap (λ p. (get_or texts p text).head) (one-first (heads_of texts) one.first other.first one.goes other.goes) ∙ other.is text)

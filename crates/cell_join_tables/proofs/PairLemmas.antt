@@ -124,7 +124,7 @@ listing-merged one other first second = record {
   no_zero = zeros-merged one other first.no_zero second.no_zero;
 }
 
--- merging the merge of the first n tables with the merge of the others gives the merge of all tables
+-- the merge of the first n tables, merged with the merge of the other tables, is the merge of all tables
 pub merge-split : (tables : List Pairs) (n : ℕ) (one other : Pairs) → IsListing one → IsListing other → IsMerge (take n tables) one → IsMerge (drop n tables) other → IsMerge tables (merged_of one other)
 merge-split tables n one other first second left right =
     IsMerge-from tables (merged_of one other) (listing-merged one other first second) (λ k.

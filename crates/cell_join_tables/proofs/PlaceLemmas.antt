@@ -59,7 +59,7 @@ module _ (heads : List (Option Combination)) where
       by true e = (let both : true ≡ false = sym (chained place p other all.0 e) ∙ not in cc)
       by false e = e
 
-  -- every place up to one that goes before the text also goes before it
+  -- if a place goes before a text, all places up to this place go before the text
   pub up-to : (places : List ℕ) (other i : ℕ) (d : ℕ) → Ascends heads places → i < length places
       → before heads (get_or places i d) other ≡ true
       → AllByRecursion (λ p. before heads p other ≡ true) (take (suc i) places)
@@ -71,7 +71,7 @@ module _ (heads : List (Option Combination)) where
         up-to ps other i d up.1 less is,
       )
 
-  -- every place from one on that does not go before the text does not either
+  -- if a place does not go before a text, no place from this place on goes before the text
   pub from-on : (places : List ℕ) (other i : ℕ) (d : ℕ) → Ascends heads places → i < length places
       → before heads (get_or places i d) other ≡ false
       → AllByRecursion (λ p. before heads p other ≡ false) (drop i places)
@@ -87,7 +87,7 @@ module _ (heads : List (Option Combination)) where
     all-behind ps other others.1 not.1,
   )
 
-  -- inserting a place after all that go before it keeps the order
+  -- inserting a place after all places that go before it keeps the order
   placed : (places : List ℕ) (other count : ℕ) → Ascends heads places → AreBefore heads places other count
       → AllByRecursion (λ p. p ≢ other) places → Ascends heads (insert places count other)
   placed places other zero up so others = (all-behind places other others so.1, up)

@@ -146,7 +146,7 @@ module _ (format : FormatValue) (k : Combination) where
         begins xs rs rest (All-tail IsNotBefore x xs least) all.1,
       )
 
-  -- a sum of the heads beyond 64 bits is also beyond 64 bits in all tables
+  -- if the sum of the heads' counts exceeds 64 bits, so does the sum of the counts in all tables
   pub beyond : (tables : List Pairs) (total : Option ℕ) (rest : Pairs) → AllByRecursion IsListing tables
       → merge_of tables ≡ put_first k total rest → 2 ^ 64 ≤ unwrap_or total 0 → 2 ^ 64 ≤ sum_by (count_in k) tables
   beyond tables None rest all is high = absurd (omega (arith, high))
