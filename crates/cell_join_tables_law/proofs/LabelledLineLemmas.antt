@@ -79,7 +79,7 @@ module _ (format : FormatValue) (labels : Labelling) where
         (line-back format labels clear with_labels apart width entry is)
         ∙ (λ i. (entry.0, front-is entry is i) ∷ text-labelled entries (All-tail IsGood entry entries are) i)
 
-  -- a label is at most as long as 7 bytes or the longest label
+  -- the label of a cell has at most as many bytes as `no data` or the longest label of a category
   label-length : (most column : ℕ) (cell : CellValue)
       → ((column : ℕ) (category : ℤ) → length (labels column category) ≤ most)
       → length (label_in labels column cell) ≤ max 7 most

@@ -48,7 +48,7 @@ module _ (format : FormatValue) (picks : List ℕ) (rows cols : ℕ) (whole : Li
   abbrev FitsIn : Rectangle → Type 0
   FitsIn r = (r.top + r.rows ≤ rows) × (r.left + r.cols ≤ cols)
 
-  -- the part is inside the full map, and has its cells and labels
+  -- the part is inside the full map, and has the full map's cells and labels
   record LiesIn (part : Part) : Type 0 where
     fits : FitsIn part.place
     is : IsPart part.place whole part.maps

@@ -35,7 +35,7 @@ counted-is P k (x ∷ cells) all some =
           counted-is P k cells (All-tail P x cells all) (omega (arith, some, fewer))
     ] refl
 
--- the entry occurs among the cells, and its count is how many times
+-- the combination of the entry occurs among the cells as many times as the entry's count
 pub record StandsFor (cells : List Combination) (entry : Combination × ℕ) : Type 0 where
   pub some : 0 < entry.1
   pub count : entry.1 ≡ count_of entry.0 cells

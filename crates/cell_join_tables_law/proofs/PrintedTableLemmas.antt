@@ -74,7 +74,7 @@ clear-tested format tested =
       no_data = λ labels. sym (ap (λ t. not t || blank) labels) ∙ fourth.1;
     }
 
--- entries printed one per line, in this way, are read back line by line
+-- entries whose lines are printed by `line_bytes` are read back line by line
 module _ (format : FormatValue) (width : ℕ) (line_bytes : Combination × ℕ → List ℕ) (IsGood : Combination × ℕ → Type 0)
     (spelled : (e : Combination × ℕ) → IsGood e → spelled_entry format (line_bytes e) ≡ Ok e)
     (free : (e : Combination × ℕ) → IsGood e → All (λ b. is_newline b ≡ false) (line_bytes e))
