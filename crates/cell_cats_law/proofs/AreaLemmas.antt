@@ -43,7 +43,7 @@ none-below j m numbers is p e = by (cell_at_position m p) refl
     by None none = refl
     by (Some w) some = let number = (is.numbered p (is-some (cell_at_position m p) w some)).2 in cc
 
--- two cells with the same number, or both without one, have the same category
+-- two cells with the same number, or both without a number, are equal in the original map
 pub one-category : (j : Joining) (m numbers : Grid) → IsClumping j m numbers → (p q : Position) (number : CellValue) →
     cell_at_position numbers p ≡ number → cell_at_position numbers q ≡ number
     → cell_at_position m p ≡ cell_at_position m q

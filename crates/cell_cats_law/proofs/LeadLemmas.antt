@@ -1,4 +1,4 @@
--- Each number leads to the smallest number that is linked to it.
+-- Each number leads to the smallest number that links join to it.
 use Rattle.std.proofs.Common.{◌≡◌, ℕ, zero, suc, ◌+◌, ◌*◌, ◌/◌, ◌%◌, ◌<◌, ◌≤◌, max, min, refl, ap, sym, ◌∙◌, arith}
 use Rattle.std.proofs.Common.{subst, inl, inr, ⊎_elim, ◌⊎◌}
 use Rattle.std.proofs.lemmas.Bool.{cases_eq, cases_lt}
@@ -108,7 +108,7 @@ module _ (Joined : ℕ → ℕ → Type 0) (back : (x y : ℕ) → Joined x y �
     }
     so_far (suc pairs) = one_more pairs (so_far pairs) (decide (pairs / count) (pairs % count))
 
-    -- any two linked numbers below the count lead to the same number
+    -- some function with the properties of `Leads` makes any two linked numbers below the count lead to the same number
     pub leads_all : (f : ℕ → ℕ) × (Leads Joined f × ((x y : ℕ) → x < count → y < count → Linked x y → f x ≡ f y))
     leads_all =
         let all = so_far (count * count) in (
