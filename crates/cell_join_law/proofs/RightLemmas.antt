@@ -146,7 +146,7 @@ all-up-to (suc count) numbers all =
 all-fit : (count : ℕ) (numbers : List ℕ) → ((n : ℕ) → n < count → Contains numbers (n + 1)) → count ≤ length numbers
 all-fit count numbers all = omega (arith, all-up-to count numbers all, few-up-to count numbers)
 
--- ---- the entries of areas, one list after another
+-- ---- the entries of clumps, for one list of sizes after another
 
 -- the entries of the sizes not yet counted, followed by other entries
 record IsCutAt (a : ℕ) (xs ys : List ℕ) (rest others : Pairs) : Type 0 where
