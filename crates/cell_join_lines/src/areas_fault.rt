@@ -10,8 +10,8 @@ use thiserror::Error;
 /// The error in a line of a numbering.
 #[derive(Clone, Copy, Debug, PartialEq, Eq, Error)]
 pub enum AreasKind {
-    /// The line does not contain four printed numbers, the first three from 1 to 2147483647 and the last from 1 to 2^64
-    /// - 1.
+    /// The line does not contain four printed numbers, the first three between 1 and 2147483647 and the last between 1
+    /// and 2^64 - 1.
     #[error("not four numbers")]
     NotNumbers,
     /// The first clump is above the last.

@@ -11,7 +11,7 @@ pub enum TableKind {
     /// A field before the last is neither the null text nor a printed category, or has no label.
     #[error("bad cell")]
     BadCell,
-    /// The last field is not a printed count from 1 to 2^64 - 1.
+    /// The last field is not a printed count between 1 and 2^64 - 1.
     #[error("bad count")]
     BadCount,
     /// The number of cells is 0 or differs from the previous lines.
