@@ -30,7 +30,7 @@ entry_width (Some entry) = length entry.0
 abbrev pub width_behind : ℕ → Option (Combination × ℕ) → ℕ
 width_behind width first = if width == 0 then entry_width first else width
 
--- the readings of texts, one after the other, whose lines must have `width` cells, or any number if `width` is 0
+-- the readings of texts, one after another, whose lines must have `width` cells, or any number if `width` is 0
 abbrev pub readings_from : FormatValue → ℕ → List Coming → List TableReading
 readings_from format width [] = []
 readings_from format width (text ∷ texts) = reading_of format width text ∷ readings_from format (width_behind width (first_entry (reading_of format width text).entries)) texts
