@@ -1,4 +1,4 @@
--- A walk over the rows of a tile.
+-- A walk over the rows of a tile that finds the row in which a clump begins.
 use Rattle.std.proofs.Common.{◌≡◌, ℕ, ◌+◌, ◌<◌, ◌≤◌, List, length, get_or, arith}
 use Rattle.cell_join_tiles.specs.Beginnings.{begun_before, row_begun}
 use Rattle.cell_join_tiles.proofs.StretchLemmas.{stretch-is}

@@ -1,4 +1,4 @@
--- How many first cells lie in each row of a tile shows in which row each of them lies.
+-- The number of first cells in each row of a tile determines the row of each first cell.
 use Rattle.std.proofs.Common.{◌≡◌, ℕ, zero, suc, ◌+◌, ◌<◌, ◌≤◌, List, [], ◌∷◌, length, get_or, refl, ap, ◌∙◌, arith, inl, inr, ⊎_elim, ◌⊎◌, ltb, eqb, cond, Bool}
 use Rattle.std.specs.Prelude.{sum, count_by, ◌==◌}
 use Rattle.std.specs.List.{AllPairs}

@@ -1,4 +1,4 @@
--- The numbering of tiles that are joined.
+-- The numbering of joined tiles is the numbering of each map that is cut into them.
 use Rattle.std.proofs.Common.{◌≡◌, ℕ, zero, suc, pos, ◌+◌, ◌-◌, ◌<◌, [], ◌∷◌, ◌++◌, List, Some, map, take, drop, length, get_or, refl, ap, sym, ◌∙◌, arith, subst}
 use Rattle.std.specs.Prelude.{sum, flat_map}
 use Rattle.std.specs.List.{range_with_len}

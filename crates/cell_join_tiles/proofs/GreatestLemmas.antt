@@ -74,7 +74,7 @@ of-reached most (row ∷ rows) =
     (λ same. ⊎_elim (λ stays. inl (same ∙ stays)) (λ here. inr (0, here.0, here.1 ∙ ap (λ (k : ℕ). Some (pos k)) (sym same))) (in-reached most row))
     (λ later. inr (suc later.0, later.1, later.2)) (of-reached (greatest_in most row) rows)
 
--- ---- the areas of a clumping
+-- ---- the clumps of a clumping
 
 pub some-numbered : (x y : CellValue) → (x ≡ None → y ≡ None) → IsSome y → IsSome x
 some-numbered None y nulls some = subst IsSome (nulls refl) some

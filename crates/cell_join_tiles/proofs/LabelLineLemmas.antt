@@ -1,4 +1,4 @@
--- The labels of a row of tiles, from tile to tile.
+-- The labels of a row of tiles, computed from tile to tile.
 use Rattle.std.proofs.Common.{◌<◌, [], length, get_or, arith}
 use Rattle.cell_join_tiles.specs.Beginnings.{Begun, row_begun}
 use Rattle.cell_join_tiles.specs.LabelLines.{LabelLinesLabel, LabelLinesPass}

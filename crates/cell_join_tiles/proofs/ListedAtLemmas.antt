@@ -1,4 +1,4 @@
--- The areas of one map: the list of their first cells, and the numbers.
+-- The clumps of one map: the list of their first cells, and their numbers.
 use Rattle.std.proofs.Common.{◌≡◌, ℕ, pos, ◌+◌, ◌<◌, ◌≤◌, List, Some, IsSome, length, get_or, take, ap, sym, ◌∙◌, arith, subst, ⊎_elim}
 use Rattle.std.specs.List.{AllPairs}
 use Rattle.std.proofs.lemmas.Bool.{cases_lt}

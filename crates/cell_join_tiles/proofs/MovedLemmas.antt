@@ -1,4 +1,4 @@
--- Cells of a tile, moved to their places in the full map and back.
+-- Cells of a tile can be moved to their places in the full map and back.
 use Rattle.std.proofs.Common.{sym, ◌∙◌, arith, inl, inr}
 use Rattle.cell_core.specs.Grid.{Grid}
 use Rattle.cell_cats_areas.specs.declared.clump.Joining.{Joining}

@@ -41,7 +41,7 @@ of-first i rows n r c is =
 -- ---- the clumps of the first rows
 
 module _ (j : Joining) (m numbers : Grid) (firsts : List Position) (clumping : IsClumping j m numbers) (all : AreFirsts j m firsts) where
-  -- a clump that has a cell above a row begins above it
+  -- a number in a cell above a row is at most the number of first cells above that row
   number-above : (p : Position) (i n : ℕ) → p.row < i → cell_at_position numbers p ≡ Some (pos n) → n ≤ above firsts i
   number-above p i n lt is =
       let some = some-numbered (cell_at_position m p) (cell_at_position numbers p) (clumping.nulls p) (rw is refl) in
@@ -58,7 +58,7 @@ module _ (j : Joining) (m numbers : Grid) (firsts : List Position) (clumping : I
       few : (firsts : List Position) (i : ℕ) → above firsts i ≤ length firsts
       few firsts i = count_by-le-length (λ (p : Position). ltb p.row i) firsts
 
-  -- each clump that begins above a row has its number in a cell above that row
+  -- the number of first cells above a row is at most the largest number above that row
   above-number : (i : ℕ) → above firsts i ≤ greatest_of 0 (take i numbers.rows)
   above-number i = by (above firsts i) refl
     where

@@ -1,4 +1,4 @@
--- Labels of a row of tiles, from the labels of the first clumps of each row of each tile.
+-- Labels of a row of tiles, computed from the labels of the first clumps in each row of each tile.
 use Rattle.std.proofs.Common.{◌≡◌, ℕ, zero, suc, ◌+◌, ◌-◌, ◌<◌, ◌≤◌, List, [], ◌∷◌, ◌++◌, map, take, length, get_or, refl, ap, sym, ◌∙◌, arith, ⊎_elim}
 use Rattle.std.specs.Prelude.{sum, flat_map}
 use Rattle.std.specs.List.{range_with_len}

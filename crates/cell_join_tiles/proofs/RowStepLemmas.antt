@@ -1,4 +1,4 @@
--- One more tile in a row of tiles.
+-- Adding one more tile to a row of tiles.
 use Rattle.std.proofs.Common.{◌≡◌, ℕ, ℤ, ◌<◌, ◌≤◌, [], List, Option, Some, None, map, length, get_or, refl, ap, sym, ◌∙◌, arith, ⊎_elim, ltb}
 use Rattle.std.specs.Prelude.{sum}
 use Rattle.std.specs.List.{range_with_len}

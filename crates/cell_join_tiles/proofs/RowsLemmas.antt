@@ -1,4 +1,4 @@
--- Rows of tiles that are joined, and one more row.
+-- Adding one more row of tiles to joined rows.
 use Rattle.std.proofs.Common.{◌≡◌, ℕ, zero, suc, ◌+◌, ◌<◌, ◌≤◌, [], ◌∷◌, ◌++◌, List, take, length, refl, ap, sym, ◌∙◌, arith, subst, inl, inr, ⊎_elim}
 use Rattle.std.specs.Prelude.{sum_by, flat_map, Contains}
 use Rattle.std.specs.List.{range_with_len}

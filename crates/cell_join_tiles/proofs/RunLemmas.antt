@@ -1,4 +1,4 @@
--- The numbers of consecutive labels.
+-- The numbers of consecutive labels follow one another.
 use Rattle.std.proofs.Common.{◌≡◌, ℕ, suc, ◌+◌, ◌-◌, ◌<◌, ◌≤◌, [], ◌∷◌, ◌++◌, List, Option, Some, None, Result, Ok, Err, IfOk, IfNone, map, drop, length, get_or, ap, sym, ◌∙◌, arith, subst, append_assoc, append-nil, ltb}
 use Rattle.std.specs.Prelude.{Vec}
 use Rattle.std.specs.List.{AllPairs, range_with_len}

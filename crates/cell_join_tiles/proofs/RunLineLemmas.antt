@@ -1,4 +1,4 @@
--- A line that continues, or that ends where another begins.
+-- A line continues with the next numbers, or ends where another line begins.
 use Rattle.std.proofs.Common.{◌≡◌, ℕ, zero, suc, ◌+◌, ◌<◌, ◌==◌, List, [], ◌∷◌, ◌++◌, Some, None, true, false}
 use Rattle.std.proofs.Common.{Option, refl, ap, sym, ◌∙◌, arith, append_assoc, append-nil, eq-eqb, eqb-true}
 use Rattle.std.specs.List.{range_with_len}

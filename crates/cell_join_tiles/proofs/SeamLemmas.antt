@@ -1,4 +1,4 @@
--- The cells that meet at the cuts of a grid, and their labels.
+-- The cells that meet at the cuts of a grid have paired labels.
 use Rattle.std.proofs.Common.{◌≡◌, ℕ, suc, ℤ, ◌+◌, ◌-◌, ◌<◌, [], ◌∷◌, List, Option, Some, None, IsSome, take, length, get_or, refl, ap, sym, ◌∙◌, arith, subst, inl, inr, ⊎_elim, ◌⊎◌, ltb, cond}
 use Rattle.std.specs.Prelude.{sum, ◌↔◌}
 use Rattle.std.specs.List.{All, Contains}

@@ -1,4 +1,4 @@
--- Spans of labels, and one more span.
+-- Adding one more span of labels.
 use Rattle.std.proofs.Common.{◌≡◌, ◌<◌, ◌≤◌, ◌+◌, ◌++◌, [], ◌∷◌, ℕ, List, length, take, get_or, ap, sym, ◌∙◌, arith, subst, append-nil, refl, ⊎_elim}
 use Rattle.std.specs.Prelude.{All}
 use Rattle.std.proofs.lemmas.Bool.{cases_lt}
