@@ -1,4 +1,4 @@
--- Paths within tiles, and chains of them.
+-- Paths within tiles, and chains of these paths.
 use Rattle.std.proofs.Common.{◌≡◌, ℕ, zero, suc, ℤ, ◌+◌, ◌-◌, ◌<◌, ◌≤◌, ◌↔◌, List, [], ◌∷◌, map, length, get_or, Bool, true, false, Some, None, IsSome, refl, ap, sym, ◌∙◌, arith, subst, inl, inr, ⊎_elim, ◌⊎◌}
 use Rattle.std.specs.Prelude.{All, Contains}
 use Rattle.std.proofs.lemmas.Bool.{leb-true, ltb-true}
@@ -213,7 +213,7 @@ module _ (j : Joining) (whole : Grid) (tiles : List Tile) (all : All (IsTile who
 pub areas-join : AreasJoin
 areas-join j whole tiles all p q some = joined-chained j whole (AreLinked j whole tiles) (link-joins j whole tiles all) (step-links j whole tiles all) p q some
 
--- ---- the numbers of areas in tiles
+-- ---- clump numbers in tiles
 
 tiles-of : (whole : Grid) (j : Joining) (numbered : List Numbered) → All (λ n. IsTile whole n.tile × IsClumping j n.tile.map n.numbers) numbered → All (IsTile whole) (map (λ n. n.tile) numbered)
 tiles-of whole j [] all = All-nil (IsTile whole)

@@ -1,4 +1,4 @@
--- Tables merged.
+-- The tables of parts merge into the table of the full maps.
 use Rattle.std.proofs.Common.{◌≡◌, ◌↔◌, ℕ, zero, suc, List, [], ◌∷◌, map, Bool, true, false, cond, unwrap_or, refl, ap, sym, ◌∙◌, arith}
 use Rattle.std.specs.Prelude.{sum_by}
 use Rattle.cell_stats_combinations.specs.declared.skip.Skip.{Skip}
