@@ -1,4 +1,4 @@
--- All cells of a map.
+-- All cells of a map are read and measured.
 use Rattle.std.proofs.Common.{◌≡◌, ℕ, ℤ, pos, ◌+◌, ◌-◌, ◌<◌, ◌≤◌, true, List, length, Some, None, IsSome, get_or, refl}
 use Rattle.std.proofs.Common.{ap, sym, ◌∙◌, arith, subst, inl, inr, ◌⊎◌}
 use Rattle.std.specs.Prelude.{slice_get}

@@ -1,4 +1,4 @@
--- One cell after another.
+-- The cells of a map are read one after another.
 use Rattle.std.proofs.Common.{◌≡◌, ◌≢◌, ℕ, pos, ◌+◌, ◌-◌, ◌*◌, ◌<◌, ◌≤◌, Bool, true, false, List, length, Some, min}
 use Rattle.std.proofs.Common.{max, refl, ap, sym, ◌∙◌, arith, subst, inl, inr, ◌⊎◌, cond}
 use Rattle.std.specs.Prelude.{nat_le}

@@ -1,4 +1,4 @@
--- The steps of a cell, from the steps of the two rows above.
+-- The steps of a cell are computed from the steps of the two rows above.
 use Rattle.std.proofs.Common.{◌≡◌, ℕ, zero, suc, pos, ◌+◌, ◌-◌, ◌<◌, ◌≤◌, true, false, List, length, Some, None, min}
 use Rattle.std.proofs.Common.{get_or, refl, ap, sym, ◌∙◌, arith, subst, inl, inr, ◌⊎◌}
 use Rattle.std.proofs.lemmas.List.{get_or_past}

@@ -1,4 +1,4 @@
--- Sums over cells.
+-- Sums over the cells of a map.
 use Rattle.std.proofs.Common.{◌≡◌, ℕ, zero, suc, ◌+◌, ◌-◌, ◌*◌, ◌<◌, ◌≤◌, refl, sym, inl, inr, ◌⊎◌, ◌∙◌, arith, subst}
 use Rattle.std.proofs.Common.{add-one, true}
 use Rattle.std.proofs.lemmas.Bool.{le-leb, lt-leb, cases_lt}
