@@ -1,4 +1,4 @@
--- The counts of parts add up, and fit.
+-- Counts of parts add up, and fit in 64 bits.
 use Rattle.std.proofs.Common.{◌≡◌, ℕ, zero, suc, ◌+◌, ◌^◌, ◌<◌, ◌≤◌, List, [], ◌∷◌, ◌++◌, map, replicate}
 use Rattle.std.proofs.Common.{Bool, true, false, not, cond, refl, ap, ◌∙◌, arith, length-append, add-zero, mul-le-mul}
 use Rattle.std.proofs.lemmas.List.Elements.{filter-append}

@@ -1,4 +1,4 @@
--- Counts in a list.
+-- Counts of combinations in a list.
 use Rattle.std.proofs.Common.{◌≡◌, ℕ, cond, ap, ◌∙◌}
 use Rattle.cell_stats_combinations.specs.Combinations.{Combination}
 use Rattle.cell_stats_counts.specs.Listed.{entry_of}

@@ -92,7 +92,7 @@ module _ (old : Counts) (rising : IsRising old) (zeros : HasNoZero old) (now : C
   at_now : at < length now
   at_now = omega (arith, joined.size, here)
 
-  -- the sum of two entries of a combination fits in one entry
+  -- the sum of two entries of a combination is at most the combination's count in the list
   pub joined-fits : (k : Combination) → (get_or now last d).0 ≡ k → (get_or now at d).0 ≡ k → (get_or now last d).1 + (get_or now at d).1 ≤ listed_of k old
   joined-fits k one two =
       let f = entry_of k in
@@ -100,7 +100,7 @@ module _ (old : Counts) (rising : IsRising old) (zeros : HasNoZero old) (now : C
       let left : listed_of k (drop at old) ≡ f (get_or old at d) + listed_of k (drop (at + 1) old) = sum_by-drop_more f old at d here in
       omega (arith, was, left, joined.counts k, entry-own k (get_or now last d) one, entry-own k (get_or now at d) two, ap f (joined.others at d (omega arith)))
 
-  -- the last entry takes the cells of the entry at the place
+  -- the last entry is set to the sum of itself and the entry at the place
   module _ (y : Combination × ℕ) (key : y.0 ≡ (get_or now last d).0) (sum : y.1 ≡ (get_or now last d).1 + (get_or old at d).1) (same : (get_or old at d).0 ≡ (get_or now last d).0) where
     key_any : (e : Combination × ℕ) → y.0 ≡ (get_or now last e).0
     key_any e = key ∙ ap (λ (x : Combination × ℕ). x.0) (any now last d e last_now)

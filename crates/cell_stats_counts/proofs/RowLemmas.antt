@@ -1,4 +1,4 @@
--- A row whose cells are counted one by one.
+-- Counting the cells of a row one by one.
 use Rattle.std.proofs.Common.{◌≡◌, ℕ, zero, suc, ◌+◌, ◌<◌, ◌≤◌, List, [], ◌∷◌, length, drop, map, get_or, Bool, true}
 use Rattle.std.proofs.Common.{false, cond, Some, None, refl, ap, sym, ◌∙◌, arith, add-one, add-zero, zero-add}
 use Rattle.std.proofs.lemmas.List.{drop_more}
