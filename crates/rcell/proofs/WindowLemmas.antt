@@ -24,7 +24,7 @@ behind [] x (suc i) e = absurd (let no : ⊥ = omega arith in no)
 behind (y ∷ xs) x zero e = absurd (let no : ⊥ = omega arith in no)
 behind (y ∷ xs) x (suc i) e = behind xs x i (omega arith)
 
--- one more window is set at the first row
+-- one more window is set at the first row of its map
 pub set_more : (f : Formula) (windows : List Window) (maps : List Grid) (n : ℕ) (w : Window) (m : Grid)
     → length windows ≡ n → AreSet f n 0 windows maps → slice_get maps n ≡ Some m
     → w.centre ≡ 0 → (w.above ≡ up_of n f) × (w.below ≡ down_of n f) → IsWindowOf w m
