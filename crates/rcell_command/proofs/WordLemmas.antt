@@ -1,4 +1,4 @@
--- Words, and the bytes of those that are lent.
+-- Words, and the bytes of borrowed words.
 use Rattle.std.proofs.Common.{Bor, ◌≡◌, List}
 use Rattle.std.specs.List.{list_any}
 use Rattle.clap.proofs.WalkLemmas.{list_any-map}
