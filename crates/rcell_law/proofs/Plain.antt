@@ -1,4 +1,4 @@
--- Reading tokens does not run out of memory.
+-- The tokens of a text have no error of memory.
 use Rattle.std.proofs.Common.{◌≡◌, ℕ, ◌+◌, Bool, true, false, List, [], ◌∷◌, Option, Some, None, Result, Ok, Err}
 use Rattle.std.specs.Prelude.{nat_le, nat_lt, length, if◌then◌else◌}
 use Rattle.std.specs.List.{list_all, list_any}

@@ -146,7 +146,7 @@ classes_in given h (row ∷ rows) all =
     (All-head (λ row. All InRange row) row rows all)))
     (classes_in given h rows (All-tail (λ row. All InRange row) row rows all))
 
--- ---- numbers of areas
+-- ---- clump numbers
 
 -- cells in row order have ascending places
 rising : (w : ℕ) (ps : List Position) (d : Position) → AllPairs IsEarlierCell ps →

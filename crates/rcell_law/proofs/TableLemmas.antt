@@ -132,7 +132,7 @@ module _ (format : FormatValue) (n : ℕ) (can : CanBeReadBack format (n ∷ [])
         (entry-printed (made ∷ []) (0 ∷ []) rows cols options.skip of_cells format alone small)
         (table_of-IsTable options.skip (cells_of made rows cols)).ascending
 
--- ---- a run that counts areas
+-- ---- a run that counts clumps
 
 -- one text denotes a map, and another is read as the table of its clumping
 pub record IsCounted (joining : Joining) (options : StatsOptions) (text counts : Coming) : Type 0 where
