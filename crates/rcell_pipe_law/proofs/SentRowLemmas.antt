@@ -32,7 +32,7 @@ length_all size enc (x ∷ xs) each = omega (
   length_all size enc xs each,
 )
 
--- the bytes of an item are at its place times the size
+-- the bytes of the item at place i begin at i times the size
 at_place : {X : Type 0} (size : ℕ) (enc : X → List ℕ) (xs : List X) (i : ℕ) (x : X) → ((x : X)
     → length (enc x) ≡ size)
     → slice_get xs i ≡ Some x → take size (drop (i * size) (flat_map enc xs)) ≡ enc x
