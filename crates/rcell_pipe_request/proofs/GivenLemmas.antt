@@ -126,7 +126,7 @@ same_left w old new unread gave =
     ap (λ (xs : List ℕ). after xs (after_bytes w (length new.gave))) (sym unread)
     ∙ ap (λ (xs : List ℕ). after old.unread (after_bytes w (length xs))) (sym gave)
 
--- the effect of a call that gives no bytes
+-- after a call that returns no bytes, nothing is left of the source
 abbrev pub NoMore : FeedValue → FeedValue → Bool → Type 0
 NoMore old new fails = (w : Coming) → fits w new ≡ true
     → (fits w old ≡ true) × (left w new ≡ left w old) × ((left w old).bytes ≡ []) × (w.fails ≡ fails)
@@ -138,7 +138,7 @@ no_more old new fails fault none none' same told w is =
     let s = from_going w old.gave new.gave old.asked new.asked fails fault told same is in
     (s.0, same_left w old new (none ∙ sym none') (sym same), ap (λ (xs : List ℕ). xs ++ drop (length old.gave) w.bytes) none ∙ s.1, s.2)
 
--- the effect of a call that gives bytes
+-- a call that returns bytes leaves the same bytes to come
 pub some_more : (w : Coming) (old new : FeedValue) (n : ℕ) → old.unread ≡ [] → (n ≡ 0 → ⊥)
     → new.asked ≡ after_take {E = DeviceFault} old.asked (Ok n) → new.gave ≡ old.gave ++ new.unread
     → fits w new ≡ true → (fits w old ≡ true) × (left w new ≡ left w old)
