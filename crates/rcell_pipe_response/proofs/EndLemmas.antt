@@ -1,4 +1,4 @@
--- The ends of a run.
+-- How a run ends.
 use Rattle.std.proofs.Common.{◌≡◌, ◌≢◌, ◌∙◌, ℕ, Bool, true, false, not, List, [], ◌++◌, length, Option, Some, None}
 use Rattle.std.proofs.Common.{Result, Ok, ◌∷◌, ◌⊎◌, inr, refl, sym, ap, subst, append_assoc, append-nil, ◌||◌}
 use Rattle.cell_core_devices.specs.Device.{Faults, append_known, after_put, after_flush, has_failed}

@@ -1,4 +1,4 @@
--- The frame of r.stats.
+-- The frame of r.stats is the frame of a table or of cells.
 use Rattle.std.proofs.Common.{◌≡◌, ℕ, List, false, true, refl}
 use Rattle.std.specs.Prelude.{codes}
 use Rattle.cell_core.specs.Shelf.{ShelfValue}
