@@ -113,7 +113,7 @@ module _ (a b : List Grid) (region : RegionValue) (known : List (List Need)) (x 
         known x.maps y.maps h.first_count h.second_count h.maps;
   }
 
-  -- the statement r.mapcalc
+  -- the statement r.mapcalc makes the same cells over both shelves
 
   same_value : (f : Formula) (r c : ℕ)
       → value f x.maps (grid_position region r c) ≡ value f y.maps (grid_position region r c)
@@ -169,7 +169,7 @@ module _ (a b : List Grid) (region : RegionValue) (known : List (List Need)) (x 
       same : All (IsSameMap a b) (needs_of_reads known (expression_reads f)) → m ≡ n
       same all = one-map-of-values f f x m n are_m (moved_values all) (λ r c _ _. refl)
 
-  -- the maps at a place are related by the needs of that place
+  -- each map on the shelves has the region
 
   of_region : (z : ShelfValue) (place : ℕ) (m : Grid) → All (IsOfRegion region) z.maps
       → slice_get z.maps place ≡ Some m → IsOfRegion region m
