@@ -173,7 +173,7 @@ only_end_of_plan read response (Some errors.Write) is = tt
 
 -- ---- the read state of the source
 
--- a request that is read is asked for to its end
+-- after a request that could be read, the source has been read to its end
 pub asked_of_run : (form : RunForm) (request : RunRequestValue) (response : List ℕ) (error : Option PipeError)
     {asked : Asked}
     → IsResponse form (Ok request) response error → asked ≡ Ended → IsAskedBy error asked
@@ -197,7 +197,7 @@ asked_of_plan request response (Some (errors.MemoryAt line)) is end = end
 asked_of_plan request response (Some errors.MemoryAtQuestion) is end = end
 asked_of_plan request response (Some errors.Write) is end = end
 
--- a request that is not read is asked for up to its error
+-- after a request that could not be read, the source has been read up to the error
 pub asked_of_stop : (stop : RequestStop) (error : Option PipeError) {asked : Asked} → error ≡ Some (error_of_stop stop)
     → asked ≡ asked_at_request stop → IsAskedBy error asked
 asked_of_stop stops.Memory error {asked} is far = subst (λ (e : Option PipeError). IsAskedBy e asked) (sym is)

@@ -1,4 +1,4 @@
--- Three lists zipped, the last one mapped by a function.
+-- Zipping three lists, of which the last is mapped by a function.
 use Rattle.std.proofs.Common.{◌≡◌, ◌∙◌, ◌<◌, ℕ, List, length, get_or, map, arith, ap, sym}
 use Rattle.std.specs.List.{zip}
 use Rattle.std.proofs.lemmas.List.{length-map, get_or-map}
