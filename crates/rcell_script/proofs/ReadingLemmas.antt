@@ -1,4 +1,4 @@
--- The lines of a script, one after another.
+-- Reading the lines of a script one after another.
 use Rattle.std.proofs.Common.{◌≡◌, ◌≢◌, ℕ, ◌+◌, ◌<◌, List, [], ◌∷◌, length, get_or, Result, Ok, Err, IfOk, IfErr, Bor, map, drop, add-one, ◌≤◌, refl, ap, sym, subst}
 use Rattle.std.proofs.Math.Seq.{drop-cons}
 use Rattle.std.proofs.lemmas.List.{drop_all}

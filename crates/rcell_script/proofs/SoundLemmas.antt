@@ -76,7 +76,7 @@ IsSound-rule first read more line block (Ok (line_kind.Rule, rules)) fits e soun
     let same : (record read { pending = Some (record block { rules = rules }) }) ≡ more = cc in
     subst (IsSound first) same (record { known = sound.known; fits = sound.fits; pending = fits; numbered = sound.numbered })
 
--- a line among rules changes only the open rules
+-- a line that is read among rules keeps a sound reading sound
 pub IsSound-rules : (read : Progress) (line : ℕ) (block : OpenReclass) (x : Result (LineKind × List RuleValue) ScriptKind) (r : Result Progress ScriptFault) → read.pending ≡ Some block
     → ReadsLine (λ next. after_rule line (record read { pending = None }) block x ≡ next) r → IfOk r (λ more. (first : List (List ℕ)) → IsSound first read → IsSound first more)
 IsSound-rules read line block x (Err fault) pending e = record {}
