@@ -1,4 +1,4 @@
--- Texts that are all names.
+-- Reading texts that must all be names.
 use Rattle.std.proofs.Math.Bool.{and-false}
 use Rattle.std.proofs.Common.{◌≡◌, ℕ, zero, suc, map, Bor, Ok, Err, ◌<◌, true, false, List, [], ◌∷◌, length, get_or, refl, ap, arith, ◌≤◌, ◌==◌, rules}
 use Rattle.std.proofs.lemmas.List.{length-map}
