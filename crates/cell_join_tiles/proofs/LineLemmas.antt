@@ -1,4 +1,4 @@
--- The borders of tiles give lines of cells of the full map.
+-- The borders of tiles contain lines of cells of the full map.
 use Rattle.std.proofs.Common.{◌≡◌, ℕ, suc, ◌+◌, ◌-◌, ◌<◌, [], ◌∷◌, List, Option, None, take, length, get_or, refl, ap, sym, ◌∙◌, arith, ⊎_elim}
 use Rattle.std.specs.Prelude.{sum}
 use Rattle.std.specs.Option.{option_map}

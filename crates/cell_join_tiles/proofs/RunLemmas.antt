@@ -65,7 +65,7 @@ pub if-ok : {A E : Type 0} (r : Result A E) (P Q : A → Type 0) → IfOk r P �
 if-ok (Ok a) P Q p more = more a p
 if-ok (Err e) P Q p more = tt
 
--- at most as many roots come before a label as paired labels do
+-- no more roots than paired labels come before a label
 pub few-roots : (paired numbers roots : List ℕ) → AreInPlaces paired numbers roots → (first place : ℕ) → labels_before paired first ≡ place → get_or roots place 0 ≤ place
 few-roots paired numbers roots ready first place is =
     let most = count_by-le-length (λ l. ltb l first) paired in

@@ -33,7 +33,7 @@ pub fn borders_number_the_whole()
     ensures { BordersNumberTheWhole }
 {}
 
-/// There are as many numbers as clumps in the full map.
+/// The count of the numbers in `borders_number_the_whole` is the number of clumps in the full map.
 pub fn borders_count_the_whole()
     ensures { BordersCountTheWhole }
 {}
