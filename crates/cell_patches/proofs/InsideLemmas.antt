@@ -121,7 +121,7 @@ larger_to numbers n k center c west east north above here = record {
       (cases_order b (suc c));
 }
 
--- if a diamond with a step or more is within a patch, the cells north of its lowest cell are in the patch too
+-- if a diamond with a step or more is within a patch, so are the cells north of its lowest cell
 pub pure : (numbers : Grid) (n k center r c : ℕ) → center + suc k ≡ suc (suc r)
     → is_inside numbers n (suc k) center (suc c) ≡ true
     → ((is_in_patch numbers n (suc r) (suc c) ≡ true) × (is_in_patch numbers n (suc r) c ≡ true))

@@ -55,7 +55,7 @@ delayed_other numbers depth n r c apart = by_case (nat_le depth r) refl
     by_case false e = refl
     by_case true e = inside (is_inside numbers n depth (r - depth) c) (leb-true depth r e) refl
 
--- a cell that is not in the patch changes nothing that was read of the patch
+-- reading a cell outside the patch changes nothing for the patch
 pub read_other : (m numbers : Grid) (depth n r c : ℕ) (p : Patch) → is_in_patch numbers n r c ≡ false
     → IsPatchRead m numbers depth n r c p → IsPatchRead m numbers depth n r (c + 1) p
 read_other m numbers depth n r c p apart h =
@@ -88,7 +88,7 @@ read_other m numbers depth n r c p apart h =
       last_col = h.last_col;
     }
 
--- if two numbers have a property, their minimum has it too
+-- a property of two numbers holds for their minimum
 kind_min : (K : ℕ → Type 0) (a b most : ℕ) → b < most → (a < most → K a) → K b → K (min a b)
 kind_min K a b most b_lt one other = by_case (cases_lt a b)
   where

@@ -155,7 +155,7 @@ steps_pure lines west steps above second_above is_so value numbers (suc (suc r))
     many : steps ≡ suc (min (min w e) nn)
     many = let most = h.row_most in let within = one.within in omega (arith, value)
 
--- if each cell of a row up to its end has its steps, the whole row has its steps
+-- if each cell up to the end of a row has its steps, all cells of the row have them
 pub steps_row : (numbers : Grid) (r : ℕ) (lines : NearRows) (here : List ℕ) → AreLines numbers r lines
     → length here ≡ length lines.here.now
     → ((c : ℕ) → c < length here → (n : ℕ) → cell_at numbers r c ≡ Some (pos n)
