@@ -1,6 +1,6 @@
 //! Estimates the range of a map's categories from some of its rows.
 //!
-//! No contract says that a range contains all categories: those outside are counted too, only more slowly.
+//! No contract says that a range contains all categories: categories outside are also counted, but more slowly.
 
 ghost use Rattle.std.specs.Prelude.{◌<◌};
 ghost use Rattle.cell_stats_combinations.specs.Combinations.{ArePicks};

@@ -23,7 +23,7 @@ part : (paired listed gathered wide cols : ℕ) → wide ≡ cols → paired + l
     → paired + listed + wide < 2 ^ 64
 part paired listed gathered wide cols same all = omega arith
 
--- the increase of the table and the list is the whole increase
+-- the table and the list account for the whole increase
 whole : (paired listed gathered now later more : ℕ) → now + later ≡ paired + listed + more
     → now + later + gathered ≡ paired + listed + gathered + more
 whole paired listed gathered now later more grown = omega arith
