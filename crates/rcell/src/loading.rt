@@ -91,9 +91,9 @@ fn shelf_with_grid<R: Source + Drop>(
 /// The error of the first grid that has one:
 ///
 /// - [`RunFault::Grid`] if its text is rejected, or, with kind `Memory` and line 0, if memory runs out
-/// - or else [`RunFault::GridTwice`] if its name is already on the shelf
-/// - or else [`RunFault::GridRegion`] if its region differs from the first grid's
-/// - or else [`RunFault::Memory`] with line 0 if memory runs out
+/// - otherwise [`RunFault::GridTwice`] if its name is already on the shelf
+/// - otherwise [`RunFault::GridRegion`] if its region differs from the first grid's
+/// - otherwise [`RunFault::Memory`] with line 0 if memory runs out
 pub fn load<R: Source + Drop>(alloc: Global, grids: Vec<(Name, R)>) -> Result<Shelf, RunFault>
     requires { 0 < vec_len grids }
     ensures answer { (named : List Named) → Report R.coming grids.items named

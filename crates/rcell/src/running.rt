@@ -137,8 +137,8 @@ pub fn run<R: Source + Drop, W: Sink>(
     // An error in a grid names one of the given grids. If memory runs out while a grid or the script is read, the line
     // is 0.
     ensures reported { IfSome result.fault (NamesItsGrid (length grids.items)) }
-    // For status 0, no call of the sink failed, and it was flushed once. For `Write`, a call failed, in this run or
-    // before.
+    // If the status is 0, no call of the sink failed, and the sink was flushed once. If the error is `Write`, a call
+    // failed, in this run or before.
     ensures sound { result.status ≡ 0 → W.faults out.new ≡ after_flush (W.faults out.old) false }
     ensures write { result.fault ≡ Some RunFault.Write → has_failed (W.faults out.new) ≡ true }
     // If `Write` is reported and no write failed, only the flush at the end failed, and the sink has accepted the full
