@@ -17,7 +17,7 @@ use Rattle.rcell_join.specs.declared.join_refusal.Usage.TheVariants as usages
 apart : {X : Type 0} → true ≡ false → X
 apart bad = cc
 
--- the words ask for one table or more, in the format that they give
+-- the words ask for one table or more, in the format that the words specify
 pub tables_read : (labels : Bool) (words : List Text) (found : List (Bor Text)) → has_hyphen_word words ≡ false
     → texts found ≡ paths_in words → (length found == 0) ≡ false
     → asked_labelled labels words ≡ (format_in labels words >>= λ format. Ok (Tables format (texts found)))
