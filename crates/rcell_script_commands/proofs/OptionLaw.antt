@@ -148,7 +148,7 @@ text-plain (k ∷ ks) key text h e = by (λ apart f. text-plain ks key text apar
     by others true s f = let is : k.0 ≡ text = cc in ap is_plain (sym is) ∙ plain.0
     by others false s f = others rest f
 
--- the value that a word gives to a key is the value that it gives to the key's text
+-- the value that a word gives to a key is the value that the word gives to the key's text
 word-value : (form : Form) (key : OptionKey) (o : Option (List ℕ)) → text_of key (option_keys form) ≡ o
     → (word : List ℕ)
     → value_for key (setting_in form word) ≡ slot_value o word

@@ -91,7 +91,7 @@ Extends read (value ∷ []) None (Some x) = read value ≡ Ok x
 Extends read (value ∷ []) (Some x) new = ⊥
 Extends read (value ∷ other ∷ values) old new = ⊥
 
--- a key's value after a word that may give one
+-- a key's value after a word that may contain a value for the key
 abbrev Steps : {X : Type 0} → (List ℕ → Result X OptionFault) → Option (List ℕ) → Option X → Option X → Type 0
 Steps read None old mid = old ≡ mid
 Steps read (Some value) None None = ⊥

@@ -47,7 +47,7 @@ named name text e = (bytes_decides name text).0 e
 
 -- ---- options
 
--- the flags that words give
+-- the flags in the words
 abbrev flags_in : List (List ℕ) → Flags
 flags_in words = with_letters no_flags (flat_map letters_in words)
 
