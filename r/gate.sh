@@ -15,6 +15,6 @@ if [ -z "$missing" ]; then
     add 'tests of the package' Rscript --no-save --no-restore --no-site-file r/gate.R r/rcell/inst/tinytest
 else
     # shellcheck disable=SC2046
-    skip -n 782 r "$missing is not installed" $(grep -v '^#' r/packages.txt)
+    skip -n 791 r "$missing is not installed" $(grep -v '^#' r/packages.txt)
 fi
 closing
