@@ -18,12 +18,15 @@ from .joiner import numbering_of
 from .protocol import NULL
 from .rectangles import Rectangle
 
-__all__ = ["Joined", "TileNumbers", "border_text", "join", "renumber", "sides_text"]
+__all__ = ["SIDES", "Joined", "TileNumbers", "border_text", "join", "renumber", "sides_text"]
 
 Integers = NDArray[Any]
 
 NO_CLUMP = 0
 """Null in a map of clumps, which are numbered from 1."""
+
+SIDES = (np.s_[:1, :], np.s_[-1:, :], np.s_[:, :1], np.s_[:, -1:])
+"""The first and last row and column of an array."""
 
 LEAST_WIDTH = 4
 """The smallest number of columns in a border, whose ninth row contains four numbers."""
@@ -91,9 +94,7 @@ def border_text(
     # Clumps are numbered in the order of their first cells, so the largest number in the rows so
     # far counts the clumps begun.
     begun = np.maximum.accumulate(numbers.max(axis=1))
-    sides = [(slice(0, 1), slice(None)), (slice(-1, None), slice(None))]
-    sides += [(slice(None), slice(0, 1)), (slice(None), slice(-1, None))]
-    return sides_text(place, [(cells[side], numbers[side]) for side in sides], begun, diagonal)
+    return sides_text(place, [(cells[side], numbers[side]) for side in SIDES], begun, diagonal)
 
 
 def sides_text(

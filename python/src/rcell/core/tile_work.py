@@ -22,7 +22,7 @@ from .rectangles import Rectangle
 from .region import Region
 from .runs import entries_of
 from .sources import Block
-from .tile_clumps import NO_CLUMP, border_text
+from .tile_clumps import NO_CLUMP, SIDES, border_text, sides_text
 
 __all__ = [
     "TileDone",
@@ -207,10 +207,18 @@ def _patches(
     diagonal: bool, is_counted: bool, work: TileWork, frames: Sequence[protocol.Frame]
 ) -> list[Integers]:
     table, *grids = frames
-    text, clumps = _clumps(diagonal, work, grids)
-    sides = np.concatenate([clumps[0], clumps[-1], clumps[:, 0], clumps[:, -1]])
-    open_clumps = np.unique(sides[sides != NO_CLUMP])
-    return [text, _table_of(table, work, is_counted), open_clumps]
+    numbers, cells = (_cells_of(grid, work) for grid in grids)
+    sides = [(wide(cells[side], NULL), wide(numbers[side], NO_CLUMP)) for side in SIDES]
+    if numbers.dtype == np.uint8:
+        numbers = wide(numbers, NO_CLUMP)
+    begun = np.maximum.accumulate(numbers.max(axis=1).clip(min=NO_CLUMP))
+    text = sides_text(work.place, sides, begun, diagonal)
+    open_clumps = np.unique(np.concatenate([own.ravel() for _, own in sides]))
+    return [
+        np.frombuffer(text, np.uint8),
+        _table_of(table, work, is_counted),
+        open_clumps[open_clumps != NO_CLUMP],
+    ]
 
 
 def _cells_of(frame: GridFrame, work: TileWork) -> Integers:
