@@ -207,7 +207,7 @@ def _patches(
     diagonal: bool, is_counted: bool, work: TileWork, frames: Sequence[protocol.Frame]
 ) -> list[Integers]:
     table, *grids = frames
-    numbers, cells = (_cells_of(grid, work) for grid in grids)
+    numbers, cells = (_cells_of(grid, work) for grid in grids if isinstance(grid, GridFrame))
     sides = [(wide(cells[side], NULL), wide(numbers[side], NO_CLUMP)) for side in SIDES]
     if numbers.dtype == np.uint8:
         numbers = wide(numbers, NO_CLUMP)
