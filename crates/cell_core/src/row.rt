@@ -17,6 +17,9 @@ use std::marker::Model;
 // A run takes as much memory as this many cells.
 const CELLS_A_RUN: usize = 2;
 
+// A run takes as much memory as this many cells stored as bytes.
+const BYTES_A_RUN: usize = 8;
+
 /// A row of cells, stored in its smallest form.
 #[derive(Debug, Drop)]
 pub(crate) struct Row {
@@ -53,10 +56,11 @@ impl Row {
         ensures cells { IfOk result (λ row. All IsCell row) }
     {
         let count = number_of_runs(cells);
-        let kept = if count <= cells.len() / CELLS_A_RUN {
-            RowForm::Runs(runs_of(alloc, cells, count)?)
-        } else if are_small(cells) {
+        let are_short = count > cells.len() / BYTES_A_RUN;
+        let kept = if are_short && are_small(cells) {
             RowForm::Bytes(bytes_of(alloc, cells)?)
+        } else if count <= cells.len() / CELLS_A_RUN {
+            RowForm::Runs(runs_of(alloc, cells, count)?)
         } else {
             RowForm::Cells(Vec::from_slice(alloc, cells)?)
         };
@@ -70,7 +74,7 @@ impl Row {
         ensures cells { IfOk result (λ row. All IsCell row) }
     {
         let count = number_of_byte_runs(bytes);
-        let kept = if count <= bytes.len() / CELLS_A_RUN {
+        let kept = if count <= bytes.len() / BYTES_A_RUN {
             RowForm::Runs(runs_of_bytes(alloc, bytes, count)?)
         } else {
             RowForm::Bytes(Vec::from_slice(alloc, bytes)?)
