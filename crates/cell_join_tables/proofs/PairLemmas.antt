@@ -11,9 +11,9 @@ use Rattle.std.specs.declared.cmp.Ordering.{Ordering}
 use Rattle.std.specs.declared.cmp.Ordering.TheVariants.{Less, Equal, Greater}
 use Rattle.cell_stats_combinations.specs.Combinations.{Combination, combination_cmp, combination_cmp_total}
 use Rattle.cell_stats_combinations.proofs.OrderLemmas.{combination_cmp-exact}
-use Rattle.cell_stats_counts.specs.Listed.{entry_of, listed_of, HasNoZero}
+use Rattle.cell_stats_entries.specs.Listed.{entry_of, listed_of, HasNoZero}
 use Rattle.cell_stats_combinations.specs.parts.Same.{is_same}
-use Rattle.cell_stats_counts.proofs.HeldLemmas.{cond-add}
+use Rattle.cell_stats_entries.proofs.GatheredLemmas.{cond-add}
 use Rattle.cell_stats.specs.CategoryTables.{Pairs}
 use Rattle.cell_parts.specs.TableParts.{count_in, IsMerge}
 use Rattle.cell_parts.specs.Merging.{IsListing}

@@ -2,7 +2,7 @@
 use Rattle.std.specs.Prelude.{List, All, map, flat_map}
 use Rattle.std.specs.List.Sorted.{IsStrictlySortedBy}
 use Rattle.cell_stats_combinations.specs.Combinations.{combination_cmp}
-use Rattle.cell_stats_counts.specs.Listed.{HasNoZero}
+use Rattle.cell_stats_entries.specs.Listed.{HasNoZero}
 use Rattle.cell_stats.specs.CategoryTables.{Pairs}
 use Rattle.cell_parts.specs.TableParts.{IsMerge}
 

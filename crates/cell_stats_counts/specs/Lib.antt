@@ -1,4 +1,3 @@
 -- The number of times that each combination of categories occurs over several maps.
 pub mod Counts
-pub mod Listed
 pub mod parts

@@ -1,9 +1,7 @@
--- Combinations of one map, intermediate counts, and the sorted list.
+-- Combinations of one map, and intermediate counts.
 pub mod Alone
 pub mod ByteCounts
 pub mod CountsUnderWay
 pub mod HeldPlaces
-pub mod Joined
 pub mod RisingEnds
 pub mod RowCells
-pub mod SideBySide

@@ -4,13 +4,14 @@ ghost use Rattle.std.specs.Prelude.{◌≡◌, ◌+◌, ◌<◌, ◌≤◌, OnOk
 ghost use Rattle.cell_stats_combinations.specs.Combinations.{ArePicks};
 ghost use Rattle.cell_stats_counts.specs.parts.CountsUnderWay.{AreNone, IsCounting, HasRoom, HasCounted};
 
-use crate::gathered::{Gathered, gather};
-use crate::paired::{PAIR, PairTable, add_pair};
+use crate::paired::{PairTable, add_pair};
 use crate::ranges::layout_for;
 use cell_core::cell::Cell;
 use cell_core::memory::Memory;
 use cell_core::shelf::Shelf;
 use cell_stats_combinations::combination::Combo;
+use cell_stats_entries::gathered::{Gathered, gather};
+use cell_stats_entries::pair_place::PAIR;
 use std::alloc::Global;
 
 // The smallest and the largest initial number of places of a table. All numbers of places are powers of two.

@@ -3,15 +3,13 @@
 ghost use Rattle.std.specs.Prelude.{◌≡◌, ◌+◌, ◌<◌, ◌≤◌, All, OnOk, IfOk, length, map};
 ghost use Rattle.cell_core_values.specs.Region.{IsRegion};
 ghost use Rattle.cell_stats_combinations.specs.Combinations.{ArePicks, Combination, shelf_combinations};
-ghost use Rattle.cell_stats_counts.specs.Counts.{count_of};
+ghost use Rattle.cell_stats_counts.specs.Counts.{count_of, AreCountsOf};
 ghost use Rattle.cell_stats_combinations.specs.Cursors.{to_come, AreCursorsReady, AreWideRows, row_in};
-ghost use Rattle.cell_stats_counts.specs.Listed.{AreCountsOf};
 ghost use Rattle.cell_stats_counts.specs.parts.CountsUnderWay.{total_of, AreCounted, IsCounting};
 ghost use Rattle.cell_stats_combinations.specs.LeftOut.{kept_cells};
 
 use crate::alone::count_alone;
 use crate::counting::{CountPlaces, add_count, first_places};
-use crate::gathered::{list_gathered, ordered_entries};
 use crate::paired::list_pairs;
 use crate::varied::{count_varied, is_varied};
 use cell_core::cell::Cell;
@@ -21,6 +19,8 @@ use cell_stats_combinations::combination::Combo;
 use cell_stats_combinations::cursor::{Cursor, cursors_of, pass_all, restart_all, start};
 use cell_stats_combinations::selection::Selection;
 use cell_stats_combinations::skip::{Skip, is_left_out};
+use cell_stats_entries::gathered::list_gathered;
+use cell_stats_entries::ordered::ordered_entries;
 use std::alloc::Global;
 
 // Counts the cells of a row in groups of columns in which no map changes, with cursors that start at its first cells.

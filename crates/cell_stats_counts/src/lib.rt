@@ -2,16 +2,14 @@
 //!
 //! - `counts`: `count_cells`, the counts of some maps of a shelf
 //! - private: `counting`, which counts combinations of one or two maps in a table (`paired`, laid out by `ranges`,
-//!   sorted by `scattered`, listed by `rising` for one map), others side by side (`gathered`); `alone`, one map by
+//!   listed by `rising` for one map), others side by side (`Gathered` of cell_stats_entries); `alone`, one map by
 //!   itself; `varied`, rows cell by cell
 #![tactic(auto)]
 
 mod alone;
 mod counting;
 pub mod counts;
-mod gathered;
 mod paired;
 mod ranges;
 mod rising;
-mod scattered;
 mod varied;

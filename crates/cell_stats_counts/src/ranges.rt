@@ -6,10 +6,10 @@ ghost use Rattle.std.specs.Prelude.{◌<◌};
 ghost use Rattle.cell_stats_combinations.specs.Combinations.{ArePicks};
 
 use crate::paired::Layout;
-use crate::scattered::CodeRange;
 use cell_core::map::CellMap;
 use cell_core::shelf::Shelf;
 use cell_core_values::small_cells::cell_of_byte;
+use cell_stats_entries::scattered::CodeRange;
 
 // The approximate number of rows of a map that are sampled.
 const SAMPLE: u32 = 8;

@@ -8,8 +8,7 @@ use Rattle.cell_stats_counts.specs.parts.Alone.{alone}
 use Rattle.cell_stats_counts.specs.parts.ByteCounts.{sum_counted}
 use Rattle.cell_stats_combinations.specs.parts.Same.{is_same}
 use Rattle.cell_stats_counts.specs.parts.CountsUnderWay.{total_of, IsCounting}
-use Rattle.cell_stats_counts.proofs.ByteCountLemmas.{byte-left, byte-none, byte-more}
-use Rattle.cell_stats_counts.proofs.ByteCountLemmas.{room-on, room-grown}
+use Rattle.cell_stats_counts.proofs.ByteCountLemmas.{byte-left, byte-none, byte-more, room-on, room-grown}
 use Rattle.cell_stats_counts.proofs.alone.count_bytes.Goals as goal
 use Rattle.cell_stats_counts.proofs.alone.count_bytes.Goals.{then-count-gt0+then-not-is_left_out+in_ok-add_count}
 use Rattle.cell_stats_counts.proofs.alone.count_bytes.Goals.{else-count-gt0}

@@ -12,8 +12,7 @@ use Rattle.cell_stats_combinations.specs.parts.Same.{is_same}
 use Rattle.cell_stats_counts.specs.parts.CountsUnderWay.{total_of, IsCounting}
 use Rattle.cell_stats_combinations.specs.LeftOut.{kept_cells, is_left_out}
 use Rattle.cell_stats_counts.proofs.HeldLemmas.{going_of}
-use Rattle.cell_stats_combinations.proofs.WalkLemmas.{alike, alive, passed-on, stretch}
-use Rattle.cell_stats_combinations.proofs.WalkLemmas.{all_combinations_more}
+use Rattle.cell_stats_combinations.proofs.WalkLemmas.{alike, alive, passed-on, stretch, all_combinations_more}
 use Rattle.cell_stats_counts.proofs.CountLemmas.{count-left, count-more, count_small}
 use Rattle.cell_stats_counts.proofs.counts.count_columns.Goals as goal
 use Rattle.cell_stats_counts.proofs.counts.count_columns.Goals.{then-not-is_left_out+in_ok-add_count}

@@ -3,16 +3,15 @@ use Rattle.std.specs.Vec.{with_items}
 use Rattle.std.proofs.lemmas.List.{length-map, with_items_is}
 use Rattle.cell_stats_combinations.specs.Combinations.{Combination}
 use Rattle.cell_stats_combinations.specs.LeftOut.{is_left_out}
-use Rattle.cell_stats_counts.specs.Listed.{listed_of}
-use Rattle.cell_stats_counts.specs.parts.HeldPlaces.{paired_of}
+use Rattle.cell_stats_entries.specs.Listed.{listed_of}
+use Rattle.cell_stats_entries.specs.PairPlaces.{paired_of}
 use Rattle.cell_stats_counts.specs.parts.RowCells.{count_from}
 use Rattle.cell_stats_counts.specs.parts.Alone.{alone}
 use Rattle.cell_stats_counts.proofs.RowLemmas.{count_from-end, alone-at, cell-left, cell-more, cell-few}
 use Rattle.cell_stats_counts.proofs.RowLemmas.{joined, joined_few, none, one_more, next_few}
 use Rattle.cell_stats_counts.proofs.RowLemmas.{inside, before_end, still_some, past, at_end}
 use Rattle.cell_stats_counts.proofs.varied.count_each.Goals as goal
-use Rattle.cell_stats_counts.proofs.varied.count_each.Goals.{then-not-is_left_out+in_ok-add_pair}
-use Rattle.cell_stats_counts.proofs.varied.count_each.Goals.{else-not-is_left_out}
+use Rattle.cell_stats_counts.proofs.varied.count_each.Goals.{then-not-is_left_out+in_ok-add_pair, else-not-is_left_out}
 
 pub loop-col-preserved-then-col-cells : goal.loop-col-preserved-then-col-cells
 loop-col-preserved-then-col-cells c =

@@ -1,0 +1,3 @@
+pub mod GatheredLemmas
+pub mod JoinLemmas
+pub mod SideLemmas

@@ -1,0 +1,2 @@
+-- Sorting a list of entries.
+pub mod Joined
