@@ -1,6 +1,6 @@
 -- Questions are read back from their bytes.
-use Rattle.std.proofs.Common.{◌≡◌, ℕ, ◌+◌, ◌<◌, ◌≤◌, ◌^◌, true, List, [], ◌∷◌, ◌++◌, length, Some, Ok, refl, ap, sym}
-use Rattle.std.proofs.Common.{◌∙◌, arith, append_assoc, append-nil, length-append}
+use Rattle.std.proofs.Common.{◌≡◌, ℕ, ◌+◌, ◌<◌, ◌≤◌, ◌^◌, Bool, true, false, List, [], ◌∷◌, ◌++◌, length, Some, Ok}
+use Rattle.std.proofs.Common.{refl, ap, sym, ◌∙◌, arith, append_assoc, append-nil, length-append}
 use Rattle.std.specs.Prelude.{nat_le, flat_map, All, IfSome, Option, None, unwrap_or}
 use Rattle.cell_core_values.specs.Name.{is_name}
 use Rattle.std.specs.Int.{w8, w32, to_le_bytes}
@@ -16,14 +16,16 @@ use Rattle.rcell_pipe_request.specs.RequestFields.{end_at, steps}
 use Rattle.rcell_pipe_law.specs.RequestLaw.{source_of}
 use Rattle.rcell_pipe_law.specs.SentBytes.{sized}
 use Rattle.rcell_pipe_law.specs.SentQuestions.{IsSentQuestion, SentQuestion, asked, code_of_joining, numbered}
-use Rattle.rcell_pipe_law.specs.SentQuestions.{question_bytes, questions_bytes}
+use Rattle.rcell_pipe_law.specs.SentQuestions.{kind_of_question, question_bytes, questions_bytes}
 use Rattle.rcell_pipe_law.proofs.SentFieldLemmas.{after-append, name_short, text_8}
 use Rattle.rcell_pipe_law.proofs.SentMapLemmas.{head_of, tail_of}
 use Rattle.rcell_pipe_law.proofs.SentNumberLemmas.{reads_8, reads_32}
 
-kind_reads : (rest : Coming) → question_kind_at (after (to_le_bytes w8 1) rest) ≡ Ok (tt, rest)
+kind_reads : (with_numbers : Bool) (rest : Coming)
+    → question_kind_at (after (to_le_bytes w8 (kind_of_question with_numbers)) rest) ≡ Ok (with_numbers, rest)
 unfolding question_kind_at
-kind_reads rest = rw (reads_8 1 rest (omega arith)) refl
+kind_reads false rest = rw (reads_8 1 rest (omega arith)) refl
+kind_reads true rest = rw (reads_8 2 rest (omega arith)) refl
 
 code_small : (joining : Joining) → code_of_joining joining < 2 ^ 8
 code_small Edges = omega arith
@@ -73,12 +75,13 @@ question_reads : (number : ℕ) (question : SentQuestion) (rest : Coming) → Is
     → question_at number (after (question_bytes question) rest) ≡ Ok (asked question number, rest)
 unfolding question_at
 question_reads number question rest is =
+    let kind = to_le_bytes w8 (kind_of_question question.with_numbers) in
     let code = to_le_bytes w8 (code_of_joining question.joining) in
     let depth = to_le_bytes w32 question.depth in
     let zones = sized w8 (unwrap_or question.zones []) in
     rw (
-      after-append (to_le_bytes w8 1) (sized w8 question.map ++ (code ++ (depth ++ zones))) rest,
-      kind_reads (after (sized w8 question.map ++ (code ++ (depth ++ zones))) rest),
+      after-append kind (sized w8 question.map ++ (code ++ (depth ++ zones))) rest,
+      kind_reads question.with_numbers (after (sized w8 question.map ++ (code ++ (depth ++ zones))) rest),
       after-append (sized w8 question.map) (code ++ (depth ++ zones)) rest,
       text_8 question.map (after (code ++ (depth ++ zones)) rest) is.short,
       after-append code (depth ++ zones) rest,

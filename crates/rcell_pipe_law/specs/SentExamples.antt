@@ -45,7 +45,13 @@ abbrev pub docs_request : SentRequest
 docs_request = record { first = docs_map; others = []; script = script; questions = [] }
 
 abbrev pub core_of_heat : SentQuestion
-core_of_heat = record { map = codes "heat"; joining = EdgesAndCorners; depth = 2; zones = Some (codes "land") }
+core_of_heat = record {
+  map = codes "heat";
+  joining = EdgesAndCorners;
+  depth = 2;
+  zones = Some (codes "land");
+  with_numbers = true;
+}
 
 abbrev pub heat_request : SentRequest
 heat_request = record { first = docs_map; others = heat ∷ []; script = script; questions = core_of_heat ∷ [] }
@@ -71,7 +77,7 @@ both_bytes =
     ++ (1 ∷ 0 ∷ 0 ∷ 0 ∷ 254 ∷ 255 ∷ 255 ∷ 255 ∷ 4 ∷ 0 ∷ []) ++ codes "cold"
     ++ (254 ∷ 255 ∷ 7 ∷ 0 ∷ 3 ∷ 0 ∷ 0 ∷ 1 ∷ 0 ∷ []) ++ (3 ∷ 0 ∷ 3 ∷ 0 ∷ 212 ∷ 254 ∷ 0 ∷ 0 ∷ 0 ∷ [])
     ++ (22 ∷ 0 ∷ 0 ∷ 0 ∷ []) ++ codes "r.stats -c input=land\n"
-    ++ (1 ∷ 0 ∷ 0 ∷ 0 ∷ 1 ∷ 4 ∷ []) ++ codes "heat" ++ (8 ∷ 2 ∷ 0 ∷ 0 ∷ 0 ∷ 4 ∷ []) ++ codes "land"
+    ++ (1 ∷ 0 ∷ 0 ∷ 0 ∷ 2 ∷ 4 ∷ []) ++ codes "heat" ++ (8 ∷ 2 ∷ 0 ∷ 0 ∷ 0 ∷ 4 ∷ []) ++ codes "land"
 
 -- the cells that the numbers denote: 255 and cells that the mask hides are null
 abbrev pub land_cells : List (List CellValue)

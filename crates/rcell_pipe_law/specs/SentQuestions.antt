@@ -1,5 +1,5 @@
 -- A caller's questions about the patches of a map, and their bytes (profile).
-use Rattle.std.specs.Prelude.{ℕ, ◌≡◌, ◌<◌, ◌≤◌, ◌^◌, ◌+◌, true, List, [], ◌∷◌, ◌++◌, length, flat_map}
+use Rattle.std.specs.Prelude.{ℕ, ◌≡◌, ◌<◌, ◌≤◌, ◌^◌, ◌+◌, Bool, true, false, List, [], ◌∷◌, ◌++◌, length, flat_map}
 use Rattle.std.specs.Prelude.{IfSome, Option, unwrap_or}
 use Rattle.std.specs.Int.{w8, w32, to_le_bytes}
 use Rattle.cell_cats_areas.specs.declared.clump.Joining.{Joining}
@@ -8,13 +8,14 @@ use Rattle.cell_core_values.specs.Name.{is_name}
 use Rattle.rcell_pipe_request.specs.Questions.{QuestionValue}
 use Rattle.rcell_pipe_law.specs.SentBytes.{sized}
 
--- the map's name, which cells are adjacent, the depth of the core in steps from its patch's edge, and the name of the
--- zones' map, if any
+-- the map's name, which cells are adjacent, the depth of the core in steps from its patch's edge, the name of the
+-- zones' map, if any, and whether the map of the patches' numbers is wanted as well
 pub record SentQuestion : Type 0 where
   pub map : List ℕ
   pub joining : Joining
   pub depth : ℕ
   pub zones : Option (List ℕ)
+  pub with_numbers : Bool
 
 -- a question that can be sent
 pub record IsSentQuestion (question : SentQuestion) : Type 0 where
@@ -31,6 +32,7 @@ asked question number = record {
   joining = question.joining;
   depth = question.depth;
   zones = question.zones;
+  with_numbers = question.with_numbers;
 }
 
 abbrev pub numbered : ℕ → List SentQuestion → List QuestionValue
@@ -41,10 +43,15 @@ abbrev pub code_of_joining : Joining → ℕ
 code_of_joining Edges = 4
 code_of_joining EdgesAndCorners = 8
 
--- the kind (1), the map's name, the connectivity, the depth, and the zones' name or an empty text
+-- the kind of a question, by whether it asks for the patches' numbers as well
+abbrev pub kind_of_question : Bool → ℕ
+kind_of_question false = 1
+kind_of_question true = 2
+
+-- the kind, the map's name, the connectivity, the depth, and the zones' name or an empty text
 abbrev pub question_bytes : SentQuestion → List ℕ
 question_bytes question =
-    to_le_bytes w8 1 ++ (sized w8 question.map
+    to_le_bytes w8 (kind_of_question question.with_numbers) ++ (sized w8 question.map
     ++ (to_le_bytes w8 (code_of_joining question.joining) ++ (to_le_bytes w32 question.depth
     ++ sized w8 (unwrap_or question.zones []))))
 

@@ -1,6 +1,6 @@
 -- The meaning of the bytes of a request's questions (profile).
-use Rattle.std.specs.Prelude.{ℕ, ◌+◌, List, [], ◌∷◌, ◌++◌, length, map, nat_le, Option, Some, None, Ok, Err}
-use Rattle.std.specs.Prelude.{◌==◌, if◌then◌else◌}
+use Rattle.std.specs.Prelude.{ℕ, ◌+◌, Bool, true, false, List, [], ◌∷◌, ◌++◌, length, map, nat_le, Option, Some, None}
+use Rattle.std.specs.Prelude.{Ok, Err, ◌==◌, if◌then◌else◌}
 use Rattle.std.specs.Int.{w8, w32}
 use Rattle.cell_core_devices.specs.Device.{Coming}
 use Rattle.cell_core_values.specs.Answers.{◌>>=◌}
@@ -13,23 +13,28 @@ use Rattle.rcell_pipe_request.specs.RequestFields.{FieldReading, Placed, error_a
 use Rattle.rcell_pipe_request.specs.Heads.{wanted}
 
 -- a question about the patches of a map: its number in the request, from 1, the map's name, which cells are adjacent,
--- the depth of the core in steps from its patch's edge, and the name of the zones' map, if any
+-- the depth of the core in steps from its patch's edge, the name of the zones' map, if any, and whether the map of the
+-- patches' numbers is wanted as well
 pub record QuestionValue : Type 0 where
   pub number : ℕ
   pub map : List ℕ
   pub joining : Joining
   pub depth : ℕ
   pub zones : Option (List ℕ)
+  pub with_numbers : Bool
 
 -- the connectivity with this code
 abbrev pub joining_of_code : ℕ → Option Joining
 joining_of_code code = if code == 4 then Some Edges else (if code == 8 then Some EdgesAndCorners else None)
 
--- the kind of a question, which must be 1
-unfoldable pub question_kind_at : Coming → FieldReading Unit
+-- whether a question of this kind asks for the patches' numbers as well
+abbrev pub numbers_of_kind : ℕ → Option Bool
+numbers_of_kind kind = if kind == 1 then Some false else (if kind == 2 then Some true else None)
+
+unfoldable pub question_kind_at : Coming → FieldReading Bool
 question_kind_at c = do
   kind ← number_at w8 c
-  if kind.0 == 1 then Ok (tt, kind.1) else Err kinds.BadQuestion
+  wanted kinds.BadQuestion kind.1 (numbers_of_kind kind.0)
 
 unfoldable pub joining_at : Coming → FieldReading Joining
 joining_at c = do
@@ -55,12 +60,22 @@ zones_at c = do
 -- a question; an error in a field is reported before the next field is read
 unfoldable pub question_at : ℕ → Coming → FieldReading QuestionValue
 question_at number c = do
-  kind ← question_kind_at c
-  name ← text_at w8 kind.1
+  with_numbers ← question_kind_at c
+  name ← text_at w8 with_numbers.1
   joining ← joining_at name.1
   depth ← depth_at joining.1
   zones ← zones_at depth.1
-  Ok (record { number = number; map = name.0; joining = joining.0; depth = depth.0; zones = zones.0 }, zones.1)
+  Ok (
+    record {
+      number = number;
+      map = name.0;
+      joining = joining.0;
+      depth = depth.0;
+      zones = zones.0;
+      with_numbers = with_numbers.0;
+    },
+    zones.1,
+  )
 
 -- the questions so far, and one more; an error has the question's number in place of a row
 unfoldable pub one_more_question : ℕ → List QuestionValue → Coming → Placed (List QuestionValue)
@@ -89,6 +104,7 @@ question_value question = record {
   joining = question.joining;
   depth = question.depth;
   zones = question.zones;
+  with_numbers = question.with_numbers;
 }
 
 abbrev pub question_values : List Question → List QuestionValue

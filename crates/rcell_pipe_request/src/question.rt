@@ -18,5 +18,7 @@ pub struct Question {
     pub depth: u32,
     /// The name of a map of zones, if each patch's main zone is wanted.
     pub zones: Option<Name>,
+    /// Whether the map of the patches' numbers is wanted as well.
+    pub with_numbers: bool,
     pub ghost positive: { 0 < depth },
 }

@@ -13,16 +13,16 @@ use cell_core::name::{Name, NameFault};
 use std::alloc::Global;
 use std::io::Read;
 
-// Reads the kind of a question. The only kind is 1, which asks for patches.
+// Reads the kind of a question, and returns whether it asks for the patches' numbers as well.
 #[tactic(auto, unfolding(crate::specs::Questions::question_kind_at))]
-fn read_question_kind<R: Read>(feed: &mut Feed<R>) -> Result<(), FieldStop>
-    ensures { ReadsField (λ done. done) feed.old result feed.new question_kind_at }
+fn read_question_kind<R: Read>(feed: &mut Feed<R>) -> Result<bool, FieldStop>
+    ensures { ReadsField (λ with_numbers. with_numbers) feed.old result feed.new question_kind_at }
 {
-    let kind = read_u8(feed)?;
-    if kind != 1 {
-        return Err(FieldStop::Error(ErrorKind::BadQuestion));
+    match read_u8(feed)? {
+        1 => Ok(false),
+        2 => Ok(true),
+        _ => Err(FieldStop::Error(ErrorKind::BadQuestion)),
     }
-    Ok(())
 }
 
 #[tactic(auto, unfolding(crate::specs::Questions::joining_at))]
@@ -73,7 +73,7 @@ fn read_question<R: Read>(
 ) -> Result<Question, FieldStop>
     ensures { ReadsField question_value feed.old result feed.new (question_at number) }
 {
-    read_question_kind(feed)?;
+    let with_numbers = read_question_kind(feed)?;
     let map = read_short_text(alloc, feed)?;
     let joining = read_joining(feed)?;
     let depth = read_depth(feed)?;
@@ -84,6 +84,7 @@ fn read_question<R: Read>(
         joining,
         depth,
         zones,
+        with_numbers,
     })
 }
 

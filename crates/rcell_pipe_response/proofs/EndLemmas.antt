@@ -21,8 +21,8 @@ use Rattle.rcell.specs.runs.Execution.{IsShelfBefore, IsWithin}
 use Rattle.rcell.specs.runs.Outcomes.{IsDone}
 use Rattle.rcell_pipe_response.specs.declared.frame_run.RunForm.{RunForm}
 use Rattle.rcell_pipe_response.specs.declared.frame_run.RunForm.TheVariants.{Frames, Text}
-use Rattle.rcell_pipe_response.specs.Frames.{OutputFrame, GivesFrames}
-use Rattle.rcell_pipe_response.specs.FrameBytes.{EndValue, frames_bytes, end_bytes, response_magic, response_bytes}
+use Rattle.rcell_pipe_frames.specs.Frames.{OutputFrame, GivesFrames}
+use Rattle.rcell_pipe_frames.specs.FrameBytes.{EndValue, frames_bytes, end_bytes, response_magic, response_bytes}
 use Rattle.rcell_pipe_response.specs.declared.frame_run.Sending.{Sending}
 use Rattle.rcell_pipe_response.specs.declared.frame_run.Sending.TheVariants.{Flushed, Unflushed, Refused}
 use Rattle.rcell_pipe_response.specs.RunEnds.{end_status_after, script_end, IsPipeAccepted, GivesFirst, IsResponse}

@@ -10,8 +10,8 @@ use Rattle.cell_core_devices.proofs.BlockLemmas.{appends_none, appends_then}
 use Rattle.cell_core.specs.Shelf.{ShelfValue}
 use Rattle.rcell_script.specs.declared.statement.Statement.{Statement}
 use Rattle.rcell.specs.After.{IsShelfAfter}
-use Rattle.rcell_pipe_response.specs.Frames.{OutputFrame, command_frames, GivesFrames}
-use Rattle.rcell_pipe_response.specs.FrameBytes.{frame_bytes, frames_bytes}
+use Rattle.rcell_pipe_frames.specs.Frames.{OutputFrame, command_frames, GivesFrames}
+use Rattle.rcell_pipe_frames.specs.FrameBytes.{frame_bytes, frames_bytes}
 use Rattle.rcell_pipe_response.specs.parts.FrameExecution.{HasGiven, StopsBefore, StopsWithin}
 
 -- the frames of two parts are the first part's frames, then the second part's frames

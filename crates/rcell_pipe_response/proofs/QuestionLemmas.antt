@@ -4,7 +4,6 @@ use Rattle.std.proofs.Common.{take, drop, get_or, Option}
 use Rattle.std.proofs.Common.{Some, None, refl, ap, sym, ◌∙◌, subst, append_assoc, append-nil, add-one, arith}
 use Rattle.std.proofs.Common.{take-append-drop}
 use Rattle.std.proofs.Math.Seq.{drop-cons}
-use Rattle.std.specs.Option.{is_some, option_map}
 use Rattle.std.proofs.lemmas.List.{take_more, length-map, length-take-le, map-append}
 use Rattle.std.proofs.lemmas.List.Concat.{flat_map-append}
 use Rattle.cell_core_devices.specs.Device.{Faults}
@@ -18,8 +17,8 @@ use Rattle.rcell_pipe_request.specs.Questions.{QuestionValue, question_value, qu
 use Rattle.rcell_pipe_response.specs.declared.frame_run.RunForm.{RunForm}
 use Rattle.rcell_pipe_response.specs.declared.question_error.QuestionKind.{QuestionKind}
 use Rattle.rcell_pipe_response.specs.declared.question_error.QuestionError.{QuestionError}
-use Rattle.rcell_pipe_response.specs.Frames.{OutputFrame, GivesFrames}
-use Rattle.rcell_pipe_response.specs.FrameBytes.{frame_bytes, frames_bytes, response_magic}
+use Rattle.rcell_pipe_frames.specs.Frames.{OutputFrame, GivesFrames}
+use Rattle.rcell_pipe_frames.specs.FrameBytes.{frame_bytes, frames_bytes, response_magic}
 use Rattle.rcell_pipe_response.specs.QuestionFrames.{all_names, question_fault, fault_or, first_fault}
 use Rattle.rcell_pipe_response.specs.QuestionFrames.{IsAnswer, AreAnswers}
 use Rattle.rcell_pipe_response.specs.RunEnds.{GivesAll}
@@ -30,11 +29,6 @@ next_at : (questions : List Question) (i : ℕ) (q : Question) → i < length qu
     → drop i questions ≡ q ∷ drop (i + 1) questions
 next_at questions i q h read =
     rw add-one (drop-cons questions i q h ∙ ap (λ x. x ∷ drop (suc i) questions) (sym read))
-
--- mapping a function over a value does not change whether it exists
-pub some_seen : {A B : Type 0} (f : A → B) (x : Option A) → is_some (option_map f x) ≡ is_some x
-some_seen f None = refl
-some_seen f (Some a) = refl
 
 -- if no first error is reported, neither this question nor a later one has an error
 none_of_both : (number : ℕ) (fault : Option QuestionKind) (others : Option QuestionError)
@@ -79,31 +73,54 @@ pub none_left : (form : RunForm) (names : List (List ℕ)) → first_fault form 
 unfolding first_fault
 none_left form names = refl
 
--- one more question adds one more frame
+-- one more question adds its frames
 answers_more : (first : List QuestionValue) (shelf : ShelfValue) (question : QuestionValue) (place n : ℕ)
-    (frames : List OutputFrame) (frame : OutputFrame) → n ≡ place + length first → AreAnswers shelf place first frames
-    → IsAnswer shelf n question frame → AreAnswers shelf place (first ++ question ∷ []) (frames ++ frame ∷ [])
-answers_more [] shelf question place n frames frame is x answer =
+    (frames more : List OutputFrame) → n ≡ place + length first → AreAnswers shelf place first frames
+    → IsAnswer shelf n question more → AreAnswers shelf place (first ++ question ∷ []) (frames ++ more)
+answers_more [] shelf question place n frames more is x answer =
     let none : n ≡ place + 0 = is in
     let same : n ≡ place = omega (arith, none) in (
-      frame,
-      ([], (subst (λ (k : ℕ). IsAnswer shelf k question frame) same answer, (refl, ap (λ t. t ++ frame ∷ []) x))),
+      more,
+      (
+        [],
+        (
+          subst (λ (k : ℕ). IsAnswer shelf k question more) same answer,
+          (refl, ap (λ t. t ++ more) x ∙ sym (append-nil more)),
+        ),
+      ),
     )
-answers_more (q ∷ qs) shelf question place n frames frame is x answer =
+answers_more (q ∷ qs) shelf question place n frames more is x answer =
     let count : n ≡ place + suc (length qs) = is in
     let next : n ≡ (place + 1) + length qs = omega (arith, count) in (
       x.0,
       (
-        x.1.0 ++ frame ∷ [],
+        x.1.0 ++ more,
         (
           x.1.1.0,
           (
-            answers_more qs shelf question (place + 1) n x.1.0 frame next x.1.1.1.0 answer,
-            ap (λ t. t ++ frame ∷ []) x.1.1.1.1,
+            answers_more qs shelf question (place + 1) n x.1.0 more next x.1.1.1.0 answer,
+            ap (λ t. t ++ more) x.1.1.1.1 ∙ append_assoc x.0 x.1.0 more,
           ),
         ),
       ),
     )
+
+module _ {S : Type 0} {taken : S → Option (List ℕ)} {faults : S → Faults} where
+  -- a frame alone
+  pub one_frame : {old now : S} {block new : BlockValue} (frame : OutputFrame)
+      → Appends taken faults old block (frame_bytes frame) now new
+      → Appends taken faults old block (frames_bytes (frame ∷ [])) now new
+  one_frame {old} {now} {block} {new} frame =
+      subst (λ (bytes : List ℕ). Appends taken faults old block bytes now new) (sym (append-nil (frame_bytes frame)))
+
+  -- frames, and then other frames
+  pub frames_then : {old mid now : S} {block middle new : BlockValue} (first second : List OutputFrame)
+      → Appends taken faults old block (frames_bytes first) mid middle
+      → Appends taken faults mid middle (frames_bytes second) now new
+      → Appends taken faults old block (frames_bytes (first ++ second)) now new
+  frames_then {old} {mid} {now} {block} {middle} {new} first second one two =
+      subst (λ (bytes : List ℕ). Appends taken faults old block bytes now new)
+      (sym (flat_map-append frame_bytes first second)) (appends_then one two)
 
 -- before any question, there are no frames of questions
 pub answered_none : {S : Type 0} {taken : S → Option (List ℕ)} {faults : S → Faults} (shelf : ShelfValue) (now : S)
@@ -113,14 +130,14 @@ answered_none shelf now block = record { frames = []; answers = refl; appends = 
 module _ {S : Type 0} {taken : S → Option (List ℕ)} {faults : S → Faults} {shelf : ShelfValue}
     (questions : List Question) (i : ℕ) {old was : S} {block middle : BlockValue}
     (given : HasAnswered taken faults shelf (question_values (take i questions)) old block was middle) where
-  -- the question at place i has its frame
+  -- the question at place i has its frames
   pub answered_more : (q : Question) → i < length questions → q ≡ get_or questions i q
       → {mid now : S} {between new : BlockValue}
       → HasAnswer taken faults shelf i (question_value q) was middle mid between
       → Appends taken faults mid between [] now new
       → HasAnswered taken faults shelf (question_values (take (i + 1) questions)) old block now new
   answered_more q h read {mid} {now} {between} {new} answer emptied =
-      let frame = answer.frame in
+      let more = answer.frames in
       let short : length (take i questions) ≡ i = length-take-le i questions (omega (arith, h)) in
       let long : length (question_values (take i questions)) ≡ i =
       length-map (take i questions) question_value ∙ short in
@@ -128,15 +145,15 @@ module _ {S : Type 0} {taken : S → Option (List ℕ)} {faults : S → Faults} 
       let list : all ≡ question_values (take (i + 1) questions) =
       sym (map-append question_value (take i questions) (q ∷ []))
       ∙ ap question_values (ap (λ x. take i questions ++ x ∷ []) read ∙ sym (take_more questions i q h)) in
-      let more : AreAnswers shelf 0 all (given.frames ++ frame ∷ []) =
-      answers_more (question_values (take i questions)) shelf (question_value q) 0 i given.frames frame
+      let answers : AreAnswers shelf 0 all (given.frames ++ more) =
+      answers_more (question_values (take i questions)) shelf (question_value q) 0 i given.frames more
       (omega (arith, long)) given.answers answer.answer in
       record {
-        frames = given.frames ++ frame ∷ [];
-        answers = subst (λ (l : List QuestionValue). AreAnswers shelf 0 l (given.frames ++ frame ∷ [])) list more;
-        appends = subst (λ (bytes : List ℕ). Appends taken faults old block bytes now new)
-            (sym (flat_map-append frame_bytes given.frames (frame ∷ [])))
-            (appends_then given.appends (appends_then answer.appends emptied));
+        frames = given.frames ++ more;
+        answers = subst (λ (l : List QuestionValue). AreAnswers shelf 0 l (given.frames ++ more)) list answers;
+        appends = frames_then given.frames more given.appends
+            (subst (λ (bytes : List ℕ). Appends taken faults was middle bytes now new) (append-nil (frames_bytes more))
+            (appends_then answer.appends emptied));
       }
 
   -- the frames of questions end before the question at place i

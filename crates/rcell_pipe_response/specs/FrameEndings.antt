@@ -8,7 +8,7 @@ use Rattle.rcell_pipe_response.specs.declared.end.PipeError.TheVariants as error
 use Rattle.rcell_pipe_response.specs.declared.frame_run.PipeOutcome.{PipeOutcome}
 use Rattle.rcell_pipe_response.specs.declared.frame_run.Sending.{Sending}
 use Rattle.rcell_pipe_response.specs.declared.frame_run.Sending.TheVariants.{Flushed, Unflushed, Refused}
-use Rattle.rcell_pipe_response.specs.FrameBytes.{EndValue, response_bytes}
+use Rattle.rcell_pipe_frames.specs.FrameBytes.{EndValue, response_bytes}
 use Rattle.rcell_pipe_response.specs.RunEnds.{end_status_after, script_end, memory_end, IsCut}
 
 -- the error of a run, given the reported error and the state of the sink

@@ -1,8 +1,5 @@
--- The frames of a response, their bytes, and how a run of `rcell-pipe` ends.
-pub mod Frames
-pub mod FrameBytes
+-- The frames of questions, and how a run of `rcell-pipe` ends.
 pub mod QuestionFrames
 pub mod RunEnds
 pub mod FrameEndings
-pub mod FrameLaw
 pub mod parts

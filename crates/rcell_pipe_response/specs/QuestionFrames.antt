@@ -1,5 +1,5 @@
 -- The frames for questions about the maps at the end of a script, and the questions that are rejected (profile).
-use Rattle.std.specs.Prelude.{ℕ, ◌+◌, ◌≡◌, Bool, false, ◌||◌, List, [], ◌∷◌, length, slice_get}
+use Rattle.std.specs.Prelude.{ℕ, ◌+◌, ◌≡◌, Bool, true, false, ◌||◌, List, [], ◌∷◌, ◌++◌, length, slice_get}
 use Rattle.std.specs.Prelude.{Option, Some, None, if◌then◌else◌}
 use Rattle.std.specs.Option.{is_none}
 use Rattle.cell_core_values.specs.Name.{place_of}
@@ -17,7 +17,7 @@ use Rattle.rcell_pipe_response.specs.declared.frame_run.RunForm.TheVariants.{Fra
 use Rattle.rcell_pipe_response.specs.declared.question_error.QuestionKind.{QuestionKind}
 use Rattle.rcell_pipe_response.specs.declared.question_error.QuestionKind.TheVariants.{UnknownMap, OfText}
 use Rattle.rcell_pipe_response.specs.declared.question_error.QuestionError.{QuestionError}
-use Rattle.rcell_pipe_response.specs.Frames.{OutputFrame, Patches}
+use Rattle.rcell_pipe_frames.specs.Frames.{OutputFrame, Patches, PatchNumbers, patch_numbers_frame}
 
 -- the names of all maps: the given maps and the maps that statements make
 abbrev pub all_names : List (List ℕ) → List Statement → List (List ℕ)
@@ -59,8 +59,15 @@ AreZonesOf shelf numbers patches (Some name) None = ⊥
 AreZonesOf shelf numbers patches (Some name) (Some main) =
     (zones : Grid) × (IsMapNamed shelf name zones × (AreMainZones numbers zones main × (length main ≡ patches)))
 
--- the frame for the question at index `place`: the measures of the patches of the named map, and their zones
-pub record IsAnswer (shelf : ShelfValue) (place : ℕ) (question : QuestionValue) (frame : OutputFrame) : Type 0 where
+-- the frame of the patches' numbers, if it is wanted
+abbrev pub numbers_if : Bool → ℕ → Grid → List OutputFrame
+numbers_if false place numbers = []
+numbers_if true place numbers = PatchNumbers (patch_numbers_frame place numbers) ∷ []
+
+-- the frames for the question at index `place`: the numbers of the patches of the named map, if they are wanted, and
+-- the measures of these patches, with their zones
+pub record IsAnswer (shelf : ShelfValue) (place : ℕ) (question : QuestionValue)
+    (frames : List OutputFrame) : Type 0 where
   pub map : Grid
   pub named : IsMapNamed shelf question.map map
   pub numbers : Grid
@@ -69,17 +76,17 @@ pub record IsAnswer (shelf : ShelfValue) (place : ℕ) (question : QuestionValue
   pub measured : AreMeasured map numbers question.depth patches
   pub zones : Option (List CellValue)
   pub zoned : AreZonesOf shelf numbers (length patches) question.zones zones
-  pub is : frame ≡ Patches (record {
+  pub is : frames ≡ numbers_if question.with_numbers place numbers ++ Patches (record {
     question = place;
     joining = question.joining;
     depth = question.depth;
     patches = patches;
     zones = zones;
-  })
+  }) ∷ []
 
--- a frame for each question, in order; the first has the index `place`
+-- the frames for each question, in order; the first has the index `place`
 abbrev pub AreAnswers : ShelfValue → ℕ → List QuestionValue → List OutputFrame → Type 0
 AreAnswers shelf place [] frames = frames ≡ []
 AreAnswers shelf place (question ∷ questions) frames =
-    (frame : OutputFrame) × ((others : List OutputFrame) × (IsAnswer shelf place question frame
-    × (AreAnswers shelf (place + 1) questions others × (frames ≡ frame ∷ others))))
+    (first : List OutputFrame) × ((others : List OutputFrame) × (IsAnswer shelf place question first
+    × (AreAnswers shelf (place + 1) questions others × (frames ≡ first ++ others))))

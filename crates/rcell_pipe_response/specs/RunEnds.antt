@@ -22,8 +22,8 @@ use Rattle.rcell_pipe_response.specs.declared.end.PipeError.{PipeError}
 use Rattle.rcell_pipe_response.specs.declared.end.PipeError.TheVariants as errors
 use Rattle.rcell_pipe_response.specs.declared.frame_run.RunForm.{RunForm}
 use Rattle.rcell_pipe_response.specs.declared.frame_run.RunForm.TheVariants.{Frames, Text}
-use Rattle.rcell_pipe_response.specs.Frames.{OutputFrame, GivesFrames}
-use Rattle.rcell_pipe_response.specs.FrameBytes.{EndValue, response_magic, frames_bytes, response_bytes}
+use Rattle.rcell_pipe_frames.specs.Frames.{OutputFrame, GivesFrames}
+use Rattle.rcell_pipe_frames.specs.FrameBytes.{EndValue, response_magic, frames_bytes, response_bytes}
 use Rattle.rcell_pipe_response.specs.declared.question_error.QuestionKind.{QuestionKind}
 use Rattle.rcell_pipe_response.specs.declared.question_error.QuestionKind.TheVariants as question_kinds
 use Rattle.rcell_pipe_response.specs.declared.question_error.QuestionError.{QuestionError}

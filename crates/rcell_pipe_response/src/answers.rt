@@ -3,12 +3,13 @@
 ghost use Rattle.std.specs.Prelude.{◌≡◌, false, length, None, OnOk, OnErr, IfErr, IfOk, IfSome};
 ghost use Rattle.std.specs.Option.{is_none, option_map};
 ghost use Rattle.cell_core_values.specs.Name.{place_of};
+ghost use Rattle.cell_core_devices.specs.Blocks.{Appends};
+ghost use Rattle.rcell_pipe_frames.specs.FrameBytes.{frames_bytes};
 ghost use Rattle.rcell_pipe_request.specs.Questions.{question_value, question_values};
 ghost use Rattle.rcell_pipe_response.specs.declared.frame_run.RunForm.TheVariants.{Frames};
-ghost use Rattle.rcell_pipe_response.specs.QuestionFrames.{AreZonesOf, IsMapNamed, has_unknown_zones, question_fault, first_fault};
+ghost use Rattle.rcell_pipe_response.specs.QuestionFrames.{AreZonesOf, IsMapNamed, has_unknown_zones, numbers_if, question_fault, first_fault};
 ghost use Rattle.rcell_pipe_response.specs.parts.Answering.{HasAnswer, HasAnswered, StopsAnswers};
 
-use crate::patches_frame::push_patches;
 use cell_cats_areas::clump::clump_with;
 use cell_core::block::OutputBlock;
 use cell_core::map::CellMap;
@@ -18,6 +19,8 @@ use cell_core::shelf::Shelf;
 use cell_core::sink::Sink;
 use cell_patches::measuring::patches_of;
 use cell_patches::zones::zones_of;
+use rcell_pipe_frames::numbers_frame::push_patch_numbers;
+use rcell_pipe_frames::patches_frame::push_patches;
 use rcell_pipe_request::question::Question;
 use std::alloc::Global;
 
@@ -65,7 +68,26 @@ fn zones_named(
     }
 }
 
-// Writes the frame for the question at index `place`. Allocates all memory before it writes the first byte.
+// Writes the frame of the patches' numbers if they are wanted. Allocates all memory before it writes the first byte.
+fn push_numbers_if<W: Sink>(
+    alloc: Global,
+    with_numbers: bool,
+    place: u64,
+    numbers: &CellMap,
+    block: &mut OutputBlock,
+    out: &mut W,
+) -> Result<(), Memory>
+    ensures ok { OnOk result (Appends W.taken W.faults out.old block.old
+        (frames_bytes (numbers_if with_numbers place numbers.now)) out.new block.new) }
+    ensures err { OnErr result ((out.new ≡ out.old) × (block.new ≡ block.old)) }
+{
+    if with_numbers {
+        return push_patch_numbers(alloc, out, block, place, numbers);
+    }
+    Ok(())
+}
+
+// Writes the frames for the question at index `place`. Allocates all memory before it writes the first byte.
 fn answer<W: Sink>(
     alloc: Global,
     shelf: &Shelf,
@@ -79,11 +101,18 @@ fn answer<W: Sink>(
         (question_value question.now) out.old block.old out.new block.new) }
     ensures err { OnErr result ((out.new ≡ out.old) × (block.new ≡ block.old)) }
 {
-    let Question { joining, depth, .. } = *question;
+    let Question {
+        joining,
+        depth,
+        with_numbers,
+        ..
+    } = *question;
     let map = map_named(shelf, &question.map);
     let numbers = clump_with(alloc, map, joining)?;
     let patches = patches_of(alloc, map, &numbers, joining, depth)?;
     let zones = zones_named(alloc, shelf, &question.zones, &numbers, patches.len())?;
+    // The numbers come first: only their frame needs memory, so a question that runs out of it has written nothing.
+    push_numbers_if(alloc, with_numbers, place, &numbers, block, out)?;
     push_patches(out, block, place, joining, depth, &patches, &zones);
     Ok(())
 }

@@ -1,11 +1,16 @@
 //! The ways in which a run ends.
 
 ghost use Rattle.std.specs.Prelude.{◌≡◌};
+ghost use Rattle.cell_core_devices.specs.Blocks.{Appends};
+ghost use Rattle.rcell_pipe_frames.specs.FrameBytes.{end_bytes};
 ghost use Rattle.rcell_pipe_response.specs.RunEnds.{kind_text, request_status, script_column, done_end, request_end, script_end, question_text, question_end, memory_end, error_status, end_status_after, end_value};
 ghost use Rattle.rcell_pipe_response.specs.parts.ScriptKinds.{is_memory};
 ghost use Rattle.rcell_script_commands.specs.ScriptTexts.{kind_text as script_text};
 
 use crate::question_error::{QuestionError, QuestionKind};
+use cell_core::block::OutputBlock;
+use cell_core::sink::Sink;
+use rcell_pipe_frames::bytes::{push_number, push_text};
 use rcell_pipe_request::error::{ErrorKind, RequestError};
 use rcell_script::script_fault::{ScriptFault, ScriptKind};
 
@@ -198,4 +203,18 @@ pub(crate) fn end_status_after(error: Option<PipeError>) -> u8
         Some(error) => error_status(error),
         None => 0,
     }
+}
+
+/// Writes the last frame.
+pub(crate) fn push_end<W: Sink>(out: &mut W, block: &mut OutputBlock, end: &End<'_>)
+    ensures { Appends W.taken W.faults out.old block.old
+        (end_bytes (end_value end.now)) out.new block.new }
+{
+    block.push(out, b"DONE");
+    push_number(out, block, end.status as u64);
+    push_number(out, block, end.source as u64);
+    push_number(out, block, end.maps as u64);
+    push_number(out, block, end.line);
+    push_number(out, block, end.column as u64);
+    push_text(out, block, end.text);
 }

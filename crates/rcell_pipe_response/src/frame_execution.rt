@@ -5,19 +5,19 @@ ghost use Rattle.cell_core_devices.specs.Blocks.{Appends};
 ghost use Rattle.rcell_script_commands.specs.FittingCommands.{FitsCommand};
 ghost use Rattle.rcell_script.specs.FittingScripts.{Fits};
 ghost use Rattle.rcell.specs.After.{IsShelfAfter};
-ghost use Rattle.rcell_pipe_response.specs.Frames.{command_frames, stats_frame};
-ghost use Rattle.rcell_pipe_response.specs.FrameBytes.{frame_bytes, frames_bytes};
+ghost use Rattle.rcell_pipe_frames.specs.Frames.{command_frames, stats_frame};
+ghost use Rattle.rcell_pipe_frames.specs.FrameBytes.{frame_bytes, frames_bytes};
 ghost use Rattle.rcell_pipe_response.specs.parts.FrameExecution.{HasGiven, StopsFrames};
 
-use crate::cells_frame::push_cells_frame;
-use crate::frames::push_grid;
-use crate::table_frame::push_table;
 use cell_core::block::OutputBlock;
 use cell_core::memory::Memory;
 use cell_core::shelf::Shelf;
 use cell_core::sink::Sink;
 use cell_stats::tallying::tally;
 use rcell::making::{make_classes, make_numbers, make_values};
+use rcell_pipe_frames::cells_frame::push_cells_frame;
+use rcell_pipe_frames::map_frame::push_grid;
+use rcell_pipe_frames::table_frame::push_table;
 use rcell_script::statement::{Command, Statement, StatsOptions};
 use std::alloc::Global;
 

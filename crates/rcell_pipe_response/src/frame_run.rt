@@ -13,8 +13,8 @@ ghost use Rattle.rcell_pipe_request.specs.declared.error.RequestError.{RequestEr
 ghost use Rattle.rcell_pipe_request.specs.Requests.{RunRequestValue, run_request_value};
 ghost use Rattle.rcell_pipe_request.specs.Questions.{QuestionValue, question_values};
 ghost use Rattle.rcell_pipe_response.specs.declared.frame_run.RunForm.TheVariants.{Frames, Text};
-ghost use Rattle.rcell_pipe_response.specs.Frames.{OutputFrame, GivesFrames};
-ghost use Rattle.rcell_pipe_response.specs.FrameBytes.{response_magic, frames_bytes, response_bytes, end_bytes};
+ghost use Rattle.rcell_pipe_frames.specs.Frames.{OutputFrame, GivesFrames};
+ghost use Rattle.rcell_pipe_frames.specs.FrameBytes.{response_magic, frames_bytes, response_bytes, end_bytes};
 ghost use Rattle.rcell_pipe_response.specs.QuestionFrames.{all_names, first_fault};
 ghost use Rattle.rcell_pipe_response.specs.RunEnds.{end_status_after, IsPipeAccepted, IsResponse, end_value};
 ghost use Rattle.rcell_pipe_response.specs.FrameEndings.{error_after, Finished, Rejected, EndsAs};
@@ -22,10 +22,10 @@ ghost use Rattle.rcell_pipe_response.specs.parts.Flushed.{IsFlushed};
 
 use crate::answers::{AnswerStop, answer_all};
 use crate::end::{
-    End, PipeError, done_end, end_status_after, is_memory, memory_end, question_end, script_end,
+    End, PipeError, done_end, end_status_after, is_memory, memory_end, push_end, question_end,
+    script_end,
 };
 use crate::frame_execution::{PipeStop, execute};
-use crate::frames::push_end;
 use crate::made_names::all_names;
 use crate::question_error::first_fault;
 use cell_core::block::OutputBlock;

@@ -27,7 +27,7 @@ use Rattle.rcell_pipe_request.specs.Requests.{RunRequestValue, stop_at, run_at}
 use Rattle.rcell_pipe_response.specs.declared.end.PipeError.{PipeError}
 use Rattle.rcell_pipe_response.specs.declared.end.PipeError.TheVariants as errors
 use Rattle.rcell_pipe_response.specs.declared.frame_run.PipeOutcome.{PipeOutcome}
-use Rattle.rcell_pipe_response.specs.FrameBytes.{EndValue, response_magic, response_bytes, end_bytes}
+use Rattle.rcell_pipe_frames.specs.FrameBytes.{EndValue, response_magic, response_bytes, end_bytes}
 use Rattle.rcell_pipe_response.specs.RunEnds.{end_status_after, done_end, script_end, memory_end, IsResponse}
 use Rattle.rcell_pipe_response.specs.RunEnds.{IsPipeDone, IsTaken, IsOnlyEnd, GivesAll}
 use Rattle.rcell_pipe_response.specs.FrameEndings.{Finished, IsRejection, EndsAs}

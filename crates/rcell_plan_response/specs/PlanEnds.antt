@@ -8,7 +8,7 @@ use Rattle.rcell_script_commands.specs.declared.script_fault.ScriptFault.{Script
 use Rattle.rcell_pipe_request.specs.declared.error.RequestError.{RequestError}
 use Rattle.rcell_pipe_response.specs.declared.end.PipeError.{PipeError}
 use Rattle.rcell_pipe_response.specs.declared.end.PipeError.TheVariants as errors
-use Rattle.rcell_pipe_response.specs.FrameBytes.{response_bytes}
+use Rattle.rcell_pipe_frames.specs.FrameBytes.{response_bytes}
 use Rattle.rcell_pipe_response.specs.RunEnds.{request_end, script_end, memory_end}
 use Rattle.rcell_plan_response.specs.PlanRequests.{PlanRequestValue}
 use Rattle.rcell_plan_response.specs.PlanFrames.{plan_response}

@@ -3,7 +3,7 @@ use Rattle.std.specs.Prelude.{ℕ, ℤ, List, [], ◌∷◌, ◌++◌, length, m
 use Rattle.std.specs.Int.{w32, to_le_bytes, cast_unsigned}
 use Rattle.std.specs.List.{zip}
 use Rattle.rcell_script.specs.declared.statement.Statement.{Statement}
-use Rattle.rcell_pipe_response.specs.FrameBytes.{number_bytes, text_bytes, flag, response_magic, end_bytes}
+use Rattle.rcell_pipe_frames.specs.FrameBytes.{number_bytes, text_bytes, flag, response_magic, end_bytes}
 use Rattle.rcell_pipe_response.specs.QuestionFrames.{all_names}
 use Rattle.rcell_pipe_response.specs.RunEnds.{done_end}
 use Rattle.rcell_plan.specs.declared.needs.Margin.{Margin}

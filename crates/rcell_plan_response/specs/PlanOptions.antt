@@ -6,7 +6,7 @@ use Rattle.cell_stats_combinations.specs.declared.skip.Skip.TheVariants.{Nothing
 use Rattle.rcell_script_commands.specs.declared.command.Command.{Command}
 use Rattle.rcell_script_commands.specs.declared.command.Command.TheVariants.{Mapcalc, Reclass, Clump, Stats, OutAscii}
 use Rattle.rcell_script_commands.specs.declared.command.StatsOptions.{StatsOptions}
-use Rattle.rcell_pipe_response.specs.FrameBytes.{number_bytes, text_bytes, wide_bytes, flag}
+use Rattle.rcell_pipe_frames.specs.FrameBytes.{number_bytes, text_bytes, wide_bytes, flag}
 use Rattle.rcell_plan_response.specs.MapNames.{name_of_place}
 
 -- 8 if combinations that contain a null are left out; 16 if only combinations of nulls are left out

@@ -19,8 +19,8 @@ use Rattle.rcell_pipe_request.specs.Requests.{RunRequestValue, run_at}
 use Rattle.rcell_pipe_response.specs.declared.end.PipeError.{PipeError}
 use Rattle.rcell_pipe_response.specs.declared.end.PipeError.TheVariants as errors
 use Rattle.rcell_pipe_response.specs.declared.frame_run.PipeOutcome.{PipeOutcome}
-use Rattle.rcell_pipe_response.specs.Frames.{OutputFrame}
-use Rattle.rcell_pipe_response.specs.FrameBytes.{response_bytes}
+use Rattle.rcell_pipe_frames.specs.Frames.{OutputFrame}
+use Rattle.rcell_pipe_frames.specs.FrameBytes.{response_bytes}
 use Rattle.rcell_pipe_response.specs.RunEnds.{done_end, IsResponse, IsPipeAccepted, GivesAll}
 use Rattle.rcell_plan_response.specs.declared.responding.RequestForm.{RequestForm}
 use Rattle.rcell_plan_response.specs.declared.responding.RequestForm.TheVariants.{Run, Plan}

@@ -11,7 +11,7 @@ use crate::position_calls::PositionCall;
 use cell_core::block::OutputBlock;
 use cell_core::name::Names;
 use cell_core::sink::Sink;
-use rcell_pipe_response::bytes::{flag, push_number, push_text};
+use rcell_pipe_frames::bytes::{flag, push_number, push_text};
 use rcell_plan::needs::{Margin, Need};
 use rcell_plan::planning::Plan;
 use rcell_script::statement::Statement;

@@ -2,7 +2,7 @@
 
 ghost use Rattle.std.specs.Prelude.{◌≡◌, ◌≤◌, [], ◌∷◌, flat_map};
 ghost use Rattle.cell_core_devices.specs.Blocks.{Appends};
-ghost use Rattle.rcell_pipe_response.specs.FrameBytes.{text_bytes};
+ghost use Rattle.rcell_pipe_frames.specs.FrameBytes.{text_bytes};
 ghost use Rattle.rcell_plan_response.specs.MapNames.{name_of_place};
 ghost use Rattle.rcell_plan_response.specs.PlanOptions.{skip_flag, options_flags, command_options, command_inputs, command_after, after_combination, inputs_bytes, after_list_bytes, options_bytes};
 
@@ -12,7 +12,7 @@ use cell_core::name::Names;
 use cell_core::sink::Sink;
 use cell_stats_combinations::combination::Combo;
 use cell_stats_combinations::skip::Skip;
-use rcell_pipe_response::bytes::{flag, push_cells, push_number, push_text};
+use rcell_pipe_frames::bytes::{flag, push_cells, push_number, push_text};
 use rcell_script::statement::{Command, StatsOptions};
 
 /// Returns the name of the map at index `place`, or an empty name if there is none.

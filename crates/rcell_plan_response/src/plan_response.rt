@@ -3,7 +3,7 @@
 ghost use Rattle.std.specs.Prelude.{◌≡◌, ◌++◌, length, map, None, Ok, Result};
 ghost use Rattle.rcell_script.specs.FittingScripts.{Fits};
 ghost use Rattle.rcell_script.specs.Scripts.{IsScript};
-ghost use Rattle.rcell_pipe_response.specs.FrameBytes.{response_magic, end_bytes};
+ghost use Rattle.rcell_pipe_frames.specs.FrameBytes.{response_magic, end_bytes};
 ghost use Rattle.rcell_pipe_response.specs.RunEnds.{done_end};
 ghost use Rattle.rcell_pipe_response.specs.FrameEndings.{Finished, EndsAs};
 ghost use Rattle.rcell_pipe_request.specs.declared.error.RequestError.{RequestError};

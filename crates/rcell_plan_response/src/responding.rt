@@ -8,7 +8,7 @@ ghost use Rattle.rcell_script.specs.declared.statement.Statement.{Statement};
 ghost use Rattle.rcell_pipe_request.specs.Feeds.{ReadsField};
 ghost use Rattle.rcell_pipe_request.specs.Supposed.{may_hold};
 ghost use Rattle.rcell_pipe_request.specs.Questions.{QuestionValue};
-ghost use Rattle.rcell_pipe_response.specs.FrameBytes.{response_bytes};
+ghost use Rattle.rcell_pipe_frames.specs.FrameBytes.{response_bytes};
 ghost use Rattle.rcell_pipe_response.specs.RunEnds.{end_status_after, IsResponse, HasResponded, HasUsed, IsOnlyEnd};
 ghost use Rattle.rcell_pipe_response.specs.FrameEndings.{Finished, EndsAs};
 ghost use Rattle.rcell_plan_response.specs.PlanEnds.{IsPlanResponse};

@@ -6,8 +6,8 @@ use Rattle.rcell_pipe_request.specs.Requests.{RunRequestValue}
 use Rattle.rcell_pipe_request.specs.declared.error.RequestError.{RequestError}
 use Rattle.rcell_pipe_response.specs.declared.end.PipeError.TheVariants as errors
 use Rattle.rcell_pipe_response.specs.declared.frame_run.RunForm.TheVariants.{Frames}
-use Rattle.rcell_pipe_response.specs.FrameBytes.{response_bytes}
-use Rattle.rcell_pipe_response.specs.Frames.{OutputFrame}
+use Rattle.rcell_pipe_frames.specs.FrameBytes.{response_bytes}
+use Rattle.rcell_pipe_frames.specs.Frames.{OutputFrame}
 use Rattle.rcell_pipe_response.specs.QuestionFrames.{all_names, first_fault}
 use Rattle.rcell_pipe_response.specs.RunEnds.{GivesAll, done_end}
 use Rattle.rcell_plan_response.specs.Responses.{IsResponseTo, form_at}

@@ -3,8 +3,8 @@ use Rattle.std.specs.Prelude.{ℕ, ◌≡◌, List, [], ◌∷◌, ◌++◌, cod
 use Rattle.cell_core.specs.Shelf.{ShelfValue}
 use Rattle.rcell_script.specs.declared.statement.Statement.{Statement}
 use Rattle.rcell_pipe_request.specs.Questions.{QuestionValue}
-use Rattle.rcell_pipe_response.specs.Frames.{OutputFrame}
-use Rattle.rcell_pipe_response.specs.FrameBytes.{response_bytes}
+use Rattle.rcell_pipe_frames.specs.Frames.{OutputFrame}
+use Rattle.rcell_pipe_frames.specs.FrameBytes.{response_bytes}
 use Rattle.rcell_pipe_response.specs.RunEnds.{done_end, GivesAll}
 use Rattle.rcell_plan_response.specs.Responses.{AsksForFrames}
 use Rattle.rcell_pipe_law.specs.SentExamples.{docs_request}

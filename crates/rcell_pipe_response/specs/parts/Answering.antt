@@ -6,16 +6,16 @@ use Rattle.cell_core.specs.Shelf.{ShelfValue}
 use Rattle.rcell_pipe_request.specs.Questions.{QuestionValue}
 use Rattle.rcell_pipe_response.specs.declared.answers.AnswerStop.{AnswerStop}
 use Rattle.rcell_pipe_response.specs.declared.answers.AnswerStop.TheVariants as stops
-use Rattle.rcell_pipe_response.specs.Frames.{OutputFrame}
-use Rattle.rcell_pipe_response.specs.FrameBytes.{frame_bytes, frames_bytes}
+use Rattle.rcell_pipe_frames.specs.Frames.{OutputFrame}
+use Rattle.rcell_pipe_frames.specs.FrameBytes.{frames_bytes}
 use Rattle.rcell_pipe_response.specs.QuestionFrames.{IsAnswer, AreAnswers}
 
--- the frame for a question was appended
+-- the frames for a question were appended
 pub record HasAnswer {S : Type 0} (taken : S → Option (List ℕ)) (faults : S → Faults) (shelf : ShelfValue) (place : ℕ)
     (question : QuestionValue) (old : S) (block : BlockValue) (now : S) (new : BlockValue) : Type 0 where
-  pub frame : OutputFrame
-  pub answer : IsAnswer shelf place question frame
-  pub appends : Appends taken faults old block (frame_bytes frame) now new
+  pub frames : List OutputFrame
+  pub answer : IsAnswer shelf place question frames
+  pub appends : Appends taken faults old block (frames_bytes frames) now new
 
 -- the frames for all questions were appended
 pub record HasAnswered {S : Type 0} (taken : S → Option (List ℕ)) (faults : S → Faults) (shelf : ShelfValue)

@@ -6,8 +6,8 @@ use Rattle.cell_core.specs.Shelf.{ShelfValue}
 use Rattle.rcell_script.specs.declared.statement.Statement.{Statement}
 use Rattle.rcell_pipe_response.specs.declared.frame_execution.PipeStop.{PipeStop}
 use Rattle.rcell_pipe_response.specs.declared.frame_execution.PipeStop.TheVariants as stops
-use Rattle.rcell_pipe_response.specs.Frames.{OutputFrame, GivesFrames}
-use Rattle.rcell_pipe_response.specs.FrameBytes.{frames_bytes}
+use Rattle.rcell_pipe_frames.specs.Frames.{OutputFrame, GivesFrames}
+use Rattle.rcell_pipe_frames.specs.FrameBytes.{frames_bytes}
 
 -- the frames of the statements were appended, and the statements left the shelf `after`
 pub record HasGiven {S : Type 0} (taken : S → Option (List ℕ)) (faults : S → Faults) (shelf : ShelfValue) (first : List Statement) (old : S) (block : BlockValue) (now : S) (new : BlockValue) (after : ShelfValue) : Type 0 where

@@ -3,7 +3,7 @@ use Rattle.rcell_pipe_request.specs.declared.error.RequestStop.{RequestStop}
 use Rattle.rcell_pipe_request.specs.declared.error.RequestStop.TheVariants.{Memory, Error}
 use Rattle.rcell_pipe_response.specs.declared.end.PipeError.{PipeError}
 use Rattle.rcell_pipe_response.specs.declared.end.PipeError.TheVariants as errors
-use Rattle.rcell_pipe_response.specs.FrameBytes.{EndValue}
+use Rattle.rcell_pipe_frames.specs.FrameBytes.{EndValue}
 use Rattle.rcell_pipe_response.specs.RunEnds.{request_end, memory_end}
 
 -- the error for a stop, and the last frame

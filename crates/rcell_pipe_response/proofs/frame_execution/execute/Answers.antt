@@ -3,8 +3,8 @@ use Rattle.cell_core_devices.proofs.BlockLemmas.{appends_then}
 use Rattle.rcell_script.specs.KnownMaps.{known_after}
 use Rattle.rcell.proofs.runs.ExecutionLemmas.{fits_more}
 use Rattle.rcell.proofs.OutputLemmas.{names_after}
-use Rattle.rcell_pipe_response.specs.Frames.{command_frames}
-use Rattle.rcell_pipe_response.specs.FrameBytes.{frames_bytes}
+use Rattle.rcell_pipe_frames.specs.Frames.{command_frames}
+use Rattle.rcell_pipe_frames.specs.FrameBytes.{frames_bytes}
 use Rattle.rcell_pipe_response.proofs.ExecutionLemmas.{given_none, given_more, given_before, given_within}
 use Rattle.rcell_pipe_response.proofs.frame_execution.execute.Goals as goal
 

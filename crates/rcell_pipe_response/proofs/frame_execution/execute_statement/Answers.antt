@@ -6,8 +6,8 @@ use Rattle.cell_core.specs.Shelf.{ShelfValue}
 use Rattle.rcell_script_commands.specs.declared.command.Command.{Command}
 use Rattle.rcell_script_commands.specs.declared.command.Command.TheVariants.{Stats, OutAscii}
 use Rattle.rcell_script_commands.specs.declared.command.StatsOptions.{StatsOptions}
-use Rattle.rcell_pipe_response.specs.Frames.{command_frames, grid_frame, stats_frame}
-use Rattle.rcell_pipe_response.specs.FrameBytes.{frame_bytes, frames_bytes, grid_bytes}
+use Rattle.rcell_pipe_frames.specs.Frames.{command_frames, grid_frame, stats_frame}
+use Rattle.rcell_pipe_frames.specs.FrameBytes.{frame_bytes, frames_bytes, grid_bytes}
 use Rattle.rcell_pipe_response.proofs.frame_execution.execute_statement.Goals as goal
 
 whenever_ok : {T E : Type 0} (r : Result T E) (P : Type 0) → P → OnOk r P

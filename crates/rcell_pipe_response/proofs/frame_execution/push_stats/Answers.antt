@@ -1,4 +1,4 @@
-use Rattle.rcell_pipe_response.proofs.StatsLemmas.{cells-stats, table-stats}
+use Rattle.rcell_pipe_frames.proofs.StatsLemmas.{cells-stats, table-stats}
 use Rattle.rcell_pipe_response.proofs.frame_execution.push_stats.Goals as goal
 
 pub returns-then-options-clause-ok : goal.returns-then-options-clause-ok

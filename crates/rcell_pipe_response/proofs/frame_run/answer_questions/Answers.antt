@@ -2,7 +2,7 @@ use Rattle.std.proofs.Common.{◌++◌, List, [], None, Some, inl, refl, sym, su
 use Rattle.rcell_pipe_request.specs.Questions.{QuestionValue}
 use Rattle.rcell_pipe_response.specs.declared.end.PipeError.TheVariants as errors
 use Rattle.rcell_pipe_response.specs.declared.frame_run.RunForm.TheVariants.{Frames}
-use Rattle.rcell_pipe_response.specs.FrameBytes.{response_magic, frames_bytes}
+use Rattle.rcell_pipe_frames.specs.FrameBytes.{response_magic, frames_bytes}
 use Rattle.rcell_pipe_response.specs.RunEnds.{done_end, memory_end, IsPipeAccepted, IsResponse, end_value}
 use Rattle.rcell_pipe_response.proofs.EndLemmas.{finished_frames, ends_as, cut, end_broken}
 use Rattle.rcell_pipe_response.proofs.QuestionLemmas.{answered_after}

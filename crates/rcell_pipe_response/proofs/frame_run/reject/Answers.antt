@@ -1,4 +1,4 @@
-use Rattle.rcell_pipe_response.specs.FrameBytes.{response_magic}
+use Rattle.rcell_pipe_frames.specs.FrameBytes.{response_magic}
 use Rattle.rcell_pipe_response.proofs.frame_run.reject.Goals as goal
 
 pub returns : goal.returns

@@ -1,7 +1,7 @@
 use Rattle.std.proofs.Common.{◌≡◌, ◌++◌, ◌∷◌, List, [], ℕ, None, Some, inr, refl, sym, subst}
 use Rattle.rcell_pipe_request.specs.Questions.{question_values}
 use Rattle.rcell_pipe_response.specs.declared.end.PipeError.TheVariants as errors
-use Rattle.rcell_pipe_response.specs.FrameBytes.{response_magic, frames_bytes}
+use Rattle.rcell_pipe_frames.specs.FrameBytes.{response_magic, frames_bytes}
 use Rattle.rcell_pipe_response.specs.QuestionFrames.{first_fault}
 use Rattle.rcell_pipe_response.specs.RunEnds.{memory_end, IsPipeAccepted, IsResponse, end_value}
 use Rattle.rcell_pipe_response.specs.declared.frame_run.RunForm.TheVariants.{Frames}

@@ -1,6 +1,6 @@
 use Rattle.std.proofs.Common.{take_all}
 use Rattle.rcell_plan_response.specs.PlanFrames.{call_bytes}
-use Rattle.rcell_pipe_response.proofs.AppendLemmas.{appends_more}
+use Rattle.rcell_pipe_frames.proofs.AppendLemmas.{appends_more}
 use Rattle.rcell_plan_response.proofs.plan_frames.push_each_call.Goals as goal
 
 pub loop-call-preserved : goal.loop-call-preserved

@@ -2,7 +2,7 @@ use Rattle.std.proofs.Common.{take_all}
 use Rattle.rcell_plan_response.specs.PlanFrames.{plan_label_bytes}
 use Rattle.rcell_plan_response.specs.parts.DetailValues.{rule_label_value}
 use Rattle.rcell_plan_response.specs.declared.plan_details.RuleLabel.{RuleLabel}
-use Rattle.rcell_pipe_response.proofs.AppendLemmas.{appends_more}
+use Rattle.rcell_pipe_frames.proofs.AppendLemmas.{appends_more}
 use Rattle.rcell_plan_response.proofs.plan_frames.push_each_label.Goals as goal
 
 pub loop-label-preserved : goal.loop-label-preserved

@@ -2,7 +2,7 @@ use Rattle.std.proofs.Common.{◌<◌, length, map, arith, take_all}
 use Rattle.std.specs.List.{zip}
 use Rattle.rcell_plan_response.specs.PlanFrames.{plan_bytes}
 use Rattle.rcell_plan_response.specs.parts.DetailValues.{details_value}
-use Rattle.rcell_pipe_response.proofs.AppendLemmas.{appends_more}
+use Rattle.rcell_pipe_frames.proofs.AppendLemmas.{appends_more}
 use Rattle.rcell_plan_response.proofs.ZipLemmas.{zipped, length-zipped}
 use Rattle.rcell_plan_response.proofs.plan_frames.push_plans.Goals as goal
 

@@ -1,7 +1,7 @@
 use Rattle.std.proofs.Common.{take_all, ℕ}
-use Rattle.rcell_pipe_response.specs.FrameBytes.{text_bytes}
+use Rattle.rcell_pipe_frames.specs.FrameBytes.{text_bytes}
 use Rattle.rcell_plan_response.specs.MapNames.{name_of_place}
-use Rattle.rcell_pipe_response.proofs.AppendLemmas.{appends_more}
+use Rattle.rcell_pipe_frames.proofs.AppendLemmas.{appends_more}
 use Rattle.rcell_plan_response.proofs.plan_options.push_names.Goals as goal
 
 pub loop-place-preserved : goal.loop-place-preserved

@@ -1,6 +1,6 @@
 use Rattle.std.proofs.Common.{take, flat_map}
 use Rattle.cell_core_devices.specs.Blocks.{Appends}
-use Rattle.rcell_pipe_response.specs.FrameBytes.{text_bytes}
+use Rattle.rcell_pipe_frames.specs.FrameBytes.{text_bytes}
 use Rattle.rcell_plan_response.specs.MapNames.{name_of_place}
 use Rattle.rcell_plan_response.proofs.plan_options.push_names.Given as goal
 

@@ -1,6 +1,6 @@
 use Rattle.std.proofs.Common.{sym, append-nil}
 use Rattle.cell_core_devices.proofs.BlockLemmas.{appends_then}
-use Rattle.rcell_pipe_response.specs.FrameBytes.{text_bytes}
+use Rattle.rcell_pipe_frames.specs.FrameBytes.{text_bytes}
 use Rattle.rcell_plan_response.specs.MapNames.{name_of_place}
 use Rattle.rcell_plan_response.proofs.plan_options.push_place.Goals as goal
 

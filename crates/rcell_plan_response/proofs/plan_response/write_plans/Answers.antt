@@ -1,5 +1,5 @@
 use Rattle.std.proofs.Common.{◌++◌, map}
-use Rattle.rcell_pipe_response.specs.FrameBytes.{response_magic}
+use Rattle.rcell_pipe_frames.specs.FrameBytes.{response_magic}
 use Rattle.rcell_pipe_response.specs.RunEnds.{done_end, end_value}
 use Rattle.rcell_plan_response.specs.PlanFrames.{plans_bytes}
 use Rattle.rcell_plan_response.specs.parts.DetailValues.{details_value}

@@ -4,8 +4,8 @@ use Rattle.cell_stats_combinations.specs.Combinations.{Combination}
 use Rattle.cell_stats_combinations.specs.LeftOut.{kept_cells}
 use Rattle.cell_stats_combinations.specs.declared.skip.Skip.TheVariants.{Nothing}
 use Rattle.rcell.specs.Output.{combinations_of, format_of}
-use Rattle.rcell_pipe_response.specs.FrameBytes.{response_bytes}
-use Rattle.rcell_pipe_response.specs.Frames.{Table, table_frame}
+use Rattle.rcell_pipe_frames.specs.FrameBytes.{response_bytes}
+use Rattle.rcell_pipe_frames.specs.Frames.{Table, table_frame}
 use Rattle.rcell_pipe_response.specs.RunEnds.{done_end}
 use Rattle.rcell_worked.proofs.TableLemmas.{counts_are}
 use Rattle.rcell_worked.proofs.WorkedMaps.{small_shelf, counts}

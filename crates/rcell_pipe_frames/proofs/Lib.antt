@@ -1,0 +1,9 @@
+pub mod LawLemmas
+pub mod CellsLemmas
+pub mod CountLemmas
+pub mod ListingLemmas
+pub mod TableLemmas
+pub mod StatsLemmas
+pub mod SmallLemmas
+pub mod OptionLemmas
+pub mod AppendLemmas

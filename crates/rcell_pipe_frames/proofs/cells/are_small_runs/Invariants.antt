@@ -1,0 +1,11 @@
+use Rattle.std.proofs.Common.{◌≡◌, ◌<◌, All}
+use Rattle.std.specs.List.{list_all}
+use Rattle.cell_core.specs.Runs.{written_out}
+use Rattle.rcell_pipe_frames.specs.FrameBytes.{is_small_cell}
+use Rattle.rcell_pipe_frames.proofs.cells.are_small_runs.Given as goal
+
+abbrev pub invariant-loop-cell : goal.invariant-loop-cell
+invariant-loop-cell l = record {
+  whole : list_all is_small_cell (written_out l.cell-iterator) ≡ list_all is_small_cell (written_out l.fn.runs);
+  lengths : All (λ run. 0 < run.1) l.cell-iterator;
+}
