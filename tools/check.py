@@ -84,6 +84,7 @@ EDITED = (
     "cell_join_numbers",
     "cell_stats_combinations",
     "rcell_command",
+    "rcell_pipe_frames",
     "rcell_pipe_law",
     "rcell_pipe_request",
     "rcell_pipe_response",

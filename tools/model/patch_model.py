@@ -90,6 +90,15 @@ def places_of_patches(cells: Cells, connectivity: int) -> list[set[Place]]:
     return found
 
 
+def patch_numbers(cells: Cells, connectivity: int) -> Cells:
+    """Return the number of each cell's patch, from 1."""
+    found: Cells = [[None] * len(row) for row in cells]
+    for number, places in enumerate(places_of_patches(cells, connectivity), 1):
+        for row, col in places:
+            found[row][col] = number
+    return found
+
+
 def patches(cells: Cells, connectivity: int, depth: int) -> list[Patch]:
     """Return the measures of the patches of a map."""
     return [measured(cells, places, depth) for places in places_of_patches(cells, connectivity)]

@@ -53,7 +53,7 @@ class Raster:
 
 @dataclass(frozen=True)
 class Question:
-    """A question about the patches of a map."""
+    """A question about the patches of a map: kind 1, or kind 2 for their numbers as well."""
 
     map: bytes
     connectivity: int = 4
@@ -188,7 +188,8 @@ class Reader:
         return found
 
     def question(self) -> Question:
-        self.need(self.number("B") == 1, "bad question")
+        kind = self.number("B")
+        self.need(kind in (1, 2), "bad question")
         name = self.take(self.number("B"))
         connectivity = self.number("B")
         self.need(connectivity in (4, 8), "bad connectivity")
@@ -196,7 +197,7 @@ class Reader:
         self.need(depth >= 1, "bad depth")
         zones = self.take(self.number("B"))
         self.need(not zones or NAME.fullmatch(zones), "bad zones")
-        return Question(name, connectivity, depth, zones)
+        return Question(name, connectivity, depth, zones, kind)
 
     def run(self) -> tuple[list[Raster], bytes, list[Question]]:
         """Return the maps, the script and the questions, or raise the first error."""
@@ -255,14 +256,20 @@ class Response:
     def grid(self) -> Frame:
         frame: Frame = {"line": self.numbers(1)[0], "null": self.text(), "name": self.text()}
         frame["edges"] = [self.text() for _ in SIDES]
+        frame["rows"] = self.rows()
+        return frame
+
+    def rows(self) -> list[list[Optional[int]]]:
         rows, cols = self.numbers(2)
         is_small = self.take(1) == b"\1"
         cells, null = self.numbers(rows * cols, "B" if is_small else "i"), 255 if is_small else NULL
-        frame["rows"] = [
+        return [
             [None if cell == null else cell for cell in cells[r * cols : (r + 1) * cols]]
             for r in range(rows)
         ]
-        return frame
+
+    def patch_numbers(self) -> Frame:
+        return {"question": self.numbers(1)[0], "rows": self.rows()}
 
     def patches(self) -> Frame:
         question, connectivity, depth, has_zones = struct.unpack("<QBIB", self.take(14))
@@ -295,6 +302,7 @@ class Response:
             b"CELL": self.table,
             b"GRID": self.grid,
             b"PTCH": self.patches,
+            b"NUMB": self.patch_numbers,
             b"DONE": self.done,
         }
         found: list[Frame] = []
@@ -322,7 +330,7 @@ def header(edges: Iterable[bytes], rows: int, cols: int) -> bytes:
 
 def printed(frame: Frame) -> bytes:
     """Return the text that `rcell` prints for a frame, or nothing for a question."""
-    if frame["kind"] == b"PTCH":
+    if frame["kind"] in (b"NUMB", b"PTCH"):
         return b""
     if frame["kind"] == b"GRID":
         null = b"" if frame["null"] == b"*" else b"null: " + frame["null"] + b"\n"

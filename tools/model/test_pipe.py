@@ -34,7 +34,7 @@ import cases
 from fuzz import damaged_bytes
 from made_cases import NAMES, ScriptMaker
 from model import Refused, ScriptReader
-from patch_model import main_zones, patches
+from patch_model import Cells, main_zones, patch_numbers, patches
 from pipe_model import (
     NULL,
     TYPES,
@@ -194,6 +194,7 @@ def random_questions(
             choice.choice([4, 8]),
             choice.choice([1, 1, 2, 3, 40, 2**32 - 1]),
             choice.choice([b"", name([b"nowhere", b"2", b"a" * 65])]),
+            choice.choice([0, 3, 255] if choice.random() < badness else [1, 2]),
         )
         for _ in range(choice.choice([0, 0, 1, 1, 2, 4]))
     ]
@@ -246,20 +247,23 @@ def wrong_answers(
     printing = b"".join(b"\nr.out.ascii input=%s\n" % name for name in names)
     shown = programs.frames(request(maps, script + printing))[-len(names) - 1 : -1]
     cells = {name: grid["rows"] for name, grid in zip(names, shown)}
-    for place, it in enumerate(questions):
-        wanted = {
-            "kind": b"PTCH",
-            "question": place,
-            "connectivity": it.connectivity,
-            "depth": it.depth,
-            "patches": patches(cells[it.map], it.connectivity, it.depth),
-            "zones": main_zones(cells[it.map], it.connectivity, cells[it.zones])
-            if it.zones
-            else None,
-        }
-        if answers[place] != wanted:
-            return f"{script!r}, {it}: {answers[place]} is not {wanted}"
-    return ""
+    wanted = [frame for place, it in enumerate(questions) for frame in frames_of(place, it, cells)]
+    return "" if answers == wanted else f"{script!r}, {questions}: {answers} is not {wanted}"
+
+
+def frames_of(place: int, question: Question, maps: dict[bytes, Cells]) -> list[Frame]:
+    """Return the frames of a question, by the plain model."""
+    cells, connectivity = maps[question.map], question.connectivity
+    numbers = {"kind": b"NUMB", "question": place, "rows": patch_numbers(cells, connectivity)}
+    measures = {
+        "kind": b"PTCH",
+        "question": place,
+        "connectivity": connectivity,
+        "depth": question.depth,
+        "patches": patches(cells, connectivity, question.depth),
+        "zones": main_zones(cells, connectivity, maps[question.zones]) if question.zones else None,
+    }
+    return [numbers, measures] if question.kind == 2 else [measures]
 
 
 def wrong_questions(
@@ -277,7 +281,7 @@ def wrong_questions(
         return wrong_rejection(end, frames, number, b"unknown map")
     *before, end_before = programs.frames(request(maps, script))
     answers = frames[len(before) :]
-    if frames[: len(before)] != before or len(answers) != len(questions) or end != end_before:
+    if frames[: len(before)] != before or end != end_before:
         return f"{script!r}: {frames}, {end} and not {before} with answers to {questions}"
     return wrong_answers(programs, maps, script, questions, answers)
 
@@ -412,7 +416,7 @@ def named_errors_of_questions(maps: list[Raster], script: bytes) -> Iterator[tup
     """Yield a request for each error of a question."""
     first = Question(b"land")
     yield "bad question", request(maps, script, [replace(first, kind=0)])
-    yield "bad question", request(maps, script, [first, replace(first, kind=2)])
+    yield "bad question", request(maps, script, [first, replace(first, kind=3)])
     yield "bad connectivity", request(maps, script, [replace(first, connectivity=6)])
     yield "bad depth", request(maps, script, [first, first, replace(first, depth=0)])
     yield "bad zones", request(maps, script, [replace(first, map=b"lan", zones=b"2")])
@@ -545,7 +549,8 @@ def wrong_order(programs: Programs) -> str:
 
 def few_bytes() -> bytes:
     first = Question(b"b", 8, 2, zones=b"land")
-    return request(*few_maps(), [first, Question(b"land"), Question(b"k", zones=b"k")])
+    numbers = Question(b"land", kind=2)
+    return request(*few_maps(), [first, numbers, Question(b"k", zones=b"k", kind=2)])
 
 
 def text_bytes() -> bytes:
