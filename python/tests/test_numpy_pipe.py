@@ -251,6 +251,16 @@ class Answers(Asked):
             assert isinstance(frame, protocol.PatchesFrame)
             self.assertEqual((frame.question, bytes(frame.rows)), (7, row + zone))
 
+    def test_patch_numbers(self) -> None:
+        head = b"NUMB" + struct.pack("<3Q", 7, 1, 3)
+        wide = struct.pack("<3i", 1, protocol.NULL, 300)
+        for code, kind, cells in ((1, "u8", bytes([1, 255, 2])), (6, "i32", wide)):
+            program = self.answering(MAGIC + head + bytes([code]) + cells + DONE)
+            [frame] = protocol.run(program, [a_map()], b"")
+            assert isinstance(frame, protocol.NumbersFrame)
+            self.assertEqual((frame.question, frame.rows, frame.cols, frame.type), (7, 1, 3, kind))
+            self.assertEqual(bytes(frame.cells), cells)
+
     def test_a_statement(self) -> None:
         [found] = protocol.plan(self.answering(MAGIC + PLAN + DONE), ["lc", "ws"], b"x")
         self.assertEqual((found.line, found.command, found.made), (7, "r.mapcalc", "k"))

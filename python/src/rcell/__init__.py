@@ -21,8 +21,12 @@ def _modules() -> dict[str, str]:
     import re
 
     with open(__file__.rpartition(".")[0] + ".pyi", encoding="utf-8") as file:
-        imports = re.findall(r"^from (\S+) import ([^()]+?$|\([^)]*\))", file.read(), re.MULTILINE)
-    return {name: module for module, names in imports for name in re.findall(r" as (\w+)", names)}
+        stub = file.read()
+    modules = {}
+    # from MODULE import NAME as NAME, with several names in parentheses
+    for module, names in re.findall(r"^from (\S+) import ([^()]+?$|\([^)]*\))", stub, re.MULTILINE):
+        modules.update(dict.fromkeys(re.findall(r" as (\w+)", names), module))
+    return modules
 
 
 def __getattr__(name: str) -> object:
@@ -31,7 +35,8 @@ def __getattr__(name: str) -> object:
 
     if name == "__all__":
         return sorted(_modules())
-    module = None if name.startswith("__") and name != "__version__" else _modules().get(name)
+    is_special = name.startswith("__") and name != "__version__"
+    module = None if is_special else _modules().get(name)
     if module is None:
         raise AttributeError(f"module {__name__!r} has no attribute {name!r}")
     value = getattr(importlib.import_module(module, __name__), name)

@@ -89,11 +89,7 @@ class Call(Protocol[Words, Returned]):
 
     @overload
     def __call__(
-        self,
-        *words: Any,
-        workers: Any,
-        resume: str | os.PathLike[str] | None = None,
-        **named: Any,
+        self, *words: Any, workers: Any, resume: str | os.PathLike[str] | None = None, **named: Any
     ) -> Returned:
         ...
 
@@ -173,11 +169,11 @@ def _series(column: Column) -> Any:
 
 
 def _load_pandas() -> None:
-    """Import pandas if possible, without keeping the threads of tiles waiting."""
+    """Import pandas if possible, without keeping the tile threads waiting."""
     if "pandas" in sys.modules:
         return
     interval = sys.getswitchinterval()
-    sys.setswitchinterval(interval / 10)
+    sys.setswitchinterval(interval / 10)  # so that the import yields to other threads more often
     try:
         with contextlib.suppress(ImportError):
             import pandas  # noqa: F401
@@ -194,20 +190,21 @@ def _returning(
     """Return a decorator that converts a function's result and documents its type as `kind`.
 
     The decorator adds the parameters `workers` and `resume`, which control the processing of large
-    maps, and `compute`, with which Dask can compute the result later. A thread calls `meanwhile`
-    while the tiles of a large map are processed.
+    maps, and `compute`, with which Dask can compute the result later. `lazy` is what Dask computes:
+    a key of _COMPUTE_WORDS. A thread calls `meanwhile` while the tiles of a large map are
+    processed.
     """
 
     def wrap(make: Callable[Words, Made]) -> Call[Words, Returned]:
         @functools.wraps(make)
         def call(*words: Words.args, **named: Words.kwargs) -> Returned:
-            options: Any = named
-            work = {word: options.pop(word, default) for word, default in _DEFAULTS.items()}
-            check_arguments(make, options)
-            if not work.pop("compute"):
+            own: Any = named
+            work = {word: own.pop(word, default) for word, default in _DEFAULTS.items()}
+            check_arguments(make, own)
+            if not work["compute"]:
                 later: Returned = _lazily(make, lazy, work, words, named)
                 return later
-            with working(**work, meanwhile=meanwhile):
+            with working(work["workers"], work["resume"], meanwhile=meanwhile):
                 return convert(make(*words, **named))
 
         call.__annotations__ = {**make.__annotations__, **_WORK_TYPES, "return": kind}
@@ -225,16 +222,14 @@ def _returning(
 def _signature_of(make: Callable[..., Any], kind: str) -> inspect.Signature:
     """Return the signature of a call: the function's own parameters, and the shared ones."""
     signature = inspect.signature(make)
-    own, more = list(signature.parameters.values()), []
-    if own[-1].kind is inspect.Parameter.VAR_KEYWORD:
-        more = [own.pop()]
+    parameters, keywords = list(signature.parameters.values()), []
+    if parameters[-1].kind is inspect.Parameter.VAR_KEYWORD:
+        keywords = [parameters.pop()]  # `**named`, which must be last
+    keyword_only = inspect.Parameter.KEYWORD_ONLY
     for name, type_ in _WORK_TYPES.items():
         default = _DEFAULTS[name]
-        word = inspect.Parameter(
-            name, inspect.Parameter.KEYWORD_ONLY, default=default, annotation=type_
-        )
-        own.append(word)
-    return signature.replace(parameters=own + more, return_annotation=kind)
+        parameters.append(inspect.Parameter(name, keyword_only, default=default, annotation=type_))
+    return signature.replace(parameters=parameters + keywords, return_annotation=kind)
 
 
 def _lazily(
@@ -245,7 +240,7 @@ def _lazily(
         rule = f"must be True: Dask cannot compute the result of {make.__name__}"
         raise BadArgument("compute", f"{rule}; got False")
     for word, value in work.items():
-        if value is not None:
+        if word != "compute" and value is not None:
             rule = "must be left out with compute=False, because Dask decides where to compute"
             raise BadArgument(word, f"{rule}; got {value!r}")
     from .readers.lazy import lazy_map, lazy_table
@@ -358,10 +353,10 @@ def _result_of(outputs: list[Any]) -> Result:
     )
 
 
-_framed = _returning("pandas.DataFrame", frame_of, "", _load_pandas)
-_framed_or_delayed = _returning("pandas.DataFrame", frame_of, "table", _load_pandas)
+_framed = _returning("pandas.DataFrame", frame_of, meanwhile=_load_pandas)
+_framed_or_delayed = _returning("pandas.DataFrame", frame_of, lazy="table", meanwhile=_load_pandas)
 _rastered = _returning("rcell.Raster", _raster_of)
-_rastered_or_lazy = _returning("rcell.Raster", _raster_of, "map")
+_rastered_or_lazy = _returning("rcell.Raster", _raster_of, lazy="map")
 
 composition = _framed_or_delayed(_composition.composition)
 cross = _framed_or_delayed(_composition.cross)
@@ -372,7 +367,9 @@ table = _framed_or_delayed(_scripts.table)
 dominant = _framed_or_delayed(_dominant.dominant)
 metrics = _framed_or_delayed(_metrics.metrics)
 sample = _framed(_sample.sample)
-change = _returning("rcell.Change", _change_of, "table", _load_pandas)(_change.change)
+change = _returning("rcell.Change", _change_of, lazy="table", meanwhile=_load_pandas)(
+    _change.change
+)
 accuracy = _returning("rcell.Accuracy", _accuracy_of)(_accuracy.accuracy)
 trajectories = _returning("rcell.Trajectories", _trajectories_of)(_trajectories.trajectories)
 aggregate = _returning("rcell.Aggregate", _aggregate_of)(_aggregate.aggregate)

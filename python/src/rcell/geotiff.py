@@ -50,7 +50,7 @@ def smallest_type(least: int, greatest: int) -> tuple[str, int]:
         return "uint8", 255
     if -32_768 < least and greatest <= 32_767:
         return "int16", -32_768
-    return ("int32" if greatest <= -NULL - 1 else "int64"), NULL
+    return ("int32" if greatest <= np.iinfo(np.int32).max else "int64"), NULL
 
 
 def profile_of(
@@ -78,7 +78,9 @@ def profile_of(
     }
     if rows >= TILE and cols >= TILE:
         profile |= {"tiled": True, "blockxsize": TILE, "blockysize": TILE}
-    return profile | ({} if crs is None else {"crs": crs})
+    if crs is not None:
+        profile["crs"] = crs
+    return profile
 
 
 def write_geotiff(grid: Raster, path: str, is_cog: bool = False) -> None:
@@ -104,7 +106,8 @@ def write_geotiff(grid: Raster, path: str, is_cog: bool = False) -> None:
     rasterio = need("rasterio", "gis", "to write a GeoTIFF")
     # Labels from rules may contain bytes that are not text.
     labels = checked_labels(grid.name, grid.labels)
-    dtype, nodata = smallest_type(*_range_of(grid))
+    least, greatest = _range_of(grid)
+    dtype, nodata = smallest_type(least, greatest)
     profile = profile_of(*grid.region.shape, grid.transform, grid.crs, dtype, nodata)
     is_large = grid.region.rows * grid.region.cols > _IN_MEMORY
     make = _write_cog if is_cog else _write
@@ -165,12 +168,13 @@ def _check(grid: Raster, path: str, profile: dict[str, Any]) -> None:
     def check(row: int, end: int) -> None:
         expected = _filled(_rows_of(grid, row, end), profile["dtype"], profile["nodata"])
         with rasterio.open(path) as dataset:
-            found = dataset.read(1, window=_window(grid, row, end))
-        if not np.array_equal(found, expected):
+            written = dataset.read(1, window=_window(grid, row, end))
+        if not np.array_equal(written, expected):
             rows = f"rows {row + 1} to {end}"
             raise OSError(f"{rows} were not written correctly: the disk may be full")
 
-    in_threads(check, *zip(*_places_of(grid)))
+    rows, ends = zip(*_places_of(grid))
+    in_threads(check, rows, ends)
 
 
 def _window(grid: Raster, row: int, end: int) -> Any:
@@ -180,23 +184,26 @@ def _window(grid: Raster, row: int, end: int) -> Any:
 
 def _range_of(grid: Raster) -> tuple[int, int]:
     """Return the smallest and the largest category, or 0 and 0 if all cells are null."""
-    places = zip(*_places_of(grid))
-    found = in_threads(lambda row, end: _ends_of(_rows_of(grid, row, end)), *places)
-    ends = [end for both in found for end in both]
-    return min(ends, default=0), max(ends, default=0)
+    rows, ends = zip(*_places_of(grid))
+    extremes: list[int] = []
+    for of_block in in_threads(lambda row, end: _extremes_of(_rows_of(grid, row, end)), rows, ends):
+        extremes += of_block
+    return min(extremes, default=0), max(extremes, default=0)
 
 
 def _is_masked(cells: Any) -> bool:
     return isinstance(cells, np.ma.MaskedArray)
 
 
-def _ends_of(cells: Any) -> tuple[int, ...]:
+def _extremes_of(cells: Any) -> tuple[int, ...]:
     """Return the smallest and the largest category in rows, or () if all cells are null."""
     if _is_masked(cells):
         return (int(cells.min()), int(cells.max())) if np.ma.count(cells) else ()
     smallest = int(cells.min())
+    if smallest == NULL_BYTE:
+        return ()
     # As 8-bit numbers, null plus 1 is 0, so the largest sum belongs to the largest category.
-    return () if smallest == NULL_BYTE else (smallest, int((cells + np.uint8(1)).max()) - 1)
+    return smallest, int((cells + np.uint8(1)).max()) - 1
 
 
 def _places_of(grid: Raster) -> list[tuple[int, int]]:

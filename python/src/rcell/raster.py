@@ -7,6 +7,7 @@ import base64
 import dataclasses
 import html
 import io
+import math
 import os
 from collections.abc import Sequence
 from functools import cached_property
@@ -83,10 +84,11 @@ class Raster:
     ) -> None:
         legend = legend_of({} if labels is None else labels)
         given_colors = legend.colors if colors is None else colors
-        self._set(array_map(name, array, transform, crs, nodata, legend.labels, given_colors), None)
+        source = array_map(name, array, transform, crs, nodata, legend.labels, given_colors)
+        self._set(source, account=None)
 
     def _set(self, source: ArrayMap, account: Aligned | Sieved | None) -> None:
-        """Set the attributes from a core map."""
+        """Set the attributes from a core map, and from its counts of cells or patches, if any."""
         self._source = source
         self.name = source.name
         self.region = source.region
@@ -137,7 +139,8 @@ class Raster:
         >>> rcell.Raster([[1, 1], [2, 0]], nodata=0).rows(1, 2).tolist()
         [[2, None]]
         """
-        return self.array[first:end] if "array" in vars(self) else self._masked(first, end)
+        is_complete = "array" in vars(self)  # all cells are in memory, and may have been edited
+        return self.array[first:end] if is_complete else self._masked(first, end)
 
     def _bytes(self, first: int, end: int) -> Any:
         """Return consecutive rows as bytes, or None if the map does not store bytes.
@@ -360,7 +363,7 @@ class Raster:
         """
         pyplot = need("matplotlib.pyplot", "plot", "to draw a map")
         if ax is None:
-            ax = pyplot.subplots(layout="constrained")[1]
+            _, ax = pyplot.subplots(layout="constrained")
         categories = self.categories()
         places, colors, norm = _colored(self.array, categories, self.colors)
         west, south, east, north = self.bounds
@@ -390,11 +393,11 @@ class Raster:
 
     def _picture(self) -> bytes:
         """Return a small PNG picture of the map, in which null is transparent."""
-        step = -(-max(self.shape) // THUMBNAIL)
+        step = math.ceil(max(self.shape) / THUMBNAIL)
         places, colors, norm = _colored(self.array[::step, ::step], self.categories(), self.colors)
         scale = need("matplotlib.cm", "plot", "to draw a map").ScalarMappable(norm, colors)
         times = max(1, THUMBNAIL // max(places.shape))
-        image = scale.to_rgba(places, bytes=True).repeat(times, 0).repeat(times, 1)
+        image = scale.to_rgba(places, bytes=True).repeat(times, axis=0).repeat(times, axis=1)
         png = io.BytesIO()
         need("matplotlib.image", "plot", "to draw a map").imsave(png, image, format="png")
         return png.getvalue()
@@ -430,7 +433,8 @@ def _colored(array: Any, categories: list[int], colors: dict[int, str]) -> tuple
         spare += matplotlib.colormaps[name].colors
     unused = iter(spare)
     palette = [colors.get(category) or next(unused) for category in categories]
-    places = np.searchsorted(categories, array.filled(categories[0]))
+    any_category = categories[0]  # for null cells, which stay masked
+    places = np.searchsorted(categories, array.filled(any_category))
     indices: Any = np.ma.MaskedArray(places, np.ma.getmaskarray(array))
     edges = np.arange(len(categories) + 1) - 0.5
     norm = colors_of.BoundaryNorm(edges, len(categories))

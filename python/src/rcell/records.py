@@ -72,7 +72,8 @@ def record(
     if name not in CALLS or call is not getattr(frames, name):
         rule = f"must be a call that returns a table, for example rcell.composition; got {name}"
         raise BadArgument("call", rule)
-    with working(named.pop("workers", None), named.pop("resume", None)):
+    workers, resume = named.pop("workers", None), named.pop("resume", None)
+    with working(workers, resume):
         recorded = make(os.fspath(path), CALLS[name], words, named, table)
     recorded.write(os.fspath(path), __version__)
     return call.convert(recorded.outcome)  # type: ignore[attr-defined]

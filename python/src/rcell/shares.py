@@ -112,7 +112,8 @@ class Shares:
         profile = profile_of(*like.region.shape, like.transform, like.crs, "float64", math.nan)
         with replacing(path) as beside, write_errors(path, rasterio.errors.RasterioError):
             with need("rasterio.io", "gis", "to write a GeoTIFF").MemoryFile() as memory:
-                with memory.open(**{**profile, "count": len(layers)}) as dataset:
+                profile["count"] = len(layers)
+                with memory.open(**profile) as dataset:
                     dataset.write(layers)
                     for band, name in enumerate(self.names, 1):
                         dataset.set_band_description(band, name)

@@ -47,14 +47,8 @@ to the polygon that contains its centre. LEGEND is a CSV with the columns value 
 style (.qml). `rcell-gis COMMAND --help` lists the options of a command.
 Exit status: 0 success; 1 invalid input; 2 invalid command line or missing library; 3 out of memory;
 4 a file could not be read or written."""
-ENDINGS = {
-    "": "csv",
-    ".csv": "csv",
-    ".txt": "csv",
-    ".tsv": "tsv",
-    ".md": "markdown",
-    ".json": "json",
-}
+CSV_ENDINGS = ("", ".csv", ".txt")
+ENDINGS = {**dict.fromkeys(CSV_ENDINGS, "csv"), ".tsv": "tsv", ".md": "markdown", ".json": "json"}
 # The options of commands that count, and the commands without these options.
 _WORK = ("workers", "resume", "dry_run")
 _WITHOUT_WORK = ("convert", "explain", "report")
@@ -113,20 +107,21 @@ def _parsed(words: list[str]) -> argparse.Namespace:
     """Parse a command line, or exit with status 2 if it is invalid."""
     parser, commands = _parser()
     if words and not words[0].startswith("-") and words[0] not in commands:
-        close = [f"did you mean {name}?" for name in near(words[0], commands)]
-        close = [RECORD_IS_AN_OPTION] if words[0] == "record" else close
-        parser.error(": ".join([f"there is no command {words[0]}", *close]))
+        hints = [f"did you mean {name}?" for name in near(words[0], commands)]
+        if words[0] == "record":
+            hints = [RECORD_IS_AN_OPTION]
+        parser.error(": ".join([f"there is no command {words[0]}", *hints]))
     settings, rest = parser.parse_known_args(_joined(words))
     if settings.command is None:
         parser.error("a command is missing")
     if rest:
         parser = commands[settings.command]
         known = [option for action in parser._actions for option in action.option_strings]
-        unknown = rest[0].partition("=")[0]
-        close = [f"did you mean {name}?" for name in near(unknown, known)]
+        unknown, _, _ = rest[0].partition("=")
+        hints = [f"did you mean {name}?" for name in near(unknown, known)]
         if unknown in OUT_OPTIONS and any(action.metavar == "OUT" for action in parser._actions):
-            close = [OUT_IS_LAST]
-        parser.error(": ".join([f"unexpected argument {rest[0]}", *close]))
+            hints = [OUT_IS_LAST]
+        parser.error(": ".join([f"unexpected argument {rest[0]}", *hints]))
     return settings
 
 
@@ -153,7 +148,9 @@ def _sentence(does: str) -> str:
 
 def _parser() -> tuple[_Parser, dict[str, _Parser]]:
     """Create the command line's parser, and the parser of each command."""
-    lines = (_line(f"{name} {each.synopsis}", each.does) for name, each in COMMANDS.items())
+    lines = [
+        _line(f"{name} {command.synopsis}", command.does) for name, command in COMMANDS.items()
+    ]
     text = "\n".join([DESCRIPTION, "", *lines])
     parser = _Parser(prog=NAME, description=text, epilog=EPILOG, usage=f"{NAME} COMMAND ..")
     parser.add_argument("--version", action="store_true", help="print the name and the version")
@@ -198,7 +195,7 @@ def _call(words: argparse.Namespace) -> Callable[..., Any]:
 def _options(words: argparse.Namespace) -> dict[str, Any]:
     """Return the given options as arguments for the call."""
     names = [ARGUMENTS.get(name, name) for name in words.options if name not in NO_ARGUMENTS]
-    if words.command in ("zonal", "dominant"):
+    if words.command in ("zonal", "dominant"):  # whose zones are not an option
         names.append("zones")
     options: dict[str, Any] = {}
     for name in names:
@@ -222,15 +219,16 @@ def _of_each(words: argparse.Namespace) -> None:
     call, options, tables = _call(words), _options(words), []
     for path in words.maps:
         words.map_paths = {"values" if words.command == "zonal" else "map": path}
-        words.map_paths.update({"zones": words.zones} if words.__dict__.get("zones") else {})
+        if words.__dict__.get("zones"):
+            words.map_paths["zones"] = words.zones
         words.several = path if len(words.maps) > 1 else None
         table = call(_map(words, path), **options)
         tables.append((path, table.columns, table.rows))
     words.map_paths = {}
     if len(tables) == 1:
-        _write_table(words, *tables[0][1:])
+        _write_table(words, table.columns, table.rows)
         return
-    columns = list(dict.fromkeys(name for _, names, _ in tables for name in names))
+    columns = list(dict.fromkeys(name for _, names, _ in tables for name in names))  # of any table
     rows: list[list[Any]] = []
     for path, names, values in tables:
         for row in values:
@@ -242,8 +240,10 @@ def _of_each(words: argparse.Namespace) -> None:
 def _cross(words: argparse.Namespace) -> None:
     words.map_paths = _pairs(words.maps)
     maps = {name: _map(words, path, name) for name, path in words.map_paths.items()}
-    legends = {"labels": _pairs(words.labels)} if words.labels else {}
-    table = _call(words)(maps, **{**_options(words), **legends})
+    options = _options(words)
+    if words.labels:
+        options["labels"] = _pairs(words.labels)
+    table = _call(words)(maps, **options)
     _write_table(words, table.columns, table.rows)
 
 
@@ -279,7 +279,9 @@ def _sample(words: argparse.Namespace) -> None:
 
 def _to_map(words: argparse.Namespace) -> None:
     """Write the map that a call returns, and print its counts of cells or patches, if any."""
-    words.map_paths = {"map": words.map, **({"to": words.to} if words.command == "align" else {})}
+    words.map_paths = {"map": words.map}
+    if words.command == "align":
+        words.map_paths["to"] = words.to
 
     def make_maps() -> list[Any]:
         call = getattr(importlib.import_module("rcell"), words.command)
@@ -304,13 +306,14 @@ def _aggregate(words: argparse.Namespace) -> None:
         result = call(_map(words, words.map), **_options(words))
         return [result.majority, result.shares]
 
-    write_maps([words.target, *([words.shares] if words.shares else [])], make_maps)
+    targets = [words.target, words.shares] if words.shares else [words.target]
+    write_maps(targets, make_maps)
 
 
 def _trajectories(words: argparse.Namespace) -> None:
     """Write a table of trajectories and the requested maps."""
     words.map_paths = {f"map_{number}": path for number, path in enumerate(words.maps, 1)}
-    paths, results = _pairs(words.outs), []
+    paths = _pairs(words.outs)
     known = importlib.import_module("rcell.core.trajectories").MAPS
     for name in paths:
         if name not in known:
@@ -318,12 +321,12 @@ def _trajectories(words: argparse.Namespace) -> None:
 
     def make_maps() -> list[Any]:
         maps = [_map(words, path) for path in words.maps]
-        results.append(_call(words)(maps, include_maps=bool(paths), **_options(words)))
+        words.result = _call(words)(maps, include_maps=bool(paths), **_options(words))
         raster = importlib.import_module("rcell").Raster
-        return [raster._of(results[0].maps[name]) for name in paths]
+        return [raster._of(words.result.maps[name]) for name in paths]
 
     write_maps(list(paths.values()), make_maps)
-    table = getattr(results[0], words.table)
+    table = getattr(words.result, words.table)
     _write_table(words, table.columns, table.rows)
 
 
@@ -333,14 +336,13 @@ def _run(words: argparse.Namespace) -> None:
     if words.each is not None:
         _run_each(words)
         return
-    outputs: list[Any] = []
 
     def make_maps() -> list[Any]:
-        outputs.extend(_outputs(words, list(paths)))
-        return outputs[len(outputs) - len(paths) :]
+        words.outputs = _outputs(words, list(paths))
+        return words.outputs[len(words.outputs) - len(paths) :]  # the requested maps are last
 
     write_maps(list(paths.values()), make_maps)
-    tables = [output.table() for output in outputs if hasattr(output, "table")]
+    tables = [output.table() for output in words.outputs if hasattr(output, "table")]
     if tables:
         texts = (table_text(words.format or "csv", table.columns, table.rows) for table in tables)
         emit("\n".join(texts))
@@ -350,7 +352,7 @@ def _outputs(words: argparse.Namespace, wanted: Sequence[str] = ()) -> list[Any]
     """Run a script and return the outputs, followed by the requested maps."""
     maps = {name: _map(words, path, name) for name, path in words.map_paths.items()}
     scripts = importlib.import_module("rcell.core.scripts")
-    run = scripts.Run(script_of(words.script), maps, {}, words.crs)
+    run = scripts.Run(script_of(words.script), maps, named={}, crs=words.crs)
     for name in wanted:
         if name not in run.sources and name not in run.made:
             problem = f"no map {name}: {known_names('map', [*run.sources, *run.made])}"
@@ -375,8 +377,8 @@ def _run_each(words: argparse.Namespace) -> None:
     with errors_of(words.each), contextlib.ExitStack() as cleanup:
         begin_work()
         cleanup.callback(end_work)
-        room = PrivateFolder(os.path.dirname(folder), os.path.basename(folder))
-        cleanup.callback(room.remove)
+        private = PrivateFolder(os.path.dirname(folder), os.path.basename(folder))
+        cleanup.callback(private.remove)
         digits = max(2, len(str(len(outputs))))
         for number, output in enumerate(outputs, 1):
             is_table, form = hasattr(output, "table"), words.format or "csv"
@@ -386,7 +388,7 @@ def _run_each(words: argparse.Namespace) -> None:
             else:
                 name, ending = f"r.out.ascii-{output.name}", _ending_of_maps(words)
             name = f"{number:0{digits}}-{name}"
-            path = os.path.join(room.path, name[: LONGEST_NAME - len(ending)] + ending)
+            path = os.path.join(private.path, name[: LONGEST_NAME - len(ending)] + ending)
             if is_table:
                 table = output.table()
                 with open(path, "w", encoding="utf-8", errors="surrogateescape") as file:
@@ -394,12 +396,12 @@ def _run_each(words: argparse.Namespace) -> None:
             else:
                 write_map(output, path, ending)
         os.mkdir(folder)  # fails if another process has created it in the meantime
-        room.rename(folder)
+        private.rename(folder)
         os.chmod(folder, 0o777 & ~_mask())
 
 
 def _mask() -> int:
-    mask = os.umask(0)
+    mask = os.umask(0)  # which can only be read by setting it
     os.umask(mask)
     return mask
 
@@ -442,9 +444,9 @@ def _raster(words: argparse.Namespace) -> Any:
 def _verify(words: argparse.Namespace) -> int:
     verify = importlib.import_module("rcell").verify
     differences = [(path, verify(path)) for path in words.tables]
-    for path, listed in differences:
-        emit("".join(f"{path}: {line}\n" for line in listed or ["verified"]))
-    return BAD_INPUT if any(listed for _, listed in differences) else 0
+    for path, lines in differences:
+        emit("".join(f"{path}: {line}\n" for line in lines or ["verified"]))
+    return BAD_INPUT if any(lines for _, lines in differences) else 0
 
 
 def _report(words: argparse.Namespace) -> None:
@@ -498,7 +500,7 @@ def _writing_a_table(path: Optional[str]) -> Iterator[None]:
 def emit(text: str) -> None:
     """Write to standard output without a buffer, which Python would flush again at exit."""
     sys.stdout.flush()
-    printable = _printable(text) if os.isatty(1) else text
+    printable = _printable(text) if os.isatty(1) else text  # on a terminal
     with file_errors("-"), Output("-") as output:
         write_all(output.stream(), printable.encode("utf-8", "surrogateescape"))
 
@@ -750,6 +752,7 @@ def _status_of(arguments: list[str]) -> int:
         if isinstance(error, (OtherRegion, OtherCrs)):
             error.advice = _align_words(error, settings.map_paths)
         elif isinstance(error, BadMap) and error.advice and error.source in settings.map_paths:
+            # The advice names the files after the argument: `map.tif` and `map_rounded.tif`.
             stem, ending = os.path.splitext(settings.map_paths[error.source])
             for mark in ("", "_rounded"):
                 new = shlex.quote(f"{stem}{mark}{ending}")
@@ -775,10 +778,10 @@ def _working(settings: argparse.Namespace) -> contextlib.AbstractContextManager[
     if not any(value is not None and value is not False for value in options.values()):
         return contextlib.nullcontext()
     working: Any = importlib.import_module("rcell.core.tiling").working
-    how: contextlib.AbstractContextManager[None] = working(
+    context: contextlib.AbstractContextManager[None] = working(
         options["workers"], options["resume"], is_dry=bool(options["dry_run"])
     )
-    return how
+    return context
 
 
 def _run_command(settings: argparse.Namespace) -> int:
@@ -809,18 +812,21 @@ def _printable(text: str) -> str:
 
 
 def _in_one_line(error: RcellError, path: Optional[str]) -> str:
-    """Format an error on one line, with the path, the script's line and a correction.
+    """Format an error on one line, with the script's line and a correction.
 
-    The path is included only if there are several maps.
+    If a command has several maps, `path` is the path of the map that the error may be about.
     """
     if not isinstance(error, Refused):
         return "; ".join(line.strip() for line in str(error).split("\n"))
-    source = path or error.source if error.source in ("map", "values") else error.source
+    source = error.source
+    if path and source in ("map", "values"):
+        source = path
     place = "" if source == "arguments" else f"{source}: "
-    place = f"{source}, line {error.line}: " if error.line else place
+    if error.line:
+        place = f"{source}, line {error.line}: "
     lines = (place + error.text).split("\n")
     if error.content:
-        line = lines_of_error(error.content, error.column)[0]
+        line, *_ = lines_of_error(error.content, error.column)
         lines.append(f"`{line.strip()}`")
     if error.advice:
         lines += f"try: {error.advice}".split("\n")

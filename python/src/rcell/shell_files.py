@@ -63,7 +63,7 @@ def write_map(raster: Any, path: str, ending: str) -> None:
         with file_errors(path):
             figure = raster.plot().figure
             figure.savefig(path, format=ending[1:], bbox_inches="tight", dpi=150)
-    elif hasattr(raster, "percent"):
+    elif hasattr(raster, "percent"):  # shares of classes
         raster._write(path)
     else:
         write = importlib.import_module("rcell.geotiff").write_geotiff
@@ -72,7 +72,7 @@ def write_map(raster: Any, path: str, ending: str) -> None:
 
 def file_errors(path: str) -> contextlib.AbstractContextManager[None]:
     """Convert OSError to WriteFailed, which names the path."""
-    errors: contextlib.AbstractContextManager[None] = importlib.import_module(
-        "rcell.core.writing"
-    ).write_errors("standard output" if path == "-" else path)
+    writing_module: Any = importlib.import_module("rcell.core.writing")
+    title = "standard output" if path == "-" else path
+    errors: contextlib.AbstractContextManager[None] = writing_module.write_errors(title)
     return errors

@@ -13,17 +13,7 @@ from .core.programs import find_pipe, find_program
 
 __all__ = ["show_versions"]
 
-_LIBRARIES = (
-    "numpy",
-    "pandas",
-    "rasterio",
-    "pyproj",
-    "fiona",
-    "geopandas",
-    "xarray",
-    "dask",
-    "matplotlib",
-)
+_LIBRARIES = "numpy pandas rasterio pyproj fiona geopandas xarray dask matplotlib".split()
 
 
 def show_versions() -> None:
@@ -38,11 +28,8 @@ def show_versions() -> None:
     """
     lines = [("rcell", __version__), ("python", platform.python_version())]
     lines += [(name, _version_of(name)) for name in _LIBRARIES]
-    for name, find in (
-        ("rcell-pipe", find_pipe),
-        ("rcell", find_program),
-        ("rcell-join", find_joiner),
-    ):
+    programs = {"rcell-pipe": find_pipe, "rcell": find_program, "rcell-join": find_joiner}
+    for name, find in programs.items():
         try:
             lines.append((name, find()))
         except RcellError as error:

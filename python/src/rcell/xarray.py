@@ -143,18 +143,23 @@ class Accessor:
         plan = planned(text, maps)
         if not plan or not plan[-1].made:
             raise BadArgument("script", f"must create a map in its last statement; got {script!r}")
-        return self._made(frames.grid, text, plan[-1].made, maps, maps=maps, crs=crs, **work)
+        name = plan[-1].made
+        return self._map_of(frames.grid, text, name, maps, maps=maps, crs=crs, **work)
 
-    def _made(
+    def _map_of(
         self, call: Any, *words: Any, maps: Any = None, is_local: bool = True, **options: Any
     ) -> Any:
-        """Return a call's map as a DataArray, which stays in Dask if all input maps are in Dask."""
+        """Return a call's map as a DataArray, which stays in Dask if all input maps are in Dask.
+
+        `maps` are the input maps, by default the accessor's own. `is_local` is whether the call
+        can stay in Dask.
+        """
         all_maps = (self._maps if maps is None else maps).values()
-        work = {word for word in ("workers", "resume") if options.get(word) is not None}
-        stays = is_local and not work and all(map(is_lazy, all_maps))
-        if not options.setdefault("compute", not stays):
-            return call(*words, **options)
-        return self._like(call(*words, **options))
+        has_work = options.get("workers") is not None or options.get("resume") is not None
+        stays = is_local and not has_work and all(map(is_lazy, all_maps))
+        options = {"compute": not stays, **options}
+        result = call(*words, **options)
+        return self._like(result) if options["compute"] else result
 
     def _only(self) -> Any:
         names = list(self._maps)
@@ -250,19 +255,13 @@ _METHODS = {
     ),
     "change": _Method("land.rcell.change(land * 2).table['cells'].tolist()", "[2, 1]"),
     "clump": _Method(
-        "land.rcell.clump().values.tolist()",
-        "[[1, 1, 2]]",
-        returns=_MAP,
-        is_local=_selects_nothing,
+        "land.rcell.clump().values.tolist()", "[[1, 1, 2]]", returns=_MAP, is_local=_selects_nothing
     ),
     "composition": _Method("land.rcell.composition()['cells'].tolist()", "[2, 1]"),
     "cross": _Method("land.rcell.cross(b=land * 2)['b'].tolist()", "[2, 4]", argument_of=_maps),
     "dominant": _Method("land.rcell.dominant([[7, 7, 8]])['zone'].tolist()", "[7, 8]"),
     "majority": _Method(
-        "land.rcell.majority().values.tolist()",
-        "[[1, 1, 1]]",
-        returns=_MAP,
-        is_local=_always,
+        "land.rcell.majority().values.tolist()", "[[1, 1, 1]]", returns=_MAP, is_local=_always
     ),
     "metrics": _Method("land.rcell.metrics()['patches'].tolist()", "[1, 1]"),
     "patches": _Method("land.rcell.patches()['cells'].tolist()", "[2, 1]"),
@@ -299,7 +298,6 @@ _SECTION = re.compile(r"\n\n    (\w+)\n    -+\n")
 def _method_of(name: str, how: _Method) -> Callable[..., Any]:
     """Convert a call to a method that passes the array as the first map."""
     call: Any = getattr(frames, name)
-
     signature = inspect.signature(call)
 
     @functools.wraps(call)
@@ -308,7 +306,7 @@ def _method_of(name: str, how: _Method) -> Callable[..., Any]:
         if how.is_local is None:
             return how.convert(self, call(argument, *words, **named))
         arguments = signature.bind(argument, *words, **named).arguments
-        return self._made(call, argument, *words, is_local=how.is_local(arguments), **named)
+        return self._map_of(call, argument, *words, is_local=how.is_local(arguments), **named)
 
     first, *others = signature.parameters.values()
     self_word = inspect.Parameter("self", inspect.Parameter.POSITIONAL_ONLY)
@@ -321,17 +319,18 @@ def _method_of(name: str, how: _Method) -> Callable[..., Any]:
 
 def _doc_of(name: str, how: _Method, doc: str, first: str) -> str:
     """Convert a call's docstring to a method's docstring, without the first map's parameter."""
-    head, *rest = _SECTION.split(doc)
-    sections = dict(zip(rest[::2], rest[1::2]))
-    section = re.sub(
-        rf"^    {first} : .*\n(?:        .*\n?)+|^    {first} : .*\n?", "", sections["Parameters"]
-    )
+    head, *titles_and_texts = _SECTION.split(doc)
+    sections = dict(zip(titles_and_texts[::2], titles_and_texts[1::2]))
+    # The parameter is alone, with or without a description, or the first of several in a line.
+    alone = rf"^    {first} : .*\n(?:        .*\n?)+|^    {first} : .*\n?"
+    section = re.sub(alone, "", sections["Parameters"])
     parameters = section.replace(f"    {first}, ", "    ", 1)
-    returns = how.returns or f"{sections['Returns'].strip()}"
+    returns = how.returns or sections["Returns"].strip()
     summary, _, more = head.partition("\n\n")
+    details = f"\n\n{more}" if more else ""
     return f"""{summary}
 
-    The array is the first map of `rcell.{name}`.{more and f"{chr(10)}{chr(10)}{more}"}
+    The array is the first map of `rcell.{name}`.{details}
 
     Parameters
     ----------

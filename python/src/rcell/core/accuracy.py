@@ -5,7 +5,7 @@ from __future__ import annotations
 
 import math
 import os
-from typing import Any, NamedTuple, Optional
+from typing import Any, Mapping, NamedTuple, Optional
 
 import numpy as np
 
@@ -135,37 +135,41 @@ def accuracy(
     0      1   0.88   1.000000    18000.0   15840.0
     1      2   1.00   0.997557   882000.0  884160.0
     """
-    pairs, maps = _pairs_of(map, reference, field, layer, crs, areas is None)
-    if not pairs[:, 2].sum():
+    pairs, maps = _pairs_of(map, reference, field, layer, crs, is_random=areas is None)
+    pair_classes, pair_cells = pairs[:, :2], pairs[:, 2]
+    if not pair_cells.sum():
         problem = "the sample is empty: no cell has a class in both the map and the reference"
         raise Refused(problem, "reference")
     sizes, unit = _sizes_of(areas, area, maps, crs)
     with_area = [code for code, size in (sizes or {}).items() if size > 0]
-    classes = np.union1d(np.unique(pairs[:, :2]), np.array(with_area, np.int64))
+    classes = np.union1d(np.unique(pair_classes), np.array(with_area, np.int64))
+    rows, cols = np.searchsorted(classes, pair_classes.T)
     counts = np.zeros((classes.size, classes.size), np.int64)
-    np.add.at(counts, tuple(np.searchsorted(classes, pairs[:, :2].T)), pairs[:, 2])
-    mapped = counts.sum(axis=1).astype(np.float64)
+    np.add.at(counts, (rows, cols), pair_cells)
+    map_cells = counts.sum(axis=1)
+    mapped = map_cells.astype(np.float64)  # for a random sample: in proportion to the areas
     if sizes is not None:
         mapped = np.array([sizes.get(code, 0.0) for code in classes.tolist()])
-        _check_strata(classes, mapped, counts.sum(axis=1))
-    estimate = _Estimate(counts, mapped / mapped.sum())
-    own = [] if maps is None else [source.labels for source in maps.sources.values()]
-    legend = legend_for(labels, next(filter(None, own), {}), [("the sample", classes)])
-    columns = coded("class", classes, legend, "label") + estimate.columns()
+        _check_strata(classes, mapped, map_cells)
+    estimate = _Estimate(counts, weights=mapped / mapped.sum())
+    map_labels = [] if maps is None else [source.labels for source in maps.sources.values()]
+    first_labels: Mapping[int, str] = next(filter(None, map_labels), {})
+    legend = legend_for(labels, first_labels, [("the sample", classes)])
+    columns = coded("class", classes, legend, label="label") + estimate.columns()
     if unit is not None:
-        areas_of = mapped.sum() * np.array([estimate.shares, estimate.shares_se])
-        names = (f"{part}_{unit}" for part in ("mapped", "area", "area_se"))
-        columns += measures(dict(zip(names, [mapped, *areas_of])))
-    pairs_of = np.stack(np.meshgrid(classes, classes, indexing="ij"), -1).reshape(-1, 2)
-    matrix = Matrix.of(["map", "reference"], pairs_of, counts.reshape(-1), [legend, legend])
-    return Accuracy(matrix, Table(columns), *estimate.summary(), int(counts.sum()))
+        class_areas, errors = mapped.sum() * np.array([estimate.shares, estimate.shares_se])
+        sized = {"mapped": mapped, "area": class_areas, "area_se": errors}
+        columns += measures({f"{name}_{unit}": values for name, values in sized.items()})
+    all_pairs = np.stack([np.repeat(classes, classes.size), np.tile(classes, classes.size)], axis=1)
+    matrix = Matrix.of(["map", "reference"], all_pairs, counts.reshape(-1), [legend, legend])
+    return Accuracy(matrix, Table(columns), *estimate.summary(), cells=int(counts.sum()))
 
 
 def summary_of(result: Accuracy) -> Table:
     """Return the overall measures and the number of sample cells as a one-row table."""
     return Table(
         Column(name, "count" if name == "cells" else "measure", np.array([value]))
-        for name, value in zip(result._fields[2:], result[2:])
+        for name, value in zip(result._fields[2:], result[2:])  # without the two tables
     )
 
 
@@ -185,41 +189,42 @@ class _Estimate:
     """
 
     def __init__(self, counts: Integers, weights: Floats) -> None:
-        self._counts, self._rows = counts, counts.sum(axis=1)
-        self._within = counts / np.maximum(self._rows, 1)[:, None]
-        self._joint = weights[:, None] * self._within  # equation 4
+        self._counts, self._map_cells = counts, counts.sum(axis=1)
+        self._within = counts / np.maximum(self._map_cells, 1)[:, None]  # shares of a map class
+        self._joint = weights[:, None] * self._within  # shares of the map's area, equation 4
         self.shares = self._joint.sum(axis=0)  # equation 9
-        spread = _ratio(self._within * (1 - self._within), (self._rows - 1)[:, None])
-        self._users_variance = np.diag(spread)  # equation 6
-        self._squares = np.where(weights[:, None] > 0, weights[:, None] ** 2 * spread, 0)
-        self.shares_se = np.sqrt(self._squares.sum(axis=0))  # equation 10
+        variance = _ratio(self._within * (1 - self._within), (self._map_cells - 1)[:, None])
+        self._users_variance = np.diag(variance)  # equation 6
+        self._joint_variance = np.where(weights[:, None] > 0, weights[:, None] ** 2 * variance, 0)
+        self.shares_se = np.sqrt(self._joint_variance.sum(axis=0))  # equation 10
 
     def columns(self) -> list[Column]:
         """Return columns with each class's cell counts, accuracies and standard errors."""
-        has_rows, own = self._rows > 0, np.diag(self._squares)
+        has_cells, correct = self._map_cells > 0, np.diag(self._joint_variance)
         producers = _ratio(np.diag(self._joint), self.shares)  # equation 3
         # Equation 7, with shares in place of numbers of cells.
-        others = self._squares.sum(axis=0) - own
-        spread = (1 - producers) ** 2 * own + producers**2 * others
+        wrong = self._joint_variance.sum(axis=0) - correct
+        variance = (1 - producers) ** 2 * correct + producers**2 * wrong
         values = {
-            "users": np.where(has_rows, np.diag(self._within), np.nan),  # equation 2
-            "users_se": np.where(has_rows, np.sqrt(self._users_variance), np.nan),
+            "users": np.where(has_cells, np.diag(self._within), np.nan),  # equation 2
+            "users_se": np.where(has_cells, np.sqrt(self._users_variance), np.nan),
             "producers": producers,
-            "producers_se": _ratio(np.sqrt(np.maximum(spread, 0)), self.shares),
+            "producers_se": _ratio(np.sqrt(np.maximum(variance, 0)), self.shares),
         }
-        cells = {"cells_map": self._rows, "cells_reference": self._counts.sum(axis=0)}
+        cells = {"cells_map": self._map_cells, "cells_reference": self._counts.sum(axis=0)}
         return [*(Column(name, "count", part) for name, part in cells.items()), *measures(values)]
 
     def summary(self) -> tuple[float, float, float, float, float]:
         """Return the overall accuracy, its standard error, kappa, and the two disagreements."""
         overall = float(np.trace(self._joint))  # equation 1
-        overall_se = math.sqrt(np.trace(self._squares))  # equation 5
-        marginal = self._joint.sum(axis=1)
-        chance = float(marginal @ self.shares)
-        kappa = (overall - chance) / (1 - chance) if len(marginal) > 1 and chance < 1 else math.nan
+        overall_se = math.sqrt(np.trace(self._joint_variance))  # equation 5
+        map_shares = self._joint.sum(axis=1)
+        chance = float(map_shares @ self.shares)
+        is_defined = len(map_shares) > 1 and chance < 1
+        kappa = (overall - chance) / (1 - chance) if is_defined else math.nan
         # Pontius and Millones 2011, International Journal of Remote Sensing 32. Only wrong cells
         # are summed, so that both results are exactly 0 for a perfect map.
-        wrong = self._joint * (1 - np.eye(len(marginal)))
+        wrong = self._joint * (1 - np.eye(len(map_shares)))
         too_much, missed = wrong.sum(axis=1), wrong.sum(axis=0)
         quantity = float(np.abs(too_much - missed).sum() / 2)
         allocation = float(np.minimum(too_much, missed).sum())
@@ -231,16 +236,16 @@ def _ratio(above: Any, below: Any) -> Floats:
     return np.asarray(above / np.where(np.asarray(below) > 0, below, np.nan))
 
 
-def _check_strata(classes: Integers, mapped: Floats, rows: Integers) -> None:
+def _check_strata(classes: Integers, mapped: Floats, cells: Integers) -> None:
     """Raise an error if a class has an area but no sample cells, or sample cells but no area."""
-    lacking = classes[(mapped > 0) & (rows == 0)].tolist()
+    lacking = classes[(mapped > 0) & (cells == 0)].tolist()
     if lacking:
         problem = (
             "each map class with an area must have sample cells; got none for "
             f"{first_of(lacking)}"
         )
         raise Refused(f"{problem}: add cells, or merge the class with another one", "reference")
-    extra = classes[(mapped == 0) & (rows > 0)].tolist()
+    extra = classes[(mapped == 0) & (cells > 0)].tolist()
     if extra:
         problem = f"must include each class in the sample; got no area for {first_of(extra)}"
         raise BadArgument("areas", problem)
@@ -259,13 +264,14 @@ def _pairs_of(
 ) -> tuple[Integers, Optional[Maps]]:
     """Count the sample cells of each pair of map class and reference class.
 
-    Returns the counts and the maps. The maps are None if the reference is a table and no map is
-    given. Warns if points are treated as a random sample but do not look like one.
+    Returns rows of (map class, reference class, cells) and the maps. The maps are None if the
+    reference is a table and no map is given. Warns if points are to be treated as a random sample
+    (`is_random`) but do not look like one.
     """
     points = open_features("reference", reference, layer)
     if points is None:
-        for name, word in (("field", field), ("layer", layer)):
-            if word is not None:
+        for name, value in (("field", field), ("layer", layer)):
+            if value is not None:
                 raise BadArgument(name, "requires points, but reference has no points")
         pairs = _pairs_of_table(reference)
         if pairs is not None:
@@ -275,35 +281,39 @@ def _pairs_of(
     source = source_of("map", map)
     if points is None:
         maps = Maps({"map": source, "reference": reference}, crs)
-        return maps.tables("r.stats -c -n input=map,reference")[0], maps
+        [pairs] = maps.tables("r.stats -c -n input=map,reference")
+        return pairs, maps
     placed = points_of(points, field, source, crs)
     maps = Maps({"map": source, "point": placed.map}, crs)
-    found, counts = maps.tables("r.stats -n input=point,map\nr.stats -c -n input=map")
-    pairs = placed.pairs(found)
+    point_classes, class_counts = maps.tables("r.stats -n input=point,map\nr.stats -c -n input=map")
+    pairs = placed.pairs(point_classes)
     if is_random:
-        _warn_of_strata(pairs, counts)
+        _warn_of_strata(pairs, class_counts)
     return pairs, maps
 
 
-def _warn_of_strata(pairs: Integers, counts: Integers) -> None:
+def _warn_of_strata(pairs: Integers, class_counts: Integers) -> None:
     """Warn if a chi-squared test finds a sample's class shares implausible for a random sample.
 
-    The rarest classes are pooled. The critical value uses the Wilson-Hilferty approximation.
+    `pairs` is as in `_pairs_of`; `class_counts` has rows of (class, cells) for the full map. The
+    rarest classes are pooled, so that no expected count is below `_FEWEST`. The critical value uses
+    the Wilson-Hilferty approximation.
     """
-    drawn = np.zeros(len(counts))
-    np.add.at(drawn, np.searchsorted(counts[:, 0], pairs[:, 0]), pairs[:, 2])
-    order = np.argsort(counts[:, 1], kind="stable")
-    expected = counts[order, 1] * (drawn.sum() / max(counts[:, 1].sum(), 1))
+    classes, cells = class_counts.T
+    drawn = np.zeros(classes.size)
+    np.add.at(drawn, np.searchsorted(classes, pairs[:, 0]), pairs[:, 2])
+    order = np.argsort(cells, kind="stable")
+    expected = cells[order] * (drawn.sum() / max(cells.sum(), 1))
     rare = np.count_nonzero(expected < _FEWEST)
     pooled = max(rare, int(np.searchsorted(np.cumsum(expected), _FEWEST)) + 1)
-    freedom = len(counts) - pooled
+    freedom = classes.size - pooled
     if freedom < 1:
         return
-    first = [0, *range(pooled, len(counts))]
+    first = [0, *range(pooled, classes.size)]
     drawn = np.add.reduceat(drawn[order], first)
     expected = np.add.reduceat(expected, first)
-    spread = 2 / (9 * freedom)
-    limit = freedom * (1 - spread + _DEVIATE * math.sqrt(spread)) ** 3
+    variance = 2 / (9 * freedom)
+    limit = freedom * (1 - variance + _DEVIATE * math.sqrt(variance)) ** 3
     if ((drawn - expected) ** 2 / expected).sum() > limit:
         problem = "the shares of the map's classes differ between the sample and the map"
         remedy = f"if the sample was drawn class by class, use {option('areas', 'map')}"
@@ -317,10 +327,11 @@ def _pairs_of_table(reference: Any) -> Optional[Integers]:
     """
     is_path = isinstance(reference, (str, os.PathLike))
     is_file = is_path and os.path.splitext(os.fspath(reference))[1].lower() in _TABLES
-    if not is_file and not hasattr(reference, "columns"):
+    is_frame = hasattr(reference, "columns")  # pandas is not imported
+    if not is_file and not is_frame:
         return None
     pairs = []
-    for place, row in rows_of("reference", reference, ("map", "reference"), ("cells",)):
+    for place, row in rows_of("reference", reference, ("map", "reference"), optional=("cells",)):
         mapped, actual = row["map"], row["reference"]
         if any(is_missing(value) or value == "" for value in (mapped, actual)):
             continue
@@ -331,10 +342,10 @@ def _pairs_of_table(reference: Any) -> Optional[Integers]:
                 problem = f"{field!r} is not a valid class or number of cells"
                 raise Refused(f"{place}: {problem}", "reference")
             numbers.append(number)
-        if numbers[2] < 0:
-            raise Refused(
-                f"{place}: the number of cells must not be negative; got {numbers[2]}", "reference"
-            )
+        *_, cells = numbers
+        if cells < 0:
+            problem = f"the number of cells must not be negative; got {cells}"
+            raise Refused(f"{place}: {problem}", "reference")
         pairs.append(numbers)
     return np.array(pairs, np.int64).reshape(-1, 3)
 
@@ -352,21 +363,21 @@ def _sizes_of(
         if maps is None:
             raise BadArgument("areas", 'must list areas by class if no map is given; got "map"')
         measure = maps.measure(area)
-        counts = maps.counts([["map"]], measure)[0]
+        [counts] = maps.counts([["map"]], measure)
         known = zip(counts.classes[:, 0].tolist(), counts.areas(measure).tolist())
         return {code: float(size) for code, size in known}, measure.unit
-    unit = None if area is None else "ha" if area == AUTO else area
+    unit = "ha" if area == AUTO else area
     if unit is not None and unit not in UNITS_OF_AREA:
-        unit_of(area, crs)
+        unit_of(area, crs)  # raises an error that lists the units
     return dict(_sizes_given(areas)), unit
 
 
 def _sizes_given(areas: Any) -> Any:
     """Yield (class, area) pairs from a dict, a Series, a CSV file or a DataFrame."""
-    if isinstance(areas, (str, os.PathLike)) or hasattr(areas, "columns"):
+    if isinstance(areas, (str, os.PathLike)) or hasattr(areas, "columns"):  # a DataFrame
         rows = rows_of("areas", areas, ("value", "area"))
         listed = [(f"{place}: ", row["value"], row["area"]) for place, row in rows]
-    elif hasattr(areas, "items"):
+    elif hasattr(areas, "items"):  # a dict or a Series
         listed = [("", code, number) for code, number in areas.items()]
     else:
         rule = f'must be "map" or areas by class, for example {{1: 18000}}; got {areas!r}'

@@ -52,13 +52,15 @@ def adjacency(map: MapLike, *, labels: Any = None, crs: Any = None) -> Table:
     2      2          2      2      20.0
     """
     maps = Maps({"map": map}, crs)
-    pairs, flanks, ends = sides_of(*maps.tables("\n".join(side_lines("map"))))
-    unit = maps.measure(None).length()
-    width, height = maps.first.transform[0], -maps.first.transform[4]
+    right, below = maps.tables("\n".join(side_lines("map")))
+    pairs, flanks, ends = sides_of(right, below)
+    metres = maps.measure(area=None).length()
+    width, _, _, _, height, _ = maps.first.transform  # the height is negative
     legend = legend_for(labels, maps.sources["map"].labels, [("map", pairs)])
     columns = coded("class", pairs[:, 0], legend, "label") + coded("neighbour", pairs[:, 1], legend)
-    columns.append(Column("sides", "count", flanks + ends))
-    return Table([*columns, Column("border_m", "measure", (flanks * height + ends * width) * unit)])
+    border = (flanks * -height + ends * width) * metres
+    columns += [Column("sides", "count", flanks + ends), Column("border_m", "measure", border)]
+    return Table(columns)
 
 
 def side_lines(name: str) -> list[str]:
@@ -74,13 +76,13 @@ def side_lines(name: str) -> list[str]:
 def sides_of(right: Integers, below: Integers) -> tuple[Integers, Integers, Integers]:
     """Return each pair of classes once, with the numbers of cell sides that the pair shares.
 
-    Returns the pairs, the number of sides between cells in the same row, and the number of sides
-    between cells in the same column.
+    Returns the pairs, the number of sides between cells in the same row (flanks), and the number of
+    sides between cells in the same column (ends). The arguments are the tables of `side_lines`.
     """
-    pairs = np.sort(np.concatenate([right[:, :2], below[:, :2]]), axis=1)
-    kinds, pair_of = np.unique(pairs, axis=0, return_inverse=True)
-    pair_of = pair_of.reshape(-1)
-    flanks, ends = np.zeros((2, len(kinds)), np.int64)
-    np.add.at(flanks, pair_of[: len(right)], right[:, 2])
-    np.add.at(ends, pair_of[len(right) :], below[:, 2])
-    return kinds, flanks, ends
+    ordered = np.sort(np.concatenate([right[:, :2], below[:, :2]]), axis=1)
+    pairs, indices = np.unique(ordered, axis=0, return_inverse=True)
+    indices = indices.reshape(-1)  # NumPy 2.0 returns a column
+    flanks, ends = np.zeros((2, len(pairs)), np.int64)
+    np.add.at(flanks, indices[: len(right)], right[:, 2])
+    np.add.at(ends, indices[len(right) :], below[:, 2])
+    return pairs, flanks, ends

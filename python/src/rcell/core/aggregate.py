@@ -131,7 +131,7 @@ def aggregate(map: MapLike, factor: int, min_percent: float = 0, *, crs: Any = N
     >>> found.majority.array.tolist()
     [[1, None]]
     """
-    whole_number_of("factor", factor, 1, MAX_CATEGORY)
+    whole_number_of("factor", factor, least=1, most=MAX_CATEGORY)
     if not is_number(min_percent) or not 0 <= min_percent <= 100:
         raise BadArgument("min_percent", f"must be a number from 0 to 100; got {min_percent!r}")
     maps = Maps({"map": map}, crs)
@@ -140,15 +140,16 @@ def aggregate(map: MapLike, factor: int, min_percent: float = 0, *, crs: Any = N
     if rows * cols > MAX_CATEGORY:
         rule = f"must produce at most {MAX_CATEGORY} blocks"
         raise BadArgument("factor", f"{rule}; got {factor}, which produces {rows * cols}")
+    # The program's row() and col() begin at 1, and its / drops the remainder.
     script = f"r.mapcalc block = (row() - 1) / {factor} * {cols} + (col() - 1) / {factor}"
-    entries = maps.tables(f"{script}\nr.stats -c -n input=block,map")[0]
+    [entries] = maps.tables(f"{script}\nr.stats -c -n input=block,map")
     classes, indices = np.unique(entries[:, 1], return_inverse=True)
-    entries[:, 1] = indices.reshape(-1)
-    most, cells = _counted(entries, classes, rows * cols)
-    most[cells * 100.0 < min_percent * factor**2] = NULL
+    entries[:, 1] = indices.reshape(-1)  # as in BlockShares: indices in place of classes
+    majorities, cells = _counted(entries, classes, blocks=rows * cols)
+    majorities[cells * 100.0 < min_percent * factor**2] = NULL
     width, _, west, _, height, north = source.transform
     transform = (width * factor, 0.0, west, 0.0, height * factor, north)
-    array = most.reshape(rows, cols).astype(np.int32)
+    array = majorities.reshape(rows, cols).astype(np.int32)
     majority = ArrayMap(
         "majority",
         array,
@@ -161,10 +162,10 @@ def aggregate(map: MapLike, factor: int, min_percent: float = 0, *, crs: Any = N
         files=source.files,
     )
     counts = cells.reshape(rows, cols)
-    counted = dataclasses.replace(
+    cells_map = dataclasses.replace(
         majority, name="cells", array=counts, null=None, labels={}, colors={}
     )
-    return Aggregate(majority, BlockShares(majority, classes.tolist(), entries, cells), counted)
+    return Aggregate(majority, BlockShares(majority, classes.tolist(), entries, cells), cells_map)
 
 
 def _counted(entries: Integers, classes: Integers, blocks: int) -> tuple[Integers, Integers]:
@@ -175,11 +176,12 @@ def _counted(entries: Integers, classes: Integers, blocks: int) -> tuple[Integer
     """
     block, index, count = entries.T
     first = places_of(block)
-    most, cells = np.full(blocks, NULL, np.int64), np.zeros(blocks, np.int64)
+    majorities, cells = np.full(blocks, NULL, np.int64), np.zeros(blocks, np.int64)
     if first.size:
-        # In a tie, the smallest class has the largest key.
-        ranks = count * classes.size + (classes.size - 1 - index)
-        best = np.maximum.reduceat(ranks, first) % classes.size
-        most[block[first]] = classes[classes.size - 1 - best]
+        # The largest key of a block has the largest count and, in a tie, the smallest class.
+        last = classes.size - 1
+        keys = count * classes.size + (last - index)
+        best = last - np.maximum.reduceat(keys, first) % classes.size
+        majorities[block[first]] = classes[best]
         cells[block[first]] = np.add.reduceat(count, first)
-    return most, cells
+    return majorities, cells

@@ -112,6 +112,7 @@ def align(
             {"to": like.crs, "map": source.crs}, crs, titles={"to": like.name, "map": source.name}
         )
     except OtherCrs as fault:
+        # Different systems are an error, unless cells are resampled and both systems are known.
         if resample is None or source.crs is None or like.crs is None:
             fault.advice = None if resample else 'rcell.align(.., resample="nearest")'
             raise
@@ -121,6 +122,7 @@ def align(
         aligned = _shifted(source, like, target, resample)
     else:
         aligned = _projected(source, like, target)
+    # The other map's transform is kept only if it leads to the other map's region.
     is_exact = Region.from_transform(like.transform, *like.region.shape) == like.region
     moved = ArrayMap(
         source.name,
@@ -184,12 +186,12 @@ class _Axis(NamedTuple):
     """The rows (or columns) of a map that a grid uses.
 
     `taken` lists the used rows of the map in ascending order, `first` is the grid's first row
-    inside the map, and `often` counts how often the grid uses each row of the map.
+    inside the map, and `uses` counts how often the grid uses each row of the map.
     """
 
     taken: NDArray[np.int64]
     first: int
-    often: NDArray[np.int64]
+    uses: NDArray[np.int64]
 
     @classmethod
     def of(cls, centres: NDArray[np.float64], size: int) -> _Axis:
@@ -201,13 +203,12 @@ class _Axis(NamedTuple):
         inside = np.flatnonzero((indices >= 0) & (indices < size))
         taken = indices[inside]
         first = int(inside[0]) if inside.size else 0
-        often = np.bincount(taken, minlength=size)
-        return cls(taken, first, often)
+        return cls(taken, first, np.bincount(taken, minlength=size))
 
     def part(self, begin: int, end: int) -> tuple[slice, Any]:
         """Return the grid rows that use a range of map rows, and the indices used in the range."""
         low, high = (int(place) for place in np.searchsorted(self.taken, (begin, end)))
-        return slice(self.first + low, self.first + high), _run(self.taken[low:high] - begin)
+        return slice(self.first + low, self.first + high), _as_slice(self.taken[low:high] - begin)
 
 
 def _shifted(source: Source, like: Source, target: _Target, resample: Optional[str]) -> Aligned:
@@ -220,28 +221,30 @@ def _shifted(source: Source, like: Source, target: _Target, resample: Optional[s
         cure = f"use {option('resample', 'nearest')} to get the nearest cells"
         raise OtherRegion(source.name, f"{shift.misfit(like.name)}: {cure}")
     rows, cols = map(_Axis.of, shift.centres(), source.region.shape)
-    right, across = cols.part(0, source.region.cols)
-    row = known = used = once = 0
+    target_cols, source_cols = cols.part(0, source.region.cols)
+    row = not_null = used = once = 0
     for block in source.blocks():
         end = row + len(block.cells)
         null = _null_of(source, block)
-        low, down = rows.part(row, end)
-        target.put((low, right), block.cells[down][:, across], null[down][:, across])
-        often = rows.often[row:end]
-        known += null.size - int(np.count_nonzero(null))
-        used += int(np.count_nonzero(~null[often > 0][:, cols.often > 0]))
-        once += int(np.count_nonzero(~null[often == 1][:, cols.often == 1]))
+        target_rows, block_rows = rows.part(row, end)
+        cells = block.cells[block_rows][:, source_cols]
+        target.put((target_rows, target_cols), cells, null[block_rows][:, source_cols])
+        uses = rows.uses[row:end]
+        not_null += null.size - int(np.count_nonzero(null))
+        used += int(np.count_nonzero(~null[uses > 0][:, cols.uses > 0]))
+        once += int(np.count_nonzero(~null[uses == 1][:, cols.uses == 1]))
         row = end
-    return Aligned(shift.rows, shift.cols, used, used - once, known - used)
+    repeated, lost = used - once, not_null - used
+    return Aligned(shift.rows, shift.cols, used, repeated, lost)
 
 
-def _run(places: NDArray[np.int64]) -> Any:
+def _as_slice(indices: NDArray[np.int64]) -> Any:
     """Return consecutive indices as a slice, for speed, and other indices unchanged."""
-    if not places.size:
+    # Evenly spaced rows repeat indices or skip some, never both, so comparing lengths is enough.
+    if not indices.size:
         return slice(0, 0)
-    if places[-1] - places[0] + 1 != places.size:
-        return places
-    return slice(int(places[0]), int(places[-1]) + 1)
+    first, last = int(indices[0]), int(indices[-1])
+    return slice(first, last + 1) if last + 1 - first == indices.size else indices
 
 
 def _projected(source: Source, like: Source, target: _Target) -> Aligned:
@@ -249,11 +252,11 @@ def _projected(source: Source, like: Source, target: _Target) -> Aligned:
     system, source_system = known(like.crs), known(source.crs)
     assert system is not None and source_system is not None
     width, _, west, _, height, north = source.transform
-    rows, cols = shape = source.region.shape
-    windows: Any = source if has_windows(source) else _held(source)
-    often = cells_for(shape, np.uint8)  # 2 means two or more
-    often[...] = 0
-    is_met = False
+    rows, cols = source.region.shape
+    windows: Any = source if has_windows(source) else _in_memory(source)
+    uses = cells_for((rows, cols), np.uint8)  # 2 means two or more
+    uses[...] = 0
+    overlaps = False
     for place in rectangles_of(like.region.shape, (_SIDE, _SIDE)):
         x, y = system.points(source_system, *_centres(like, place))
         down = np.floor((y - north) / height + _ON_BORDER)
@@ -261,18 +264,19 @@ def _projected(source: Source, like: Source, target: _Target) -> Aligned:
         is_inside = (down >= 0) & (down < rows) & (across >= 0) & (across < cols)
         if not is_inside.any():
             continue
-        is_met = True
+        overlaps = True
         window = _Window.of(down[is_inside], across[is_inside])
         block = windows.window(*window.place)
         cells = block.cells.reshape(-1)[window.flat]
         null = _null_of(source, block).reshape(-1)[window.flat]
         target.put(place.slices, cells, null, is_inside)
-        window.note(often, null)
-    if not is_met:
+        window.note(uses, null)
+    if not overlaps:
         raise BadMap(source.name, f"has no cell in the extent of `{like.name}`")
     total = sum(int(np.count_nonzero(~_null_of(source, block))) for block in source.blocks())
-    used, repeated = int(np.count_nonzero(often)), int(np.count_nonzero(often > 1))
-    return Aligned(None, None, used, repeated, total - used)
+    used, repeated = int(np.count_nonzero(uses)), int(np.count_nonzero(uses > 1))
+    no_shift = (None, None)
+    return Aligned(*no_shift, used, repeated, cells_lost=total - used)
 
 
 class _Window(NamedTuple):
@@ -290,14 +294,14 @@ class _Window(NamedTuple):
         across_in_window = across.astype(np.int64) - left
         return cls(Rectangle(top, left, rows, cols), down_in_window * cols + across_in_window)
 
-    def note(self, often: NDArray[np.uint8], null: Mask) -> None:
+    def note(self, uses: NDArray[np.uint8], null: Mask) -> None:
         """Count how often each non-null cell has been used, up to 2."""
-        part = often[self.place.slices]
+        part = uses[self.place.slices]
         times = np.bincount(self.flat[~null], minlength=self.place.cells)
         part[...] = np.minimum(times.reshape(part.shape) + part, 2)
 
 
-def _held(source: Source) -> ArrayMap:
+def _in_memory(source: Source) -> ArrayMap:
     """Read a map that cannot be read in windows, such as a text grid, into memory."""
     blocks = list(source.blocks())
     cells = np.concatenate([block.cells for block in blocks])

@@ -52,20 +52,19 @@ def row_areas(
         problem = f"the map extends beyond the pole: {side} is {math.degrees(edge):.10g}"
         raise Refused(problem, "map")
     upper, lower = np.minimum(edges[:-1], math.pi / 2), np.maximum(edges[1:], -math.pi / 2)
+    is_cut_at_pole = (upper < edges[:-1]) | (lower > edges[1:])
+    step = np.where(is_cut_at_pole, upper - lower, height)
     # The difference of the sines, from a product: a subtraction would lose digits for thin rows.
-    step = np.where((upper < edges[:-1]) | (lower > edges[1:]), upper - lower, height)
-    risen = 2 * np.cos((upper + lower) / 2) * np.sin(step / 2)
+    sines = 2 * np.cos((upper + lower) / 2) * np.sin(step / 2)
     if flattening == 0:
-        return np.asarray(width * axis**2 * risen)
-    squared = flattening * (2 - flattening)
-    e, s1, s2 = math.sqrt(squared), np.sin(upper), np.sin(lower)
-    middle = risen * (1 + squared * s1 * s2) / ((1 - squared * s1**2) * (1 - squared * s2**2))
-    return np.asarray(
-        width
-        / 2
-        * (axis * (1 - flattening)) ** 2
-        * (middle + np.arctanh(e * risen / (1 - squared * s1 * s2)) / e)
-    )
+        return np.asarray(width * axis**2 * sines)
+    e2 = flattening * (2 - flattening)  # the eccentricity squared
+    e, s1, s2 = math.sqrt(e2), np.sin(upper), np.sin(lower)
+    # The terms of equation 3-12 for both parallels, subtracted as fractions and logarithms.
+    fractions = sines * (1 + e2 * s1 * s2) / ((1 - e2 * s1**2) * (1 - e2 * s2**2))
+    logarithms = np.arctanh(e * sines / (1 - e2 * s1 * s2)) / e
+    semi_minor = axis * (1 - flattening)
+    return np.asarray(width / 2 * semi_minor**2 * (fractions + logarithms))
 
 
 @dataclass(frozen=True)
@@ -137,13 +136,13 @@ def measure_of(area: Any, source: Source, crs: Any) -> Measure:
         The reference system is neither geographic nor projected, so cells have no area.
     """
     unit = unit_of(area, crs)
-    metres = _metres(crs, unit is not None)
+    metres = _metres(crs, is_needed=unit is not None)
     divisor = UNITS_OF_AREA.get(unit or "", 1.0)
     if unit is None or metres is None:
-        return Measure(unit, divisor, 1.0, None, metres)
+        return Measure(unit, divisor, cell=1.0, by_row=None, metres=metres)
     if math.isnan(metres):
-        return Measure(unit, divisor, 1.0, _by_row(source, crs), metres)
-    return Measure(unit, divisor, _cell(source.transform, metres), None, metres)
+        return Measure(unit, divisor, cell=1.0, by_row=_by_row(source, crs), metres=metres)
+    return Measure(unit, divisor, _cell(source.transform, metres), by_row=None, metres=metres)
 
 
 def flat_measure(area: str, transform: Transform, crs: Any) -> Measure:
@@ -155,13 +154,13 @@ def flat_measure(area: str, transform: Transform, crs: Any) -> Measure:
         The map is in degrees. See `measure_of` for other reasons.
     """
     unit = unit_of(area, crs)
-    metres = _metres(crs, True)
+    metres = _metres(crs, is_needed=True)
     assert unit is not None and metres is not None
     if math.isnan(metres):
         rule = "requires a map in metres or feet, but this map is in degrees"
         advice = "use composition or cross, which compute the cell area of each row"
         raise BadArgument("area", f"{rule}: {advice}")
-    return Measure(unit, UNITS_OF_AREA[unit], _cell(transform, metres), None, metres)
+    return Measure(unit, UNITS_OF_AREA[unit], _cell(transform, metres), by_row=None, metres=metres)
 
 
 def metres_of(name: str, crs: Any, advice: str = "") -> float:
@@ -169,7 +168,7 @@ def metres_of(name: str, crs: Any, advice: str = "") -> float:
     if crs is None:
         rule = "requires a coordinate reference system, but the map has none"
         raise BadArgument(name, f"{rule}: state it, for example {option('crs', 'EPSG:25832')}")
-    metres = _metres(crs, True)
+    metres = _metres(crs, is_needed=True)
     if metres is None or math.isnan(metres):
         rule = "requires a map in metres or feet, but this map is in degrees"
         raise BadArgument(name, rule + advice)
@@ -178,7 +177,8 @@ def metres_of(name: str, crs: Any, advice: str = "") -> float:
 
 def _cell(transform: Transform, metres: float) -> float:
     """Return the area of a cell in square metres."""
-    return -transform[4] * transform[0] * metres**2
+    width, _, _, _, height, _ = transform  # the height is negative
+    return -height * width * metres**2
 
 
 def unit_of(area: Any, crs: Any) -> str | None:
@@ -201,7 +201,7 @@ def unit_of(area: Any, crs: Any) -> str | None:
 
 
 def _metres(crs: Any, is_needed: bool) -> float | None:
-    """Return the unit's length in metres, NaN for degrees, or None if the length is unknown."""
+    """Return the unit's length in metres, NaN for degrees, or None if unknown and not needed."""
     system = known(crs) if is_needed or crs is None else _understood(crs)
     if system is None:
         return None
@@ -224,7 +224,7 @@ def _by_row(source: Source, crs: Any) -> NDArray[np.float64]:
     assert system is not None
     width, _, _, _, height, north = source.transform
     return row_areas(
-        north * system.unit,
+        north * system.unit,  # radians
         -height * system.unit,
         width * system.unit,
         source.region.rows,

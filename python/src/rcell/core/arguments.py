@@ -79,6 +79,7 @@ def classes_of(classes: Any) -> Optional[List[int]]:
         return None
     numbers_of_classes = []
     for value in list_of("classes", classes, "whole numbers, for example [31, 32]"):
+        # NaN is not <= MAX_CATEGORY, so int() is called only for finite numbers.
         if not is_number(value) or not abs(value) <= MAX_CATEGORY or value != int(value):
             limits = f"from -{MAX_CATEGORY} to {MAX_CATEGORY}"
             raise BadArgument("classes", f"must be whole numbers {limits}; got {value!r}")
@@ -126,8 +127,8 @@ def check_arguments(call: Callable[..., Any], named: Iterable[str]) -> None:
     rcell.BadArgument: last is not an argument of first_of: the arguments are values, most
     """
     known = inspect.signature(call).parameters
-    if any(each.kind is inspect.Parameter.VAR_KEYWORD for each in known.values()):
-        return
+    if any(parameter.kind is inspect.Parameter.VAR_KEYWORD for parameter in known.values()):
+        return  # a call with **named accepts any name
     for name in named:
         if name not in known:
             rule = f"is not an argument of {call.__name__}: {known_names('argument', known)}"
@@ -154,12 +155,13 @@ def check_named_maps(maps: Any, named: Mapping[str, Any], words: Iterable[str]) 
     """
     known = list(words)
     for name, value in named.items():
-        close = difflib.get_close_matches(name, known, 1, 0.75)
+        close = difflib.get_close_matches(name, known, n=1, cutoff=0.75)
         if close and not _may_be_map(value):
             problem = f"is not an argument, and {value!r} is not a map: did you mean {close[0]}=?"
             raise BadArgument(name, problem)
-    is_mapping = isinstance(maps, Mapping) or hasattr(maps, "data_vars")
-    if is_mapping and len(maps) or (maps is None and named):
+    is_dataset = hasattr(maps, "data_vars")  # xarray is not imported
+    is_mapping = isinstance(maps, Mapping) or is_dataset
+    if (is_mapping and len(maps)) or (maps is None and named):
         return
     description = "none"
     if maps is not None and not is_mapping:

@@ -36,7 +36,7 @@ class Watch:
     def __init__(self, name: str, source: Any, shape: tuple[int, int]) -> None:
         self._name = name
         self._shape = shape
-        self._scale = getattr(source, "scale", 1)
+        self._scale = getattr(source, "scale", 1)  # blocks of a scaled map are already multiplied
         self._values = [
             value for value in _USUAL if _may_be_undeclared(source, value * self._scale)
         ]
@@ -73,9 +73,10 @@ class Watch:
 
 def watched(name: str, source: Source) -> Iterator[Block]:
     """Yield a map's blocks, then warn if a common nodata value fills over half of the border."""
-    watch, row = Watch(name, source, source.region.shape), 0
+    watch = Watch(name, source, source.region.shape)
+    row = 0
     for block in source.blocks():
-        watch.add(block, row, 0)
+        watch.add(block, row, col=0)
         row += len(block.cells)
         yield block
     watch.finish()
@@ -99,9 +100,10 @@ def _border(
 
     The block begins at the given row and column of the map.
     """
-    (rows, cols), (high, wide) = shape, block.cells.shape
+    rows, cols = shape
+    high, wide = block.cells.shape
     is_last = row + high == rows and rows > 1
-    inner = slice(int(row == 0), high - is_last)
+    inner = slice(int(row == 0), high - is_last)  # without corners, which rows include
     parts: list[Any] = [np.s_[:0, 0]]  # no cells, if the block does not touch the border
     if row == 0:
         parts.append(np.s_[0, :])

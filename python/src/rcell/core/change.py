@@ -3,6 +3,7 @@
 
 from __future__ import annotations
 
+import itertools
 import numbers
 from collections.abc import Iterable, Mapping, Sequence
 from dataclasses import dataclass
@@ -110,12 +111,13 @@ def change(
     measure = maps.measure(area)
     names = list(maps.sources)
     pairs = maps.counts(list(zip(names, names[1:])), measure)
-    own = [maps.sources[name].labels for name in names]
-    shared: Labels = next(filter(None, own), {})
+    map_labels = [maps.sources[name].labels for name in names]
+    first_labels: Labels = next(filter(None, map_labels), {})
     if labels is not None:
         occurring = [(name, _classes_of(pairs, index)) for index, name in enumerate(names)]
-        own = [legend_for(labels, {}, occurring)] * len(names)
-    changes = _Changes(pairs, checked, [labels_of_map or shared for labels_of_map in own], measure)
+        map_labels = [legend_for(labels, own={}, classes=occurring)] * len(names)
+    all_labels = [own or first_labels for own in map_labels]
+    changes = _Changes(pairs, checked, all_labels, measure)
     return Change(changes.table(), changes.matrix(), changes.summary())
 
 
@@ -136,14 +138,15 @@ def maps_in_time(maps: Any, years: Any) -> tuple[list[Any], Any]:
     if "time" in getattr(maps, "dims", ()):
         from ..readers.xarray import series_of
 
-        bands, own = series_of(maps)
-        return list(bands), own if years is None else years
-    return list(maps) if isinstance(maps, (list, tuple)) else [maps], years
+        bands, own_years = series_of(maps)
+        return list(bands), own_years if years is None else years
+    listed = list(maps) if isinstance(maps, (list, tuple)) else [maps]
+    return listed, years
 
 
-def checked_years(years: Any, maps: int) -> Optional[list[int]]:
+def checked_years(years: Any, map_count: int) -> Optional[list[int]]:
     """Return the years as a list, or raise BadArgument unless each map has one year."""
-    if years is None and maps == 2:
+    if years is None and map_count == 2:
         return None
     if isinstance(years, str) or not (years is None or isinstance(years, Iterable)):
         rule = f"must be a list of whole numbers, for example [2000, 2020]; got {years!r}"
@@ -154,8 +157,8 @@ def checked_years(years: Any, maps: int) -> Optional[list[int]]:
             raise BadArgument("years", f"must be whole numbers; got {year!r}")
         if listed.count(year) > 1:
             raise BadArgument("years", f"must differ; got {year} twice")
-    if len(listed) != maps:
-        rule = f"must list one year for each map; got {len(listed) or 'none'} for {maps} maps"
+    if len(listed) != map_count:
+        rule = f"must list one year for each map; got {len(listed) or 'none'} for {map_count} maps"
         raise BadArgument("years", rule)
     return [int(year) for year in listed]
 
@@ -184,7 +187,8 @@ class _Changes:
         columns = self._years_of([pair.cells.size for pair in self.pairs])
         for place, name in enumerate(("from", "to")):
             classes = [pair.classes[:, place] for pair in self.pairs]
-            columns += self._with_labels(name, f"{name}_label", classes, self.labels[place:])
+            labels = self.labels[place:]  # of the earlier or the later map of each pair
+            columns += self._with_labels(name, f"{name}_label", classes, labels)
         cells = np.concatenate([pair.cells for pair in self.pairs])
         area = np.concatenate([pair.areas(self.measure) for pair in self.pairs])
         percent = np.concatenate([pair.percent() for pair in self.pairs])
@@ -193,25 +197,25 @@ class _Changes:
     def matrix(self) -> Matrix:
         """Return a matrix with a row for each earlier class and a column for each later class."""
         after = np.unique(np.concatenate([pair.classes[:, 1] for pair in self.pairs]))
-        is_sized = self.measure.unit is not None
-        parts = [
-            _matrix_of(pair, pair.areas(self.measure) if is_sized else pair.cells, after)
-            for pair in self.pairs
-        ]
-        classes = [before for before, _ in parts]
+        classes, parts = [], []
+        for pair in self.pairs:
+            measured = pair.cells if self.measure.unit is None else pair.areas(self.measure)
+            before, values = _matrix_of(pair, measured, after)
+            classes.append(before)
+            parts.append(values)
         keys = self._years_of([before.size for before in classes])
-        taken = [*(column.name for column in keys), "from"]
         later: dict[int, str] = {}
         for labels in self.labels[1:]:
             later.update(labels)
+        # The columns share one axis; the rows of each pair of years are an axis of their own.
         axes = [(after, later), *zip(classes, self.labels)]
-        titles, *texts = distinct_names(axes, taken)
-        if any(self.labels):
-            keys.append(Column("from", "label", [text for part in texts for text in part]))
+        titles, *texts = distinct_names(axes, taken=[*(key.name for key in keys), "from"])
+        has_labels = any(self.labels)
+        if has_labels:
+            keys.append(Column("from", "label", list(itertools.chain(*texts))))
         else:
             keys.append(Column("from", "class", np.concatenate(classes)))
-        values = np.concatenate([part for _, part in parts])
-        return Matrix(keys, "to", titles, values, not any(self.labels))
+        return Matrix(keys, "to", titles, np.concatenate(parts), is_numbered=not has_labels)
 
     def summary(self) -> Table:
         """Return a table of each class's areas, gain, loss, net change, swap and persistence."""
@@ -220,12 +224,12 @@ class _Changes:
             codes, sums = _summary_of(pair, pair.weights())
             classes.append(codes)
             parts.append(sums)
-        both = [{**before, **after} for before, after in zip(self.labels, self.labels[1:])]
+        both_labels = [{**before, **after} for before, after in zip(self.labels, self.labels[1:])]
         columns = self._years_of([codes.size for codes in classes])
-        columns += self._with_labels("class", "label", classes, both)
+        columns += self._with_labels("class", "label", classes, both_labels)
         values = np.concatenate(parts, axis=1)
         if self.measure.unit is not None and self.measure.by_row is None:
-            values = self.measure.area(values)
+            values = self.measure.area(values)  # in degrees, weights are already areas
         kind = "count" if self.measure.unit is None else "measure"
         for part, row in zip(_PARTS, values):
             columns.append(Column(f"{part}_{self.measure.column}", kind, row))
@@ -239,22 +243,23 @@ class _Changes:
         if self.years is None:
             return []
         years = np.array(self.years, np.int64)
-        ends = zip(_YEARS, (years[:-1], years[1:]))
-        return [Column(name, "class", np.repeat(part, rows)) for name, part in ends]
+        named_years = zip(_YEARS, (years[:-1], years[1:]))
+        return [Column(name, "class", np.repeat(part, rows)) for name, part in named_years]
 
     def _with_labels(
         self,
         name: str,
-        title: str,
+        label_name: str,
         classes: Sequence[NDArray[np.int64]],
         labels: Sequence[Labels],
     ) -> list[Column]:
         """Return the class column for all years and, if there are labels, the label column."""
         columns = [Column(name, "class", np.concatenate(classes))]
         if any(self.labels):
-            pairs = zip(classes, labels)
-            texts = [own.get(code) for codes, own in pairs for code in codes.tolist()]
-            columns.append(Column(title, "label", texts))
+            texts: list[Optional[str]] = []
+            for codes, labels_of_pair in zip(classes, labels):
+                texts += [labels_of_pair.get(code) for code in codes.tolist()]
+            columns.append(Column(label_name, "label", texts))
         return columns
 
 
@@ -272,15 +277,14 @@ def _matrix_of(
 
 
 def _summary_of(pair: Counts, measured: NDArray[Any]) -> tuple[NDArray[np.int64], NDArray[Any]]:
-    """Return the classes that occur in either year, and seven measures of change for each class."""
+    """Return the classes that occur in either year, and the measures in `_PARTS` for each class."""
     classes, indices = np.unique(pair.classes, return_inverse=True)
     before, after = indices.reshape(-1, 2).T
     persists = before == after
-    sums = np.zeros((3, classes.size), measured.dtype)
-    np.add.at(sums[0], before, measured)
-    np.add.at(sums[1], after, measured)
-    np.add.at(sums[2], before[persists], measured[persists])
-    begun, ended, same = sums
+    begun, ended, same = np.zeros((3, classes.size), measured.dtype)
+    np.add.at(begun, before, measured)
+    np.add.at(ended, after, measured)
+    np.add.at(same, before[persists], measured[persists])
     gain, loss = ended - same, begun - same
     swap = 2 * np.minimum(gain, loss)
     return classes, np.stack([begun, ended, gain, loss, ended - begun, swap, same])

@@ -25,7 +25,7 @@ from .tile_work import TileDone, TileWork, run_work
 
 __all__ = ["Cluster", "client_of", "current_client", "result_of", "run_on_worker", "sent_parts"]
 
-Made = TypeVar("Made")
+Result = TypeVar("Result")
 
 # The assumed memory per thread if a worker has no limit, or if there is no worker yet.
 _UNKNOWN = 2 << 30
@@ -37,6 +37,7 @@ PATIENCE_SECONDS = 30.0
 
 def client_of(workers: Any) -> Any:
     """Return the argument `workers` if it is a Dask client, or None otherwise."""
+    # Dask may not be installed, so a client is recognised by its methods.
     if not (hasattr(workers, "scheduler_info") and hasattr(workers, "get_executor")):
         return None
     if getattr(workers, "asynchronous", False):
@@ -94,10 +95,10 @@ class Cluster:
     @property
     def memory(self) -> int:
         """The smallest memory per thread among the workers, in bytes."""
-        limits = [
-            (worker["memory_limit"] or _UNKNOWN * worker["nthreads"]) // worker["nthreads"]
-            for worker in self._workers
-        ]
+        limits = []
+        for worker in self._workers:
+            threads, limit = worker["nthreads"], worker["memory_limit"]  # 0 or None: no limit
+            limits.append(limit // threads if limit else _UNKNOWN)
         return min(limits, default=_UNKNOWN)
 
     def submit(self, work: TileWork) -> Future[TileDone]:
@@ -106,6 +107,7 @@ class Cluster:
         If a worker is lost, another worker processes the tile.
         """
         work, states, version, arrays = sent_parts(work)
+        # The cluster computes these arrays and passes their cells to `run_on_worker`.
         cells = {name: self._client.compute(array) for name, array in arrays.items()}
         with warnings.catch_warnings():
             # Dask warns about large arguments, but a tile's cells are sent only once.
@@ -125,7 +127,7 @@ class Cluster:
         self._executor.shutdown(wait=False)
 
 
-def result_of(future: Future[Made]) -> Made:
+def result_of(future: Future[Result]) -> Result:
     """Return a tile's result, or raise the cluster's error as an error of this package."""
     try:
         return future.result()
@@ -155,7 +157,7 @@ def sent_parts(work: TileWork) -> tuple[TileWork, dict[str, State], str, dict[st
         array = chunks_of(maps[name])
         if array is not None:
             arrays[name] = array
-            maps[name] = filled(maps[name], None)
+            maps[name] = filled(maps[name], None)  # the worker fills in the computed cells
     files: list[str] = []
     for source in maps.values():
         if is_file(source):

@@ -42,7 +42,7 @@ class Column:
         if self.kind == "class":
             return [None if value == NULL else value for value in values]
         if self.kind == "measure":
-            return [None if value != value else value for value in values]
+            return [None if value != value else value for value in values]  # only NaN is not itself
         return values
 
 
@@ -129,22 +129,26 @@ class Matrix(Table):
     ) -> Matrix:
         """Arrange the values of class pairs in a matrix, with 0 for pairs that do not occur.
 
+        `names` and `labels` belong to the two variables: first the rows, then the columns.
+
         Examples
         --------
         >>> pairs = np.array([[1, 7], [1, 8], [2, 8]])
         >>> Matrix.of(["a", "b"], pairs, np.array([3, 4, 5]), [{}, {7: "x", 8: "x"}]).columns
         ('a', 'x (7)', 'x (8)')
         """
-        rows, down = _codes(classes[:, 0])
-        columns, across = _codes(classes[:, 1])
-        cells = np.zeros((rows.size, columns.size), values.dtype)
-        cells[down, across] = values
-        axes = [(rows, labels[0]), (columns, labels[1])]
-        texts, titles = distinct_names(axes, [names[0]])
-        head = Column(names[0], "class", rows)
-        if labels[0]:
-            head = Column(names[0], "label", texts)
-        return cls([head], names[1], titles, cells, not labels[1])
+        row_name, across = names
+        row_labels, column_labels = labels
+        row_codes, row_indices = _codes(classes[:, 0])
+        column_codes, column_indices = _codes(classes[:, 1])
+        cells = np.zeros((row_codes.size, column_codes.size), values.dtype)
+        cells[row_indices, column_indices] = values
+        axes = [(row_codes, row_labels), (column_codes, column_labels)]
+        texts, titles = distinct_names(axes, taken=[row_name])
+        key = Column(row_name, "class", row_codes)
+        if row_labels:
+            key = Column(row_name, "label", texts)
+        return cls([key], across, titles, cells, is_numbered=not column_labels)
 
 
 def _codes(classes: NDArray[np.int64]) -> tuple[NDArray[np.int64], NDArray[np.intp]]:
@@ -174,15 +178,15 @@ def distinct_names(
     >>> distinct_names([(np.array([1, 2, 3]), labels), (np.array([4, 5]), labels)], ["from"])
     [['2 (1)', '2', 'wood (3)'], ['wood (4)', 'from (5)']]
     """
-    owners: dict[str, set[int]] = {}
+    codes_of_name: dict[str, set[int]] = {}
     for classes, labels in axes:
         for code in classes.tolist():
-            owners.setdefault(labels.get(code) or _number(code), set()).add(code)
+            codes_of_name.setdefault(labels.get(code) or _number(code), set()).add(code)
 
     def name(code: int, label: str | None) -> str:
         if not label:
             return _number(code)
-        is_ambiguous = len(owners[label]) > 1 or label in taken
+        is_ambiguous = len(codes_of_name[label]) > 1 or label in taken
         return f"{label} ({code})" if is_ambiguous else label
 
     names = []

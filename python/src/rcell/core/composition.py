@@ -84,13 +84,14 @@ def composition(
     maps = Maps({"map": map}, crs, zones, zone_field, layer, each)
     measure = maps.measure(area)
     names = ["map"] if zones is None else ["zones", "map"]
-    counts = maps.counts([names], measure, include_null)[0]
+    [counts] = maps.counts([names], measure, include_null)
+    zone_columns: list[Column] = []
     if zones is not None:
         counts = counts.where(counts.classes[:, 0] != NULL)
-    columns = maps.columns("class", counts.classes[:, -1], "map", labels, "label")
-    if zones is not None:
-        columns[:0] = maps.columns("zone", counts.classes[:, 0], "zones", zone_labels)
-    return Table(columns + counts.columns(measure, counts.percent(len(names) - 1)))
+        zone_columns = maps.columns("zone", counts.classes[:, 0], "zones", zone_labels)
+    class_columns = maps.columns("class", counts.classes[:, -1], "map", labels, label="label")
+    percent = counts.percent(groups=0 if zones is None else 1)
+    return Table(zone_columns + class_columns + counts.columns(measure, percent))
 
 
 def cross(
@@ -145,18 +146,16 @@ def cross(
     check_named_maps(maps, named, ("area", "labels", "include_null", "crs"))
     sources = named_once(maps, named)
     legends = {} if labels is None else labels
-    if not isinstance(legends, Mapping) or set(legends) - set(sources):
-        wrong = (
-            next(iter(set(legends) - set(sources)), labels)
-            if isinstance(legends, Mapping)
-            else labels
-        )
+    is_mapping = isinstance(legends, Mapping)
+    unknown = set(legends) - set(sources) if is_mapping else set()
+    if not is_mapping or unknown:
+        wrong = next(iter(unknown), labels)
         example = f'{{{next(iter(sources))!r}: "legend.csv"}}'
         rule = f"must contain legends by map name, for example {example}; got {wrong!r}"
         raise BadArgument("labels", rule)
     crossed = Maps(sources, crs)
     measure = crossed.measure(area)
-    counts = crossed.counts([list(sources)], measure, include_null)[0]
+    [counts] = crossed.counts([list(sources)], measure, include_null)
     columns: list[Column] = []
     for place, name in enumerate(sources):
         columns += crossed.columns(name, counts.classes[:, place], name, legends.get(name))

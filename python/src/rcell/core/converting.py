@@ -18,7 +18,6 @@ from .programs import find_program, program_errors
 __all__ = ["converted", "like", "printed_map"]
 
 HEAD_BYTES = 1 << 12
-_STATUS = 2
 
 
 def converted(path: str, to_esri: bool) -> Optional[Iterator[bytes]]:
@@ -33,7 +32,7 @@ def converted(path: str, to_esri: bool) -> Optional[Iterator[bytes]]:
     except OSError:
         return None  # a path that only GDAL can open
     if is_esri(start) and not to_esri:
-        opened(path)
+        opened(path)  # an error if the output would overwrite this file
         return grid_of_esri(path)
     if is_text_grid(start):
         opened(path)
@@ -44,7 +43,8 @@ def converted(path: str, to_esri: bool) -> Optional[Iterator[bytes]]:
 def _printed(path: str) -> Iterator[bytes]:
     """Yield the pieces of a text grid in the layout that rcell prints."""
     program = find_program()
-    with program_errors("", ["map"], program), printed(program, path) as pieces:
+    errors = program_errors(script="", names=["map"], path=program)
+    with errors, printed(program, path) as pieces:
         yield from pieces
 
 
@@ -69,10 +69,9 @@ def like(raster: Any, path: str) -> Any:
     other = source_of("like", path)
     mine, its = raster.region, other.region
     if mine.shape != its.shape:
-        sizes = (
-            f"{its.rows} rows and {its.cols} columns, but the map has {mine.rows} and {mine.cols}"
-        )
-        raise Refused(f"{path} has {sizes}", "like", status=1)
+        shape = f"{its.rows} rows and {its.cols} columns"
+        problem = f"{path} has {shape}, but the map has {mine.rows} and {mine.cols}"
+        raise Refused(problem, "like", status=1)
     height = (its.north - its.south) / its.rows
     width = (its.east - its.west) / its.cols
     for name, size in (("north", height), ("south", height), ("east", width), ("west", width)):

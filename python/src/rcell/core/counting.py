@@ -79,10 +79,11 @@ class Counts:
             The number of leading classes that all entries of a group have in common.
         """
         is_null = (self.classes == NULL).any(axis=1)
-        counted = np.where(is_null, 0, self.weights())
+        weights = np.where(is_null, 0, self.weights())
         first = places_of(self.classes[:, :groups])
-        totals = np.repeat(sums_of(counted, first), np.diff([*first, counted.size]))
-        return np.where(is_null, np.nan, counted * 100.0 / np.where(totals == 0, 1, totals))
+        group_sizes = np.diff([*first, weights.size])
+        totals = np.repeat(sums_of(weights, first), group_sizes)
+        return np.where(is_null, np.nan, weights * 100.0 / np.where(totals == 0, 1, totals))
 
     def columns(self, measure: Measure, percent: Optional[Floats] = None) -> list[Column]:
         """Return a table's columns of cells and, if requested, of areas and percentages."""
@@ -120,18 +121,17 @@ class Maps:
         if polygons is not None:
             first = next(iter(given.values()))
             self._zones = zones_of(polygons, zone_field, first, crs, each)
-            given["zones"] = self._zones.maps[0]
+            given["zones"] = self._zones.maps[0]  # `tables` also uses the others
         elif zones is not None:
             given["zones"] = source_of("zones", zones)
         if polygons is None:
-            told = "requires polygons, but zones is " + (
-                "not given" if zones is None else "a raster"
-            )
-            for name, word in (("zone_field", zone_field), ("layer", layer), ("each", each)):
-                if word:
-                    raise BadArgument(name, told)
+            description = "not given" if zones is None else "a raster"
+            rule = f"requires polygons, but zones is {description}"
+            for name, value in (("zone_field", zone_field), ("layer", layer), ("each", each)):
+                if value:
+                    raise BadArgument(name, rule)
         self.sources: dict[str, Source]
-        self.sources, self.crs = sources_of(given, crs, {**maps, "zones": zones})
+        self.sources, self.crs = sources_of(given, crs, written={**maps, "zones": zones})
         self.first = next(iter(self.sources.values()))
 
     def measure(self, area: Any) -> Measure:
@@ -151,12 +151,13 @@ class Maps:
         """
         if self._zones is None or len(self._zones.maps) == 1:
             return [output.values for output in execute(script, self.sources)]
-        runs = [
-            [output.values for output in execute(script, {**self.sources, "zones": zones})]
-            for zones in self._zones.maps
-        ]
-        merged = [in_order(np.concatenate(parts)) for parts in list(zip(*runs))[once:]]
-        return runs[0][:once] + merged
+        tables_of_runs = []
+        for zones in self._zones.maps:
+            outputs = execute(script, {**self.sources, "zones": zones})
+            tables_of_runs.append([output.values for output in outputs])
+        parts_of_tables = list(zip(*tables_of_runs))
+        merged = [in_order(np.concatenate(parts)) for parts in parts_of_tables[once:]]
+        return tables_of_runs[0][:once] + merged
 
     def ask(self, question: Question, clump: str, fold: PatchFold) -> bool:
         """Pass the patches of a map to a fold with `runs.ask`, and return whether they were passed.
@@ -172,25 +173,27 @@ class Maps:
     ) -> list[Counts]:
         """Count the combinations of classes for each list of maps in `tables`."""
         flags = "-c" if include_null else "-c -n"
-        rows = [] if measure.by_row is None else ["row"]
-        lines = ["r.mapcalc row = row()"] if rows else []
+        row_maps = [] if measure.by_row is None else ["row"]  # in degrees, areas depend on the row
+        lines = ["r.mapcalc row = row()"] if row_maps else []
+        most = MOST_MAPS - len(row_maps)
         for names in tables:
-            if len(names) + len(rows) > MOST_MAPS:
-                most = f"{MOST_MAPS - len(rows)} maps{' in degrees' if rows else ''}"
-                raise BadArgument("maps", f"must be at most {most}; got {len(names)}")
-            lines.append(f"r.stats {flags} input={','.join([*rows, *names])}")
+            if len(names) > most:
+                limit = f"{most} maps{' in degrees' if row_maps else ''}"
+                raise BadArgument("maps", f"must be at most {limit}; got {len(names)}")
+            lines.append(f"r.stats {flags} input={','.join([*row_maps, *names])}")
         return [counts_of(values, measure) for values in self.tables("\n".join(lines))]
 
     def columns(
         self, title: str, classes: Integers, name: str, legend: Any = None, label: str = "{}_label"
     ) -> list[Column]:
-        """Return the class column of a map and, if there are labels, the label column."""
-        argument, own = "labels", self.sources[name].labels
+        """Return the class column of the map `name` and, if there are labels, the label column."""
+        argument, map_labels = "labels", self.sources[name].labels
         if name == "zones" and self._zones is not None:
             is_null = classes == NULL
-            classes = np.where(is_null, NULL, self._zones.ids[np.where(is_null, 0, classes - 1)])
-            argument, own = "zone_labels", self._zones.labels
-        labels = legend_for(legend, own, [(self.sources[name].name, classes)], argument)
+            indices = np.where(is_null, 0, classes - 1)  # the map numbers the polygons from 1
+            classes = np.where(is_null, NULL, self._zones.ids[indices])
+            argument, map_labels = "zone_labels", self._zones.labels
+        labels = legend_for(legend, map_labels, [(self.sources[name].name, classes)], argument)
         return coded(title, classes, labels, label)
 
 
@@ -200,10 +203,12 @@ def counts_of(values: Integers, measure: Measure) -> Counts:
     If the maps are in degrees, the table's first column contains map rows, over which the counts
     are summed.
     """
+    cells = values[:, -1]
     if measure.by_row is None:
-        return Counts(values[:, :-1], values[:, -1].copy(), None)
-    area = values[:, -1] * measure.by_row[values[:, 0] - 1]
-    by_row = Counts(values[:, 1:-1], values[:, -1], area).where(order_of(values[:, 1:-1]))
+        return Counts(values[:, :-1], cells.copy(), area=None)
+    rows, classes = values[:, 0], values[:, 1:-1]
+    area = cells * measure.by_row[rows - 1]
+    by_row = Counts(classes, cells, area).where(order_of(classes))
     sums = by_row.summed(places_of(by_row.classes))
     assert sums.area is not None
     return Counts(sums.classes, sums.cells, sums.area / measure.divisor)
@@ -247,6 +252,7 @@ def legend_for(
     ----------
     legend : any
     own : mapping of int to str
+        The map's own labels.
     classes : sequence of (str, array)
         The name and the classes of each map.
     argument : str

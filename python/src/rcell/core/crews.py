@@ -19,14 +19,14 @@ from .process import WATCH_SECONDS
 from .rectangles import Rectangle
 from .showing import Bar
 from .tile_work import TileDone, TileWork, run_work
-from .tiling import work
+from .tiling import work as settings
 
 __all__ = ["Crew"]
 
 # The number of tiles submitted per worker. It limits the finished results in memory.
 AHEAD = 2
 
-Made = TypeVar("Made")
+Result = TypeVar("Result")
 
 
 def _ready(done: TileDone) -> Future[TileDone]:
@@ -70,11 +70,11 @@ class Crew:
         self._steps = steps
         self._done = 0
         self._stop = threading.Event()
-        self._warnings: dict[str, None] = {}
-        self._pool = ThreadPoolExecutor(workers, "rcell")
+        self._warnings: dict[str, None] = {}  # an ordered set
+        self._pool = ThreadPoolExecutor(workers, thread_name_prefix="rcell")
         self._is_shown = is_shown
         self._bar = Bar(steps, self._caller)
-        if (meanwhile := work().meanwhile) is not None:
+        if (meanwhile := settings().meanwhile) is not None:
             # As a daemon, the thread does not delay the end of an interrupted call.
             threading.Thread(target=meanwhile, daemon=True).start()
 
@@ -94,37 +94,39 @@ class Crew:
                 warn(text)
 
     def each(
-        self, do: Callable[[Rectangle], Made], places: Sequence[Rectangle]
-    ) -> Iterator[tuple[int, Made]]:
+        self, do: Callable[[Rectangle], Result], places: Sequence[Rectangle]
+    ) -> Iterator[tuple[int, Result]]:
         """Call a function for each place, and yield (index, result) pairs as the calls finish."""
         yield from self._in_turn(lambda place: self._pool.submit(self._run, do, place), places)
 
     def run(
         self,
         prepare: Callable[[Rectangle], TileWork],
-        finish: Callable[[TileWork, TileDone], Made],
+        finish: Callable[[TileWork, TileDone], Result],
         places: Sequence[Rectangle],
-    ) -> Iterator[tuple[int, Made]]:
+    ) -> Iterator[tuple[int, Result]]:
         """Process the tile at each place, and yield (index, result) pairs as the tiles finish.
 
         A result is the value that `finish` returns for the processed tile.
         """
 
-        def do(place: Rectangle) -> Made:
+        def do(place: Rectangle) -> Result:
             work = prepare(place)
             return finish(work, self._without_warnings(run_work(work)))
 
         if self._cluster is None:
             yield from self.each(do, places)
             return
-        cluster, works = self._cluster, {}
+        cluster = self._cluster
+        submitted: dict[Rectangle, TileWork] = {}
 
         def submit(place: Rectangle) -> Future[TileDone]:
-            works[place] = work = prepare(place)
+            submitted[place] = work = prepare(place)
             return _ready(work.known) if work.known is not None else cluster.submit(work)
 
         for index, done in self._in_turn(submit, places):
-            yield index, finish(works.pop(places[index]), self._without_warnings(done))
+            work = submitted.pop(places[index])
+            yield index, finish(work, self._without_warnings(done))
 
     def _without_warnings(self, done: TileDone) -> TileDone:
         """Keep a tile's warnings until the end of the call, and return the tile."""
@@ -132,19 +134,19 @@ class Crew:
         return done
 
     def _in_turn(
-        self, submit: Callable[[Rectangle], Future[Made]], places: Sequence[Rectangle]
-    ) -> Iterator[tuple[int, Made]]:
+        self, submit: Callable[[Rectangle], Future[Result]], places: Sequence[Rectangle]
+    ) -> Iterator[tuple[int, Result]]:
         """Submit places, staying a few ahead of the workers, and yield results as tiles finish.
 
         The largest tiles are first, so that no worker waits long for the last tile.
         """
-        running: dict[Future[Any], int] = {}
-        waiting = iter(sorted(enumerate(places), key=lambda item: -item[1].cells))
+        running: dict[Future[Any], int] = {}  # the index of each future's place
+        waiting = iter(sorted(range(len(places)), key=lambda index: -places[index].cells))
         while True:
-            ahead = AHEAD * (self._workers if self._cluster is None else self._cluster.threads)
-            while len(running) < ahead and (following := next(waiting, None)):
-                index, place = following
-                running[submit(place)] = index
+            # A cluster can gain and lose workers meanwhile.
+            workers = self._workers if self._cluster is None else self._cluster.threads
+            while len(running) < AHEAD * workers and (index := next(waiting, None)) is not None:
+                running[submit(places[index])] = index
             if not running:
                 return
             for future in self._ended(running):
@@ -166,6 +168,7 @@ class Crew:
                 self._check()
                 return do(place)
 
+        # In an empty context, the caller's settings, for example of `working`, do not apply.
         return contextvars.Context().run(run)
 
     def _check(self) -> None:
@@ -183,7 +186,7 @@ class Crew:
                 return ended
             if self._cluster is not None and time.monotonic() > patience:
                 self._cluster.warn_if_empty()
-                patience = math.inf
+                patience = math.inf  # warn only once
 
     def _step(self) -> None:
         self._done += 1

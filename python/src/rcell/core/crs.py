@@ -27,7 +27,7 @@ __all__ = [
 UNITS_OF_AREA = {"m2": 1.0, "ha": 1e4, "km2": 1e6}
 # The smallest confidence, in percent, with which a library may match a text to a registered system.
 CONFIDENCE = 90
-_SHOWN = 60
+_SHOWN = 60  # the number of characters of a long text that messages show
 
 
 @dataclass(frozen=True, eq=False)
@@ -101,6 +101,7 @@ def eastward(projjson: str) -> str:
     """
     form = json.loads(projjson)
     axes = form.get("coordinate_system", {}).get("axis", [])
+    # False sorts before True: the axis to the east or west becomes the first.
     axes.sort(key=lambda axis: axis.get("direction") not in ("east", "west"))
     form.pop("id", None)
     return json.dumps(form)
@@ -135,10 +136,10 @@ def _text_of(crs: Any) -> str:
     """Return a reference system as a string, or an empty string for None."""
     if crs is None:
         return ""
-    for method in ("to_wkt", "ExportToWkt"):
+    for method in ("to_wkt", "ExportToWkt"):  # of pyproj and rasterio, and of GDAL
         if hasattr(crs, method):
             return str(getattr(crs, method)())
-    if isinstance(crs, Mapping):
+    if isinstance(crs, Mapping):  # PROJ parameters
         words = []
         for key, value in crs.items():
             words.append(f"+{key}" if value is True else f"+{key}={value}")
@@ -217,7 +218,7 @@ def common_crs(
     """
     try:
         common = _checked("arguments", stated)
-    except BadMap:
+    except BadMap:  # an argument is not a map, so its error has another type
         rule = f"must be a coordinate reference system; got {str(stated)[:_SHOWN]!r}"
         raise BadArgument("crs", rule) from None
     systems = {name: _checked(name, crs) for name, crs in maps.items()}
@@ -233,8 +234,9 @@ def common_crs(
             raise OtherCrs(titles[name], f"{text}: state it with {option('crs', code)}")
         if crs is not None and not are_same_crs(crs, common):
             code, title = _named(common)
+            _, own_title = _named(crs)
             has = f"`{titles[first]}` has" if stated is None else f"{option('crs')} is"
-            text = f"its coordinate reference system is {_named(crs)[1]}, but {has} {title}"
+            text = f"its coordinate reference system is {own_title}, but {has} {title}"
             hint = f"reproject one of them first, for example with {_warping(warp, code)}"
             raise OtherCrs(titles[name], f"{text}: {hint}")
     return common
@@ -279,9 +281,6 @@ def metres_of_unit(crs: Any) -> float:
     if system is None:
         return 1.0
     if system.kind != "projected":
-        raise Refused(
-            f"the reference system {system.name} is {system.kind}, so cells have no area: "
-            "reproject the map, or leave areas out",
-            "map",
-        )
+        problem = f"the reference system {system.name} is {system.kind}, so cells have no area"
+        raise Refused(f"{problem}: reproject the map, or leave areas out", "map")
     return system.unit

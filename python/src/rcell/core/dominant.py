@@ -69,16 +69,17 @@ def dominant(
     """
     maps = Maps({"map": map}, crs, zones, zone_field, layer, each)
     measure = maps.measure(area)
-    counts = maps.counts([["zones", "map"]], measure)[0]
+    [counts] = maps.counts([["zones", "map"]], measure)
     zone, classes = counts.classes.T
-    first = places_of(zone)
+    first = places_of(zone)  # the index of each zone's first entry
     sums = counts.summed(first)
     columns = maps.columns("zone", zone[first], "zones", zone_labels) + sums.columns(measure)
-    columns.append(Column("classes", "count", np.diff([*first, len(zone)]).astype(np.int64)))
+    class_counts = np.diff([*first, len(zone)]).astype(np.int64)
+    columns.append(Column("classes", "count", class_counts))
     legend = legend_for(labels, maps.sources["map"].labels, [(maps.first.name, classes)])
     for title, sign in (("majority", -1), ("minority", 1)):
-        # The sort keeps each zone's entries together, so the entry at its first index is the
-        # extreme one.
+        # lexsort sorts by its last key first: by zone, then by cells (descending for the majority),
+        # then by class. So each zone still begins at its first index, now with the wanted entry.
         entries = np.lexsort([classes, sign * counts.cells, zone])[first]
         columns += coded(title, classes[entries], legend)
         percent = counts.cells[entries] * 100.0 / sums.cells

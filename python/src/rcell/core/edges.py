@@ -30,7 +30,7 @@ def differences_of(own: Iterable[int], others: Iterable[int]) -> list[str]:
     ['north is 4, not 3 (1 more)', 'rows is 4, not 3 (1 more)']
     """
     names = ("north", "south", "east", "west", "rows", "cols")
-    texts: list[Callable[[int], str]] = [edge_text] * 4 + [str] * 2
+    texts: list[Callable[[int], str]] = [edge_text] * 4 + [str] * 2  # four edges, two counts
     differences = []
     for name, text, own_edge, other_edge in zip(names, texts, own, others):
         if own_edge == other_edge:

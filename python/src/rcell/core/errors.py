@@ -165,7 +165,7 @@ class BadMap(Refused, ValueError):
         self.row = row
         self.col = col
         self.value = value
-        self.column = None
+        self.column = None  # `text` may give a map's column, which is not a position in a line
 
 
 class OtherRegion(BadMap):
@@ -232,7 +232,7 @@ class ReadFailed(BadMap):
     def __init__(self, name: str, text: str) -> None:
         super().__init__(name, text)
         self.args = (name, text)
-        self.status = 4
+        self.status = 4  # a file cannot be read
 
 
 class MissingProgram(RcellError, FileNotFoundError):

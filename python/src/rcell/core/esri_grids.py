@@ -24,7 +24,7 @@ HEADER_BYTES = 1 << 16
 MOST_WORDS = 1 << 16  # the largest number of distinct cells whose conversion is cached
 GDAL_DECIMALS = 12  # GDAL truncates cell sizes to this many decimals
 ROUNDED_FROM = 10**10  # larger 32-bit floats are written with a varying number of digits
-FORGOTTEN = (b"-9999", b"-32768")
+FORGOTTEN = (b"-9999", b"-32768")  # nodata values that headers often do not declare
 _NUMBER = re.compile(rb"[+-]?(\d+\.?\d*|\.\d+)(e[+-]?\d{1,3})?", re.IGNORECASE)
 _LONGEST = 64  # the longest number that messages show, in bytes
 
@@ -55,7 +55,7 @@ class _Header:
 
     def __init__(self, start: bytes) -> None:
         self.values: dict[bytes, bytes] = {}
-        self.end, self.line = 0, 1
+        self.end, self.line = 0, 1  # where the cells begin: the byte from 0, the line from 1
         for raw in start.splitlines(keepends=True):
             words = raw.split()
             key = words[0].lower() if words else b""
@@ -77,6 +77,7 @@ class _Header:
         self.text += f"rows: {self.rows}\ncols: {self.cols}\n"
 
     def side(self, key: bytes) -> int:
+        """Return the number of rows or columns."""
         text = self.values.get(key, b"")
         if not re.fullmatch(rb"[1-9]\d{0,9}", text):
             raise Refused(
@@ -99,15 +100,17 @@ class _Header:
         size, text = self.value(step, b"cellsize")
         corner, centre = axis + b"llcorner", axis + b"llcenter"
         if corner in self.values or centre not in self.values:
-            low = self.value(corner)[0]
+            low, _ = self.value(corner)
         else:
-            low = self.value(centre)[0] - size / 2
+            centre_of_cell, _ = self.value(centre)
+            low = centre_of_cell - size / 2
         high = low + size * count
         decimals = len(text.partition(b".")[2])
         if decimals < GDAL_DECIMALS or text.endswith(b"0") or b"e" in text.lower():
-            return low, high
+            return low, high  # the size was not truncated
+        # Use the roundest edge that differs by at most half a unit of the last decimal per cell.
         most = Fraction(count, 2 * 10**decimals)
-        rounded = (round(high, digits) for digits in range(DECIMALS + 1))
+        rounded = (round(high, places) for places in range(DECIMALS + 1))
         corrected = next((edge for edge in rounded if abs(edge - high) <= most), high)
         new_text = edge_text(round(corrected * UNITS))
         old_text = edge_text(round(high * UNITS))
@@ -124,14 +127,16 @@ class _Cells(dict[bytes, bytes]):
 
     def __init__(self, null: Optional[bytes]) -> None:
         super().__init__()
-        self.null, self.value = null, None if null is None else _number(null)
+        self.null = null
+        self.value = None if null is None else _number(null)
         self.forgotten: set[bytes] = set()
 
     def __missing__(self, word: bytes) -> bytes:
         if len(self) >= MOST_WORDS:
             self.clear()
         self[word] = text = self.text(word)
-        self.forgotten.update({text}.intersection(FORGOTTEN))
+        if text in FORGOTTEN:
+            self.forgotten.add(text)
         return text
 
     def text(self, word: bytes) -> bytes:
@@ -143,7 +148,7 @@ class _Cells(dict[bytes, bytes]):
         return b"%d" % value
 
     def is_null(self, word: bytes, value: Optional[Fraction]) -> bool:
-        if value is None or self.value is None:
+        if value is None or self.value is None:  # a word such as nan
             return self.null is not None and word.strip(b"+-").lower() == self.null.lower()
         difference = abs(value - self.value)
         is_rounded = abs(self.value) > ROUNDED_FROM and difference * 10**6 <= abs(self.value)
@@ -165,7 +170,8 @@ def grid_of_esri(path: str) -> Iterator[bytes]:
             start += piece
         header = _Header(start)
         yield header.text.encode()
-        cells, count = _Cells(header.values.get(b"nodata_value")), 0  # converts each word once
+        cells = _Cells(null=header.values.get(b"nodata_value"))
+        count = 0
         for number, line in enumerate(_lines(start[header.end :], pieces), header.line):
             words = line.split()
             count += len(words)
@@ -194,7 +200,7 @@ def _lines(start: bytes, pieces: Iterable[bytes]) -> Iterator[bytes]:
 def esri_of_grid(pieces: Iterator[bytes]) -> Iterator[bytes]:
     """Convert a grid in the layout that rcell prints to an ESRI ASCII grid, piece by piece."""
     start = b""
-    while start.count(b"\n") < 6:
+    while start.count(b"\n") < 6:  # the four edges, `rows` and `cols`
         start += next(pieces)
     *lines, rest = start.split(b"\n", 6)
     values = dict(line.decode().split(": ") for line in lines)

@@ -37,24 +37,25 @@ def explain(script: str, words: Sequence[str]) -> int:
     match = _MESSAGE.match(message)
     lines = [message.rstrip("\n")] if message else []
     if match:
-        paths = dict(word.partition("=")[::2] for word in words)
-        lines += [
-            "  " + line for line in _explained(script, paths, match[1], int(match[2]), match[3])
-        ]
+        pairs = (word.partition("=") for word in words)
+        paths = {name: path for name, _, path in pairs}
+        source, number, text = match.groups()
+        lines += ["  " + line for line in _explained(script, paths, source, int(number), text)]
     sys.stdout.flush()
     sys.stderr.write("".join(f"{_printable(line)}\n" for line in lines))
+    # A negative code is a signal. Shells add its number to 128.
     return ran.returncode if ran.returncode >= 0 else 128 - ran.returncode
 
 
 def _explained(
     script: str, paths: dict[str, str], source: str, line: int, text: str
 ) -> Iterator[str]:
-    """Yield the line that contains an error, with the error marked, followed by advice."""
+    """Yield the invalid line that a message names, with the error marked, followed by advice."""
     message = _COLUMN.sub("", text)
     if text.startswith(("cannot open", "read failed", "write failed")):
-        known = "write failed after N bytes" if text.startswith("write") else text
+        key = "write failed after N bytes" if text.startswith("write") else text  # in messages.json
         path = script if source == "script" else paths.get(source, "")
-        yield f"try: {_near_file(path) or sentence('files', known)}"
+        yield f"try: {_near_file(path) or sentence('files', key)}"
     elif source == "script":
         yield from _of_script(script, list(paths), line, text)
     elif source in paths:
@@ -70,9 +71,8 @@ def _near_file(path: str) -> Optional[str]:
     listed = folder or "."
     if os.path.exists(path) or not os.path.isdir(listed):
         return None
-    for close in near(name, os.listdir(listed)):
-        return os.path.join(folder, close)
-    return None
+    close = near(name, os.listdir(listed))
+    return os.path.join(folder, close[0]) if close else None
 
 
 def _of_script(script: str, names: list[str], line: int, text: str) -> Iterator[str]:
@@ -83,9 +83,9 @@ def _of_script(script: str, names: list[str], line: int, text: str) -> Iterator[
     if not 0 < line <= len(lines):
         yield f"try: {sentence('script', text)}"
         return
-    place, corrected = advice(find_pipe(), content, names, line, text)
+    column_of_word, corrected = advice(find_pipe(), content, names, line, text)
     match = _COLUMN.search(text)
-    column = int(match[1]) if match else place
+    column = int(match[1]) if match else column_of_word
     yield from lines_of_error(lines[line - 1].rstrip("\r"), column)
     if corrected:
         yield "try: " + corrected.replace("\n", "\n       ")
@@ -104,18 +104,18 @@ def _of_grid(paths: dict[str, str], name: str, line: int, text: str) -> Iterator
             yield f"try: rcell-gis convert {path} {os.path.splitext(path)[0]}.grid.txt"
             return
         file.seek(0)
-        raw = next((each for number, each in enumerate(file, 1) if number == line), b"")
+        raw = next((content for number, content in enumerate(file, 1) if number == line), b"")
     if text == "other region":
         yield from _other_region(paths, name, start)
     elif raw and len(raw) <= LONGEST_LINE:
-        word = _bad_word(raw, start) if text in ("bad cell", "cell out of range") else None
-        yield from lines_of_error(raw.rstrip(b"\r\n").decode("utf-8", "surrogateescape"), word)
+        column = _bad_word(raw, start) if text in ("bad cell", "cell out of range") else None
+        yield from lines_of_error(raw.rstrip(b"\r\n").decode("utf-8", "surrogateescape"), column)
     yield f"try: {sentence('grid', text)}"
 
 
 def _bad_word(raw: bytes, start: bytes) -> Optional[int]:
     """Return the column of the first word that is not a valid cell, or None."""
-    match = re.search(rb"(?m)^[ \t]*null:[ \t]*(\S+)", start)
+    match = re.search(rb"(?m)^[ \t]*null:[ \t]*(\S+)", start)  # in the header
     null = match[1] if match else b"*"
     for word in re.finditer(rb"\S+", raw):
         is_cell = _WHOLE.fullmatch(word[0]) and abs(int(word[0])) < 2**31

@@ -48,11 +48,11 @@ def open_standard_streams() -> None:
 
     A closed standard output is opened for reading, so that writing to standard output still fails.
     """
-    while (descriptor := os.open(os.devnull, os.O_RDWR)) <= 2:
+    while (descriptor := os.open(os.devnull, os.O_RDWR)) <= 2:  # the lowest unused number
         if descriptor == 1:
             os.close(descriptor)
             os.open(os.devnull, os.O_RDONLY)
-        os.set_inheritable(descriptor, True)
+        os.set_inheritable(descriptor, True)  # child programs also need standard streams
     os.close(descriptor)
     sys.stdin = sys.stdin or open(0, closefd=False)
     sys.stdout = sys.stdout or open(1, "w", closefd=False)
@@ -77,7 +77,7 @@ _PARTS = {
 }
 _VRT_SOURCE = re.compile(r"<Source(?:Filename|Dataset)[^>]*>([^<]+)<")
 _VIRTUAL = re.compile(r"(/vsi\w+/)+\{?")
-_STATUS = 2
+_STATUS = 2  # the exit status for an error in the command line
 _outputs: ContextVar[Sequence[str]] = ContextVar("outputs", default=())
 
 
@@ -95,10 +95,8 @@ def writing(*paths: str) -> Iterator[None]:
     """
     for first, second in combinations(paths, 2):
         if os.path.realpath(first) == os.path.realpath(second) or is_same_file(first, second):
-            raise Refused(
-                f"{second}: two outputs are the same file: choose another name",
-                status=_STATUS,
-            )
+            problem = "two outputs are the same file"
+            raise Refused(f"{second}: {problem}: choose another name", status=_STATUS)
     token = _outputs.set(paths)
     try:
         yield
@@ -261,7 +259,7 @@ class Output:
         self._given = path
         self._special = _opened_special(path)
         self._target = os.path.realpath(path)
-        self._room: PrivateFolder | None = None
+        self._folder: PrivateFolder | None = None
         self._stream: int | None = self._special
         self._is_kept = False
 
@@ -277,16 +275,16 @@ class Output:
     def path(self) -> str:
         """Return a temporary path with the target's name, for libraries that open files."""
         folder, name = os.path.split(self._target)
-        if self._room is None:
+        if self._folder is None:
             try:
                 if self._special is not None:
                     folder = os.environ.get("TMPDIR") or "/tmp"
                 elif os.path.exists(self._target) and not os.access(self._target, os.W_OK):
                     raise PermissionError(errno.EACCES, os.strerror(errno.EACCES))
-                self._room = PrivateFolder(folder, name)
+                self._folder = PrivateFolder(folder, name)
             except OSError as error:
                 raise OSError(error.errno, error.strerror, self._given) from None
-        return os.path.join(self._room.path, name)
+        return os.path.join(self._folder.path, name)
 
     def stream(self) -> int:
         """Return a descriptor to which the contents of the file can be written."""
@@ -296,10 +294,13 @@ class Output:
 
     def keep(self) -> None:
         """Move the file to the target, or copy its bytes to a device or FIFO."""
-        if self._room is None or self._is_kept:
+        if self._folder is None or self._is_kept:
             return
         try:
-            self._copy() if self._special is not None else self._replace(self.path())
+            if self._special is not None:
+                self._copy()
+            else:
+                self._replace(self.path())
         except OSError as error:
             raise OSError(error.errno, error.strerror, self._given) from None
         self._is_kept = True
@@ -316,8 +317,8 @@ class Output:
         finally:
             if self._stream is not None:
                 os.close(self._stream)
-            if self._room is not None:
-                self._room.remove()
+            if self._folder is not None:
+                self._folder.remove()
             process.end_work()
 
     def _copy(self) -> None:
@@ -326,38 +327,39 @@ class Output:
             while piece := file.read(PIECE):
                 write_all(self._special, piece)
 
-    def _adopt(self, part: str) -> None:
+    def _adopt(self, new_file: str) -> None:
         """Copy the replaced file's owner and mode to the new file."""
         try:
             old = os.stat(self._target)
         except FileNotFoundError:
             return
         try:
-            os.chown(part, old.st_uid, old.st_gid)
+            os.chown(new_file, old.st_uid, old.st_gid)
         except PermissionError:
             pass
         mode = stat.S_IMODE(old.st_mode) & 0o777
-        has_other_group = os.stat(part).st_gid != old.st_gid
-        os.chmod(part, mode & ~0o070 if has_other_group else mode)
+        # If the group cannot be kept, members of the new group must not gain access.
+        has_other_group = os.stat(new_file).st_gid != old.st_gid
+        os.chmod(new_file, mode & ~0o070 if has_other_group else mode)
 
-    def _replace(self, part: str) -> None:
+    def _replace(self, new_file: str) -> None:
         """Move the new files to their targets, or restore the old files if a move fails."""
-        assert self._room is not None
-        with open(part, "rb") as file:
+        assert self._folder is not None
+        with open(new_file, "rb") as file:
             os.fsync(file.fileno())
-        self._adopt(part)
+        self._adopt(new_file)
         moves: list[tuple[str, str]] = []
         try:
             for number, ending in enumerate(SIDECARS):
-                backup = os.path.join(self._room.path, f"old-{number}")
+                backup = os.path.join(self._folder.path, f"old-{number}")
                 sidecar = self._target + ending
                 if os.path.lexists(sidecar):
                     os.rename(sidecar, backup)
                     moves.append((backup, sidecar))
-                if os.path.lexists(part + ending):
-                    os.rename(part + ending, sidecar)
-                    moves.append((sidecar, part + ending))
-            os.replace(part, self._target)
+                if os.path.lexists(new_file + ending):
+                    os.rename(new_file + ending, sidecar)
+                    moves.append((sidecar, new_file + ending))
+            os.replace(new_file, self._target)
         except BaseException:
             for current, original in reversed(moves):
                 os.rename(current, original)

@@ -10,6 +10,7 @@ from __future__ import annotations
 
 import functools
 import json
+import math
 import os
 import re
 from collections.abc import Callable, Iterable, Iterator, Sequence
@@ -64,16 +65,18 @@ def _lower(match: re.Match[str]) -> str:
 def _whole(match: re.Match[str]) -> str:
     """Rewrite a comparison, product or quotient with a decimal number using whole numbers."""
     sign, value = match[1].strip(), Fraction(match[2])
-    if sign in ("<", ">=", ">", "<="):
-        return f"{sign} {value // 1 + (value.denominator > 1 and sign in ('<', '>='))}"
-    if value.denominator == 1 or sign not in ("*", "/") or not value:
-        return f"{match[1]}{value}" if value.denominator == 1 else match[0]
-    up, down = value.as_integer_ratio()
+    if sign in ("<", ">=", ">", "<="):  # `< 2.5` is `< 3`, and `> 2.5` is `> 2`
+        return f"{sign} {math.ceil(value) if sign in ('<', '>=') else math.floor(value)}"
+    if value.denominator == 1:
+        return f"{match[1]}{value}"
+    if sign not in ("*", "/"):
+        return match[0]
+    factor, divisor = value.as_integer_ratio()
     if sign == "/":
-        up, down = down, up
-    if up == 1 and down > 1:
-        return f"/ {down}"
-    return f"* {up} / {down}" if down > 1 else f"* {up}"
+        factor, divisor = divisor, factor
+    if factor == 1:  # the divisor is then above 1, because the value is not whole
+        return f"/ {divisor}"
+    return f"* {factor} / {divisor}" if divisor > 1 else f"* {factor}"
 
 
 _COMMENT = (r"[ \t]*\0?#.*", "")
@@ -158,10 +161,11 @@ class _Error:
 
     def __init__(self, text: str, line: str, column: int, names: list[str]) -> None:
         self.text, self.line, self.names = text, line, names
-        self.part = "expression" if column else "script"
-        self.command = (_WORD.findall(line) or [""])[0]
+        self.part = "expression" if column else "script"  # of messages.json
+        first_word = _WORD.search(line)
+        self.command = first_word[0] if first_word else ""
         self.bad = None if column else self.bad_word()
-        self.place = max(column - 1, 0)
+        self.place = max(column - 1, 0)  # the index of the error in the line
         if self.bad:
             self.place = self.bad.start()
 
@@ -174,7 +178,7 @@ class _Error:
         if self.text not in ("bad option", "bad name"):
             return None
         keys: set[str] = set()
-        for word in [*_WORD.finditer(self.line)][1:]:
+        for word in [*_WORD.finditer(self.line)][1:]:  # without the command
             key, equals, value = word[0].partition("=")
             if not self.is_option(key, equals, value) or key in keys:
                 return word
@@ -187,27 +191,27 @@ class _Error:
         if key.startswith("-"):
             return len(key) > 1 and set(key[1:]) <= set(flags) and not equals
         if self.text == "bad name" and key in ("input", "output"):
-            several = value.split(",") if self.command == "r.stats" else [value]
-            return all(_NAME.fullmatch(name) and len(name) <= 64 for name in several)
-        is_right = {
+            names = value.split(",") if self.command == "r.stats" else [value]
+            return all(_NAME.fullmatch(name) and len(name) <= 64 for name in names)
+        is_valid = {
             "separator": value in SEPARATORS or len(value) == 1,
             "null_value": 1 <= len(value) <= 64 and (self.command == "r.stats" or ":" not in value),
             "input": value.count(",") < 16,
         }
-        return bool(equals) and key in keys and is_right.get(key, True)
+        return bool(equals) and key in keys and is_valid.get(key, True)
 
     # Corrections
 
     def lines(self) -> Iterator[str]:
         """Yield corrected lines, with the most likely correction first."""
         marked = self.line[: self.place] + _MARK + self.line[self.place :]
-        changed, first = marked, None
+        all_changes, first_change = marked, None
         for pattern, new in REWRITES.get(self.text, ()):
-            after = re.sub(pattern, new, changed, flags=re.ASCII)
-            if first is None and after != changed:
-                first = after
-            changed = after
-        for candidate in (changed, first, *self.near_lines()):
+            after = re.sub(pattern, new, all_changes, flags=re.ASCII)
+            if first_change is None and after != all_changes:
+                first_change = after
+            all_changes = after
+        for candidate in (all_changes, first_change, *self.near_lines()):
             if candidate is None:
                 continue
             line = candidate.replace(_MARK, "").rstrip()
@@ -217,23 +221,23 @@ class _Error:
     def near_lines(self) -> Iterator[str]:
         """Yield lines with an unknown name replaced by a similar one, or a missing part added."""
         head, tail = self.line[: self.place], self.line[self.place :]
-        word = (_NAME.match(tail) or _WORD.match(tail) or [""])[0]
+        match = _NAME.match(tail) or _WORD.match(tail)
+        word = match[0] if match else ""
         rest = tail[len(word) :]
         if self.text == "unknown command":
-            yield from (head + name + rest for name in near(word.lower(), COMMANDS, 0.75))
+            yield from (head + name + rest for name in near(word.lower(), COMMANDS, cutoff=0.75))
         elif self.text == "bad option" and self.bad:
-            yield from (
-                head + new + tail[len(self.bad[0]) :].lstrip(" " * (not new))
-                for new in self.near_options()
-            )
+            after = tail[len(self.bad[0]) :]
+            for new in self.near_options():
+                yield head + new + (after if new else after.lstrip(" "))
         elif self.text == "unknown map":
             yield from (head + name + rest for name in near(word, self.names))
         elif self.text == "unknown function":
             yield from (head + name + rest for name in near(word, FUNCTIONS))
         elif self.text == "map exists":
             match = _MADE.search(self.line)
-            name = match and (match[1] or match[2])
-            if name:
+            if match:
+                name = match[1] or match[2]  # of `output=` or of r.mapcalc
                 yield self.line.replace(name, f"{name}_2", 1)
         elif self.text == "missing option":
             line = self.line
@@ -251,18 +255,19 @@ class _Error:
         flags, keys = OPTIONS.get(self.command, ("", ()))
         key, equals, value = self.bad[0].partition("=")
         if key.startswith("-"):
-            known = "".join(dict.fromkeys(letter for letter in key[1:] if letter in flags))
-            is_lower = key != "-" and set(key[1:].lower()) <= set(flags)
-            if known:
-                yield "-" + known
+            letters = dict.fromkeys(letter for letter in key[1:] if letter in flags)
+            is_known_in_lower_case = key != "-" and set(key[1:].lower()) <= set(flags)
+            if letters:
+                yield "-" + "".join(letters)
             else:
-                yield key.lower() if is_lower else ""
+                yield key.lower() if is_known_in_lower_case else ""
         elif not equals:
             yield f"input={key}"
         elif key not in keys:
             for new in (KEYS.get(key), *near(key, keys)):
                 if new in keys:
                     yield f"{new}={value}"
+        # A known option with an invalid value is not removed, unless the line repeats it.
         has_value = key in ("separator", "null_value", "input")
         is_once = self.line.count(key + "=") <= 1
         yield self.bad[0] if has_value and is_once else ""
@@ -277,8 +282,8 @@ class _Error:
         if text == "bad option":
             text = "options that exclude each other"
             if self.bad:
-                key = self.bad[0].partition("=")[0]
-                text = key if sentence("script", key) else self.text
+                key, _, _ = self.bad[0].partition("=")
+                text = key if sentence("script", key) else self.text  # some keys have advice
         flags, keys = OPTIONS.get(self.command, ("", ()))
         options = [f"-{flag}" for flag in flags] + [f"{key}=" for key in keys]
         return sentence(self.part, text).format(
@@ -311,19 +316,20 @@ def advice(
     """
     lines = script.decode("latin-1").split("\n")
     column = _COLUMN.search(text)
-    made_maps = (name or other for name, other in _MADE.findall("\n".join(lines[: line - 1])))
+    before, rejected, after = lines[: line - 1], lines[line - 1], lines[line:]
+    outputs = (name or other for name, other in _MADE.findall("\n".join(before)))
     error = _Error(
         _COLUMN.sub("", text),
-        lines[line - 1].rstrip("\r"),
+        rejected.rstrip("\r"),
         int(column[1]) if column else 0,
-        [*dict.fromkeys([*names, *made_maps])],
+        [*dict.fromkeys([*names, *outputs])],
     )
-    tried = dict.fromkeys(error.lines()) if len(error.line) <= LONGEST_MENDED else {}
+    candidates = dict.fromkeys(error.lines()) if len(error.line) <= LONGEST_MENDED else {}
     place = error.bad.start() + 1 if error.bad else None
-    for new in list(tried)[:MOST_CHECKS]:
-        mended = "\n".join([*lines[: line - 1], new, *lines[line:]])
+    for new in list(candidates)[:MOST_CHECKS]:
+        mended = "\n".join([*before, new, *after])
         if _is_accepted(program, names, mended, line + new.count("\n")):
-            note = f"  ({sentence('expression', 'quotient')})" * error.divides(new)
+            note = f"  ({sentence('expression', 'quotient')})" if error.divides(new) else ""
             return place, new.strip().encode("latin-1").decode("utf-8", "surrogateescape") + note
     return place, error.sentence() or None
 
@@ -335,6 +341,7 @@ def _is_accepted(program: str, names: Sequence[str], script: str, line: int) -> 
     try:
         protocol.plan(program, names, script.encode("latin-1"), seconds=PLAN_SECONDS)
     except protocol.Rejected as error:
+        # Later lines may have errors of their own, and rules may follow the line.
         return error.line > line or error.text == "missing end"
     return True
 
@@ -349,7 +356,7 @@ def near(word: str, known: Iterable[str], cutoff: float = 0.6) -> list[str]:
     """
     import difflib  # imported only if there is an error
 
-    return difflib.get_close_matches(word[:64], list(known)[:MOST_NAMES], 1, cutoff)
+    return difflib.get_close_matches(word[:64], list(known)[:MOST_NAMES], n=1, cutoff=cutoff)
 
 
 @functools.lru_cache(maxsize=None)
@@ -375,16 +382,13 @@ def lines_of_error(content: str, column: Optional[int]) -> list[str]:
     """
     raw = _NO_BYTES.sub("\ufffd", content).encode("utf-8", "surrogateescape")
     start = (column or 1) - 1
-    begin = (
-        0
-        if len(raw) <= LONGEST_LINE
-        else max(0, min(start - SHOWN_BYTES // 3, len(raw) - SHOWN_BYTES))
-    )
-    end = len(raw) if len(raw) <= LONGEST_LINE else begin + SHOWN_BYTES
-    cut, rest = ".." * (begin > 0), ".." * (end < len(raw))
-    line = (
-        cut + raw[begin:end].decode("utf-8", "replace" if cut or rest else "surrogateescape") + rest
-    )
+    begin, end, errors = 0, len(raw), "surrogateescape"
+    if len(raw) > LONGEST_LINE:
+        begin = max(0, min(start - SHOWN_BYTES // 3, len(raw) - SHOWN_BYTES))
+        end, errors = begin + SHOWN_BYTES, "replace"  # the ends may be inside a character
+    cut = ".." if begin > 0 else ""
+    rest = ".." if end < len(raw) else ""
+    line = cut + raw[begin:end].decode("utf-8", errors) + rest
     before = cut + raw[begin:start].decode("utf-8", "replace")
     mark = "".join("\t" if letter == "\t" else " " for letter in before) + "^"
     return [line] if column is None else [line, mark]

@@ -60,10 +60,8 @@ def checked_labels(name: str, labels: Any) -> dict[int, str]:
             raise BadMap(name, f"the label of {category} must be a string; got {label!r}")
         bad = _UNWRITABLE.search(label)
         if bad:
-            raise BadMap(
-                name,
-                f"the label of {category} contains a character that files cannot store: {bad[0]!r}",
-            )
+            problem = "contains a character that files cannot store"
+            raise BadMap(name, f"the label of {category} {problem}: {bad[0]!r}")
     return {int(category): label for category, label in labels.items()}
 
 
@@ -90,7 +88,7 @@ def legend_of_band(band: ElementTree.Element, path: str) -> Legend:
     table = _Attributes.of(band)
     tags = {tag.get("key"): tag.text for tag in band.findall("Metadata/MDI")}
     names = [name.text or "" for name in band.findall("CategoryNames/Category")]
-    style = _style_beside(path)
+    style = _style_of(path)
     labels = (
         {category: name for category, name in enumerate(names) if name}
         or table.labels()
@@ -100,11 +98,11 @@ def legend_of_band(band: ElementTree.Element, path: str) -> Legend:
     return Legend(labels, _color_table(band, labels) or table.colors() or style.colors)
 
 
-def _style_beside(path: str) -> Legend:
-    beside = os.path.splitext(path)[0] + ".qml"
-    if path and os.path.isfile(beside):
+def _style_of(path: str) -> Legend:
+    style_path = os.path.splitext(path)[0] + ".qml"
+    if path and os.path.isfile(style_path):
         with contextlib.suppress(RcellError):  # ignore styles that are not legends
-            return legend_of_qml(beside)
+            return legend_of_qml(style_path)
     return Legend({}, {})
 
 
@@ -134,7 +132,7 @@ def _color_table(band: ElementTree.Element, labels: Mapping[int, str]) -> dict[i
     """
     colors = {}
     for code, entry in enumerate(band.findall("ColorTable/Entry")):
-        parts = [int(entry.get(key, "0")) for key in ("c1", "c2", "c3")]
+        parts = [int(entry.get(key, "0")) for key in ("c1", "c2", "c3")]  # red, green, blue
         if code in labels or any(parts):
             colors[code] = "#" + bytes(parts).hex()
     return colors
@@ -238,8 +236,8 @@ def write_labels(path: str, labels: Mapping[int, str]) -> str | None:
     """
     if not labels:
         return None
-    beside = path + ".aux.xml"
-    root = _root_of(beside)
+    aux_path = path + ".aux.xml"
+    root = _root_of(aux_path)
     band = root.find("PAMRasterBand[@band='1']")
     if band is None:
         band = ElementTree.SubElement(root, "PAMRasterBand", band="1")
@@ -249,18 +247,18 @@ def write_labels(path: str, labels: Mapping[int, str]) -> str | None:
             ElementTree.SubElement(names, "Category").text = labels.get(category, "")
     else:
         _put_table(band, labels)
-    ElementTree.ElementTree(root).write(beside, encoding="utf-8")
+    ElementTree.ElementTree(root).write(aux_path, encoding="utf-8")
     try:
-        ElementTree.parse(beside)
+        ElementTree.parse(aux_path)
     except ElementTree.ParseError as error:
         raise OSError(f"the label file was not written correctly: {error}") from None
-    return beside
+    return aux_path
 
 
-def _root_of(beside: str) -> ElementTree.Element:
+def _root_of(aux_path: str) -> ElementTree.Element:
     """Return the root element of a raster's `.aux.xml`, or a new one if there is no such file."""
     with contextlib.suppress(OSError, ElementTree.ParseError):
-        root = ElementTree.parse(beside).getroot()
+        root = ElementTree.parse(aux_path).getroot()
         if root.tag == "PAMDataset":
             return root
     return ElementTree.Element("PAMDataset")

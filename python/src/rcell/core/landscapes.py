@@ -88,52 +88,53 @@ class Landscapes:
 
 def summed(groups: Integers, values: NDArray[Any], size: int) -> NDArray[Any]:
     """Return the sum of the values in each group, for group indices from 0 to `size` - 1."""
-    sums: NDArray[Any] = np.bincount(groups, values, size).astype(values.dtype)
-    return sums
+    sums: NDArray[Any] = np.bincount(groups, weights=values, minlength=size)
+    return sums.astype(values.dtype)
 
 
 def landscapes_of(maps: Maps, connectivity: int, measure: Measure, has_zones: bool) -> Landscapes:
     """Count the patches and sides of the map `map` in each zone or, without zones, in total."""
-    name, lines = "map", []
-    zones, classes, steps = np.zeros(1, np.int64), None, 1
+    member_map, lines = "map", []
+    zones, classes, class_count = np.zeros(1, np.int64), None, 1
     if has_zones:
         # Combine zone and class in one number, so that patches end at the border of a zone.
-        occurring = maps.tables("r.stats -n input=zones,map")[0]
+        [occurring] = maps.tables("r.stats -n input=zones,map")
         zones, classes = np.unique(occurring[:, 0]), np.unique(occurring[:, 1])
-        steps = max(classes.size, 1)
-        name = "member"
-        lines = _ranked("zones", "zone", zones, steps) + _ranked("map", "code", classes, 1)
+        class_count = max(classes.size, 1)
+        member_map = "member"
+        lines += _ranked("zones", "zone", zones, step=class_count)
+        lines += _ranked("map", "code", classes, step=1)
         lines.append("r.mapcalc member = zone + code")
-    lines += _script(name, connectivity, measure)
-    sides, right, below, *by_row = maps.tables("\n".join(lines))
+    lines += _script(member_map, connectivity, measure)
+    patch_sides, right, below, *by_row = maps.tables("\n".join(lines))
     # Overlapping polygons are counted in several runs with separate patch numbers. Each member is
-    # in one run.
-    first = places_of(sides[:, :2])
-    codes, kinds = sides[first, 1], sides[:, 2]
-    cells = sums_of(sides[:, 3], first)
-    beside = sums_of(sides[:, 3] * (kinds % 2), first)
-    under = sums_of(sides[:, 3] * (kinds // 2), first)
+    # in one run, so a patch is identified by its number and its member.
+    first = places_of(patch_sides[:, :2])
+    _, codes, like, counts = patch_sides.T  # like: 1 (right neighbour) + 2 (lower neighbour)
+    cells = sums_of(counts, first)
+    like_right = sums_of(counts * (like % 2), first)
+    like_below = sums_of(counts * (like // 2), first)
     weights = _weights(cells, by_row, measure)
-    members, member_at = np.unique(codes, return_inverse=True)
-    of_zone = members // steps if has_zones else np.zeros(members.size, np.int64)
-    present, zone_at = np.unique(of_zone, return_inverse=True)
-    order = np.argsort(zone_at[member_at], kind="stable")
-    like = summed(member_at, beside + under, members.size)
-    unit = measure.length()
-    transform = maps.first.transform
+    members, member_at = np.unique(codes[first], return_inverse=True)
+    zone_indices = members // class_count if has_zones else np.zeros(members.size, np.int64)
+    present, zone_at = np.unique(zone_indices, return_inverse=True)
+    by_zone = np.argsort(zone_at[member_at], kind="stable")
+    metres = measure.length()
+    width, _, _, _, height, _ = maps.first.transform  # the height is negative
     return Landscapes(
-        zones[present],
-        members if classes is None else classes[members % steps],
-        zone_at,
-        member_at[order],
-        cells[order],
-        weights[order],
-        2 * (cells - under)[order],
-        2 * (cells - beside)[order],
-        like,
-        _borders(members, zone_at, right, below),
-        transform[0] * unit,
-        -transform[4] * unit,
+        zones=zones[present],
+        classes=members if classes is None else classes[members % class_count],
+        zone_at=zone_at,
+        member_at=member_at[by_zone],
+        cells=cells[by_zone],
+        weights=weights[by_zone],
+        # Each cell has two ends and two flanks, and each pair of like neighbours removes two.
+        ends=2 * (cells - like_below)[by_zone],
+        flanks=2 * (cells - like_right)[by_zone],
+        like=summed(member_at, like_right + like_below, members.size),
+        sides=_borders(members, zone_at, right, below),
+        end=width * metres,
+        flank=-height * metres,
     )
 
 
@@ -142,8 +143,8 @@ def _weights(cells: Integers, by_row: Sequence[Integers], measure: Measure) -> F
     if measure.by_row is None:
         return cells.astype(np.float64)
     [table] = by_row
-    row, cells_of_row = table[:, 2], table[:, 3]
-    areas = cells_of_row * measure.by_row[row - 1]
+    _patches, _members, rows, cells_of_row = table.T
+    areas = cells_of_row * measure.by_row[rows - 1]
     return sums_of(areas, places_of(table[:, :2]))
 
 
@@ -159,7 +160,7 @@ def _script(name: str, connectivity: int, measure: Measure) -> list[str]:
     If the map is in degrees, the lines also count each patch's cells in each row.
     """
     # Cells of one class that share a side are in one patch, so two comparisons yield all
-    # perimeters.
+    # perimeters. A comparison with a null or missing cell is null, which nmax() turns into 0.
     is_like_right = f"nmax({name} == {name}[0,1], 0)"
     is_like_below = f"nmax({name} == {name}[1,0], 0)"
     lines = [
@@ -177,6 +178,5 @@ def _borders(members: Integers, zone_at: Integers, right: Integers, below: Integ
     """Return the pairs of different members that share cell sides within a landscape."""
     pairs, flanks, ends = sides_of(right, below)
     first, second = np.searchsorted(members, pairs.T)
-    is_border = first != second
-    is_border[is_border] = zone_at[first[is_border]] == zone_at[second[is_border]]
+    is_border = (first != second) & (zone_at[first] == zone_at[second])
     return Sides(first[is_border], second[is_border], ends[is_border], flanks[is_border])

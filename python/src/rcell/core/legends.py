@@ -92,15 +92,14 @@ def legend_of(source: Any) -> Legend:
     """
     if isinstance(source, (str, os.PathLike)):
         return _of_path(os.fspath(source))
-    if isinstance(source, Mapping):
-        return _of_entries(
-            Entry(repr(value), value, label, None) for value, label in source.items()
-        )
-    if hasattr(source, "columns") and hasattr(source, "itertuples"):
+    # Pandas may not be installed, so its types are recognised by their attributes.
+    is_frame = hasattr(source, "columns") and hasattr(source, "itertuples")
+    is_series = hasattr(source, "items") and hasattr(source, "index")
+    if is_frame:
         return _of_entries(_entries_of(source))
-    if hasattr(source, "items") and hasattr(source, "index"):
+    if isinstance(source, Mapping) or is_series:
         return _of_entries(
-            Entry(repr(value), value, label, None) for value, label in source.items()
+            Entry(repr(value), value, label, color=None) for value, label in source.items()
         )
     raise BadArgument("labels", f"must be a path, a dict, a Series or a DataFrame; got {source!r}")
 
@@ -113,23 +112,21 @@ def _of_path(path: str) -> Legend:
     if ending in _TEXTS:
         entries = list(_entries_of(path))
         if not entries:
-            raise _refused(
-                f"{path} has no classes: it must have at least one line below the header"
-            )
+            problem = "has no classes: it must have at least one line below the header"
+            raise _refused(f"{path} {problem}")
         return _of_entries(entries)
     from .sources import source_of
 
     source = source_of("labels", path)
     if not source.labels:
-        raise _refused(
-            f"{path} has no labels: a legend must be a CSV, TSV or QML file or a raster with labels"
-        )
+        rule = "a legend must be a CSV, TSV or QML file or a raster with labels"
+        raise _refused(f"{path} has no labels: {rule}")
     return Legend(dict(source.labels), dict(source.colors))
 
 
 def _entries_of(source: Any) -> Iterator[Entry]:
     """Yield the rows of a table as legend entries."""
-    for place, row in rows_of("labels", source, ("value", "label"), _COLOR_NAMES):
+    for place, row in rows_of("labels", source, ("value", "label"), optional=_COLOR_NAMES):
         yield Entry(place, row["value"], row["label"], row.get("colour") or row.get("color"))
 
 
@@ -139,7 +136,10 @@ def _entries_of(source: Any) -> Iterator[Entry]:
 def rows_of(
     source: str, table: Any, needed: Tuple[str, ...], optional: Tuple[str, ...] = ()
 ) -> Iterator[Tuple[str, Dict[str, Any]]]:
-    """Yield the place and the selected fields of each row of a DataFrame or a CSV or TSV file."""
+    """Yield the place and the selected fields of each row of a DataFrame or a CSV or TSV file.
+
+    `source` is the argument that errors name. `needed` and `optional` are the columns to select.
+    """
     if isinstance(table, (str, os.PathLike)):
         yield from _rows_of_file(source, os.fspath(table), needed, optional)
         return
@@ -207,7 +207,7 @@ def _lines_of(source: str, path: str) -> List[str]:
     except (OSError, ValueError) as error:
         reason = getattr(error, "strerror", None) or error
         raise ReadFailed(source, f"cannot open: {path}: {reason}") from None
-    if content[:2] in (b"\xff\xfe", b"\xfe\xff"):
+    if content[:2] in (b"\xff\xfe", b"\xfe\xff"):  # a byte order mark
         raise Refused(
             f"{path} is UTF-16: save the file as UTF-8 (in Excel: CSV UTF-8)", source, status=1
         )
@@ -274,15 +274,16 @@ def _of_parts(color: str) -> str:
     match = _PARTS.fullmatch(color)
     if not match:
         return color
-    parts = [int(part) for part in match.groups()[:3]]
+    red, green, blue, _ = match.groups()
+    parts = [int(part) for part in (red, green, blue)]
     return color if max(parts) > 255 else "#" + bytes(parts).hex()
 
 
 def is_missing(value: Any) -> bool:
     """Return whether a value is None, NaN or pandas' missing value."""
     try:
-        return value is None or bool(value != value)
-    except TypeError:
+        return value is None or bool(value != value)  # only NaN differs from itself
+    except TypeError:  # pandas' missing value is neither true nor false
         return True
 
 
@@ -305,7 +306,8 @@ def whole_number(value: Any) -> Optional[int]:
         return int(match[1]) if match else None
     if isinstance(value, bool) or not isinstance(value, numbers.Real):
         return None
-    return int(value) if value - value == 0 and value == int(value) else None
+    is_finite = value - value == 0
+    return int(value) if is_finite and value == int(value) else None
 
 
 # QGIS styles
@@ -324,22 +326,22 @@ def legend_of_qml(path: str) -> Legend:
     palette: List[Entry] = []
     ramp: List[Entry] = []
     parser = expat.ParserCreate("utf-8")
-    above: List[str] = []
+    open_tags: List[str] = []
 
     def begin(tag: str, fields: Dict[str, str]) -> None:
         place = f"line {parser.CurrentLineNumber}"
         entry = Entry(place, fields.get("value", ""), fields.get("label"), fields.get("color"))
         if tag == "paletteEntry":
             palette.append(entry)
-        elif tag == "item" and above[-1:] == ["colorrampshader"]:
+        elif tag == "item" and open_tags[-1:] == ["colorrampshader"]:
             ramp.append(entry)
-        above.append(tag)
+        open_tags.append(tag)
 
     def refuse(name: str, *_: Any) -> None:
         raise _refused(f"{path} declares the entity {name}: a style must not declare entities")
 
     parser.StartElementHandler = begin
-    parser.EndElementHandler = lambda tag: above.pop()
+    parser.EndElementHandler = lambda tag: open_tags.pop()
     parser.EntityDeclHandler = refuse
     opened(path)
     try:

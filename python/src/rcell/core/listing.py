@@ -50,11 +50,13 @@ def numbers_of(text: bytes, width: int) -> NDArray[np.int64]:
     >>> numbers_of(b"1 20\\n-3 *\\n", 2).tolist()
     [[1, 20], [-3, -2147483648]]
     """
+    # Compare each byte with the next one. The first byte follows the end of a line.
     codes = np.frombuffer((b"\n" + text).translate(_CODES), np.uint8)
     may_not_follow = codes[:-1] >> 4
+    has_wrong_pair = (may_not_follow & codes[1:]).any()
     separators = text.translate(None, b"0123456789-*")
-    line = b" " * (width - 1) + b"\n"
-    if separators != line * text.count(b"\n") or (may_not_follow & codes[1:]).any():
+    separators_of_line = b" " * (width - 1) + b"\n"
+    if separators != separators_of_line * text.count(b"\n") or has_wrong_pair:
         raise NoAnswer(f"the program did not print lines of {width} numbers: {text[:60]!r}")
     words = text.replace(b"*", b"%d" % NULL)
     numbers = np.fromstring(words, np.ulonglong, sep=" ")

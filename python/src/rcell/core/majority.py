@@ -15,9 +15,10 @@ from .sources import ArrayMap, MapLike, source_of
 __all__ = ["majority", "majority_script"]
 
 SIZES = range(3, 16, 2)
-# The largest number of tokens in an expression, and the tokens outside the arguments of nmode().
+# The largest number of tokens in an expression, and room for the tokens around the arguments of
+# nmode(), as in `majority = if(isnull(map), null(), nmode(..))`.
 _MOST_TOKENS, _TOKENS_AROUND = 1000, 25
-_TOKENS_OF_NAME = 2
+_TOKENS_OF_NAME = 2  # a name and a comma
 
 
 def majority(map: MapLike, size: int = 3, fill: bool = False, *, crs: Any = None) -> ArrayMap:
@@ -57,7 +58,8 @@ def majority(map: MapLike, size: int = 3, fill: bool = False, *, crs: Any = None
     if not isinstance(size, numbers.Integral) or size not in SIZES:
         raise BadArgument("size", f"must be odd, from {SIZES[0]} to {SIZES[-1]}; got {size!r}")
     source = source_of("map", map)
-    [filtered] = Run(majority_script(int(size), fill), {"map": source}, {}, crs).maps(["majority"])
+    run = Run(majority_script(int(size), fill), {"map": source}, named={}, crs=crs)
+    [filtered] = run.maps(["majority"])
     return dataclasses.replace(filtered, labels=source.labels, colors=source.colors)
 
 
@@ -77,7 +79,7 @@ def majority_script(size: int, fill: bool) -> str:
     terms: dict[tuple[int, int], str] = {}
     tokens: dict[tuple[int, int], int] = {}
     for row, col in itertools.product(reach, reach):
-        # The seven tokens `map[row,col],`, and a sign for each negative offset.
+        # `map [ row , col ] ,` are seven tokens, and the sign of a negative offset is another one.
         terms[row, col] = f"map[{row},{col}]"
         tokens[row, col] = 7 + (row < 0) + (col < 0)
     terms[0, 0], tokens[0, 0] = "map", _TOKENS_OF_NAME

@@ -15,7 +15,7 @@ _UNKNOWN = 4 << 30
 
 def processors() -> int:
     """Return the number of processors that this process may use."""
-    if hasattr(os, "sched_getaffinity"):
+    if hasattr(os, "sched_getaffinity"):  # only on some systems, for example Linux
         return len(os.sched_getaffinity(0))
     return os.cpu_count() or 1
 
@@ -26,7 +26,7 @@ def free_memory() -> int:
     with contextlib.suppress(OSError, ValueError, KeyError, IndexError):
         with open("/proc/meminfo", encoding="ascii") as file:
             lines = dict(line.split(":", 1) for line in file)
-        limits = [int(lines["MemAvailable"].split()[0]) * 1024]
+        limits = [int(lines["MemAvailable"].split()[0]) * 1024]  # for example `8123456 kB`
     with contextlib.suppress(OSError, ValueError):
         limits.append(_number(f"{_GROUP}/memory.max") - _number(f"{_GROUP}/memory.current"))
     return max(min(limits), 0)

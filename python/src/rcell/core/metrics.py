@@ -101,22 +101,23 @@ def metrics(
     """
     check_connectivity(connectivity)
     if level not in LEVELS:
-        raise BadArgument(
-            "level", f"must be {', '.join(LEVELS[:-1])} or {LEVELS[-1]}; got {level!r}"
-        )
+        levels = f"{', '.join(LEVELS[:-1])} or {LEVELS[-1]}"
+        raise BadArgument("level", f"must be {levels}; got {level!r}")
     maps = Maps({"map": map}, crs, zones, zone_field, layer, each)
     measure = maps.measure(area)
-    land = landscapes_of(maps, connectivity, measure, zones is not None)
+    land = landscapes_of(maps, connectivity, measure, has_zones=zones is not None)
+    # The member (a class in a landscape) of each row. The rows of landscapes have no member.
     members = {"patch": land.member_at, "class": np.arange(land.classes.size)}.get(level)
     zone_of_row = np.arange(land.zones.size) if members is None else land.zone_at[members]
     columns: list[Column] = []
     if zones is not None:
         columns += maps.columns("zone", land.zones[zone_of_row], "zones", zone_labels)
     if level == "patch":
-        first = np.searchsorted(zone_of_row, zone_of_row)
-        columns.append(Column("patch", "class", np.arange(zone_of_row.size) - first + 1))
+        first_of_zone = np.searchsorted(zone_of_row, zone_of_row)
+        numbers = np.arange(zone_of_row.size) - first_of_zone + 1
+        columns.append(Column("patch", "class", numbers))
     if members is not None:
-        columns += maps.columns("class", land.classes[members], "map", labels, "label")
+        columns += maps.columns("class", land.classes[members], "map", labels, label="label")
     of_level = {"patch": _of_patches, "class": _of_classes, "landscape": _of_landscapes}[level]
     return Table(columns + of_level(land, measure))
 
@@ -128,7 +129,7 @@ def _shapes(land: Landscapes) -> Floats:
 
 
 def _of_patches(land: Landscapes, measure: Measure) -> list[Column]:
-    areas = land.cells * land.end * land.flank
+    areas = land.cells * land.end * land.flank  # in square metres
     areas[np.abs(areas - 1) <= _NEARLY_ONE] = np.nan
     values = {
         "perimeter_m": land.perimeters,
@@ -140,47 +141,49 @@ def _of_patches(land: Landscapes, measure: Measure) -> list[Column]:
 
 def _of_classes(land: Landscapes, measure: Measure) -> list[Column]:
     cells, weights = land.by_member(land.cells), land.by_member(land.weights)
-    whole = land.by_zone(weights)[land.zone_at]
+    cells_of_zone = land.by_zone(cells)[land.zone_at]
+    weights_of_zone = land.by_zone(weights)[land.zone_at]
     # Count a border for both of its classes.
-    members, borders = np.concatenate([land.sides.first, land.sides.second]), np.tile(
-        land.borders, 2
-    )
+    members = np.concatenate([land.sides.first, land.sides.second])
+    borders = np.concatenate([land.borders, land.borders])
     edges = summed(members, borders, cells.size) + 0 * land.end  # NaN if lengths are unknown
     others = np.bincount(land.zone_at, minlength=land.zones.size)[land.zone_at] - 1
     values = {
         "aggregation_index": _aggregation(land),
-        "cohesion": _cohesion(land.member_at, land, land.by_zone(cells)[land.zone_at]),
-        "interspersion_index": _interspersion(members, borders, edges, others, others),
+        "cohesion": _cohesion(land.member_at, land, cells_of_zone),
+        "interspersion_index": _interspersion(members, borders, edges, kinds=others, others=others),
     }
     columns = sized(measure, cells, measure.area(weights))
-    columns.append(Column("percent", "measure", 100 * weights / whole))
-    columns += _of_sizes(land.member_at, land, weights, whole, edges, measure)
+    columns.append(Column("percent", "measure", 100 * weights / weights_of_zone))
+    columns += _of_sizes(land.member_at, land, weights, weights_of_zone, edges, measure)
     return columns + measures(values)
 
 
 def _of_landscapes(land: Landscapes, measure: Measure) -> list[Column]:
     size, zone_of_patch = land.zones.size, land.zone_at[land.member_at]
-    members = land.by_member(land.weights)
-    cells, whole = land.by_zone(land.by_member(land.cells)), land.by_zone(members)
-    classes, shares = np.bincount(land.zone_at, minlength=size), members / whole[land.zone_at]
-    across, borders = land.zone_at[land.sides.first], land.borders
-    edges = summed(across, borders, size) + 0 * land.end
-    # The measures are undefined for one class, because the logarithm of 1 is 0.
-    most = np.where(classes >= 2, np.log(np.maximum(classes, 2)), np.nan)
-    diversity = _entropy(land.zone_at, members, size)
+    weights = land.by_member(land.weights)
+    cells, weights_of_zone = land.by_zone(land.by_member(land.cells)), land.by_zone(weights)
+    shares = weights / weights_of_zone[land.zone_at]
+    zone_of_border, borders = land.zone_at[land.sides.first], land.borders
+    edges = summed(zone_of_border, borders, size) + 0 * land.end  # NaN if lengths are unknown
+    classes = np.bincount(land.zone_at, minlength=size)
     pairs = classes * (classes - 1) // 2
+    # The largest entropy. Measures are undefined for one class, because the logarithm of 1 is 0.
+    most = np.where(classes >= 2, np.log(np.maximum(classes, 2)), np.nan)
+    diversity = _entropy(land.zone_at, weights, size)
+    interspersion = _interspersion(zone_of_border, borders, edges, kinds=pairs, others=classes - 1)
     values = {
         "aggregation_index": land.by_zone(np.nan_to_num(_aggregation(land)) * shares),
         "cohesion": _cohesion(zone_of_patch, land, cells),
-        "interspersion_index": _interspersion(across, borders, edges, pairs, classes - 1),
+        "interspersion_index": interspersion,
         "contagion": 100 * (1 - _entropy_of_sides(land, shares) / (2 * most)),
         "shannon_diversity": diversity,
         "shannon_evenness": diversity / most,
         "simpson_diversity": 1 - land.by_zone(shares**2),
     }
-    columns = sized(measure, cells, measure.area(whole))
+    columns = sized(measure, cells, measure.area(weights_of_zone))
     columns.append(Column("classes", "count", classes))
-    columns += _of_sizes(zone_of_patch, land, whole, whole, edges, measure)
+    columns += _of_sizes(zone_of_patch, land, weights_of_zone, weights_of_zone, edges, measure)
     return columns + measures(values)
 
 
@@ -188,30 +191,31 @@ def _of_sizes(
     groups: Integers,
     land: Landscapes,
     weights: Floats,
-    whole: Floats,
+    weights_of_zone: Floats,
     edges: Floats,
     measure: Measure,
 ) -> list[Column]:
     """Return the columns that classes and landscapes have in common.
 
-    `groups` contains the index of each patch's class or landscape.
+    `groups` contains the index of each patch's class or landscape. The other arrays contain each
+    class's or landscape's weight, the weight of its landscape, and the length of its edges.
     """
-    unit, size, full = measure.column, weights.size, measure.area(whole)
+    unit, size, area_of_zone = measure.column, weights.size, measure.area(weights_of_zone)
     count = np.bincount(groups, minlength=size)
     largest = np.zeros(size)
     np.maximum.at(largest, groups, land.weights)
     squares = summed(groups, land.weights**2, size)
     values = {
-        "patches_km2": count / (full * (measure.divisor / _SQUARE_KM)),
-        "largest_patch_percent": 100 * largest / whole,
+        "patches_km2": count / (area_of_zone * (measure.divisor / _SQUARE_KM)),
+        "largest_patch_percent": 100 * largest / weights_of_zone,
         f"mean_patch_{unit}": measure.area(weights) / count,
         f"area_weighted_mean_patch_{unit}": measure.area(squares / weights),
-        f"effective_mesh_{unit}": measure.area(squares / whole),
+        f"effective_mesh_{unit}": measure.area(squares / weights_of_zone),
         "edge_m": edges,
-        f"edge_density_m_{unit}": edges / full,
+        f"edge_density_m_{unit}": edges / area_of_zone,
         "mean_shape_index": summed(groups, _shapes(land), size) / count,
     }
-    if measure.unit is None:
+    if measure.unit is None:  # densities need areas
         del values["patches_km2"], values[f"edge_density_m_{unit}"]
     return [Column("patches", "count", count), *measures(values)]
 
@@ -224,23 +228,24 @@ def _aggregation(land: Landscapes) -> Floats:
     """
     cells = land.by_member(land.cells)
     side = np.sqrt(cells).astype(np.int64)  # exact, because maps have fewer than 2^31 cells
+    # A square shares the most sides. Its remaining cells fill up to two of its edges.
     rest = cells - side**2
     more = np.where(rest <= side, 2 * rest - 1, 2 * rest - 2)
     most = 2 * side * (side - 1) + np.where(rest == 0, 0, more)
     return np.where(most > 0, 100 * land.like / np.maximum(most, 1), np.nan)
 
 
-def _cohesion(groups: Integers, land: Landscapes, whole: Integers) -> Floats:
+def _cohesion(groups: Integers, land: Landscapes, cells_of_zone: Integers) -> Floats:
     """Return the patch cohesion index of each group (Schumaker 1996).
 
     Perimeters are in cell sides, and areas in cells. The index is NaN in a landscape of one cell.
+    `cells_of_zone` contains the number of cells in each group's landscape.
     """
     sides = (land.ends + land.flanks).astype(np.float64)
-    above, below = (
-        summed(groups, part, whole.size) for part in (sides, sides * np.sqrt(land.cells))
-    )
-    most = np.where(whole > 1, 1 - 1 / np.sqrt(whole), np.nan)
-    return np.asarray(100 * (1 - above / below) / most)
+    perimeters = summed(groups, sides, cells_of_zone.size)
+    weighted = summed(groups, sides * np.sqrt(land.cells), cells_of_zone.size)
+    most = np.where(cells_of_zone > 1, 1 - 1 / np.sqrt(cells_of_zone), np.nan)
+    return np.asarray(100 * (1 - perimeters / weighted) / most)
 
 
 def _interspersion(
@@ -248,11 +253,12 @@ def _interspersion(
 ) -> Floats:
     """Return each group's interspersion index: the entropy of the borders relative to its maximum.
 
-    The maximum depends on the number of classes. The index is NaN if there are fewer than three
-    classes, or no edges.
+    `groups` and `borders` contain the group and the length of each border. The other arrays contain
+    each group's total length, number of possible kinds of borders, and number of classes less one.
+    The index is NaN if there are fewer than three classes, or no edges.
     """
-    known = (others >= 2) & (edges > 0)
-    most = np.where(known, np.log(np.maximum(kinds, 2)), np.nan)
+    is_defined = (others >= 2) & (edges > 0)
+    most = np.where(is_defined, np.log(np.maximum(kinds, 2)), np.nan)
     return np.asarray(100 * _entropy(groups, borders, edges.size) / most)
 
 

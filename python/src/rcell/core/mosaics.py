@@ -82,7 +82,8 @@ def open_files(name: str, paths: Sequence[Any]) -> Source:
     crs = common_crs({source.name: source.crs for source in sources})
     first = sources[0]
     shifts = [_shift_of(name, first, source) for source in sources]
-    top, left = (int(min(place)) for place in zip(*shifts))
+    rows_of_files, cols_of_files = zip(*shifts)
+    top, left = min(rows_of_files), min(cols_of_files)
     parts = tuple(
         Part(source, Rectangle(row - top, col - left, *source.region.shape))
         for source, (row, col) in zip(sources, shifts)
@@ -110,12 +111,12 @@ def _shift_of(name: str, first: Any, source: Any) -> tuple[int, int]:
     if not shift.is_whole:
         other = Shift.between(source.transform, first.transform, first.region.shape)
         raise OtherRegion(name, f"{both} differ: {other.misfit(first.name)}")
-    for what, its, own in (
+    for noun, its, own in (
         ("data type", source.dtype, first.dtype),
         ("nodata value", source.nodata, first.nodata),
     ):
         if its != own:
-            difference = f"{both} differ: the {what} is {its} in the first and {own} in the second"
+            difference = f"{both} differ: the {noun} is {its} in the first and {own} in the second"
             raise BadMap(
                 name, f"{difference}; convert one of them first, for example with gdal_translate"
             )
@@ -124,12 +125,12 @@ def _shift_of(name: str, first: Any, source: Any) -> tuple[int, int]:
 
 def _is_full(parts: Sequence[Part], cells: int) -> bool:
     """Return whether files cover all `cells` cells of a map without overlaps."""
-    corners = np.array([place for _, place in parts])
-    is_apart = all(len(_near(corners, place)) == 1 for _, place in parts)
+    places = np.array([place for _, place in parts])
+    is_apart = all(len(_overlapping(places, place)) == 1 for _, place in parts)  # itself
     return is_apart and sum(place.cells for _, place in parts) == cells
 
 
-def _near(places: NDArray[Any], place: Rectangle) -> NDArray[np.intp]:
+def _overlapping(places: NDArray[Any], place: Rectangle) -> NDArray[np.intp]:
     """Return the indices of the rectangles that overlap another rectangle."""
     tops, lefts, rows, cols = places.T
     in_rows = (tops < place.top + place.rows) & (tops + rows > place.top)
@@ -181,7 +182,7 @@ class MosaicMap:
         """The pairs of overlapping files, as indices with the later file first."""
         pairs = []
         for index, (_, place) in enumerate(self.parts):
-            for other in _near(self._places, place).tolist():
+            for other in _overlapping(self._places, place).tolist():
                 if other < index:
                     pairs.append((index, other))
         return pairs
@@ -192,7 +193,7 @@ class MosaicMap:
         Returns None if another process cannot open one of these files.
         """
         parts = []
-        for index in _near(self._places, outer).tolist() or [0]:
+        for index in _overlapping(self._places, outer).tolist() or [0]:
             source, place = self.parts[index]
             sent = source.sent(outer) if hasattr(source, "sent") else None
             if sent is None:
@@ -244,16 +245,17 @@ class MosaicMap:
 
     def window(self, row: int, col: int, rows: int, cols: int) -> Block:
         """Return a window of cells, with rows and columns counted from the north-west corner."""
-        place, nodata = Rectangle(row, col, rows, cols), self.nodata
+        nodata = self.nodata
         cells = np.full((rows, cols), 0 if nodata is None else nodata, self.dtype)
         null = np.ones((rows, cols), np.bool_) if self.is_masked else None
-        for index in _near(self._places, place):
-            source, own = self.parts[index]
-            top, left = max(row, own.top), max(col, own.left)
-            low = min(row + rows, own.top + own.rows)
-            right = min(col + cols, own.left + own.cols)
-            block = source.window(top - own.top, left - own.left, low - top, right - left)
-            target = np.s_[top - row : low - row, left - col : right - col]
+        for index in _overlapping(self._places, Rectangle(row, col, rows, cols)):
+            source, place = self.parts[index]
+            # The part of the window that the file covers.
+            top, left = max(row, place.top), max(col, place.left)
+            bottom = min(row + rows, place.top + place.rows)
+            right = min(col + cols, place.left + place.cols)
+            block = source.window(top - place.top, left - place.left, bottom - top, right - left)
+            target = np.s_[top - row : bottom - row, left - col : right - col]
             is_written: Any = True
             if self.overlaps:
                 is_written = ~null_cells(block.cells, block.null, nodata)

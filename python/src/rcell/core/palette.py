@@ -7,6 +7,7 @@ import colorsys
 
 __all__ = ["colour_at"]
 
+# Steps of the golden ratio around the colour wheel keep consecutive hues apart.
 _GOLDEN = 0.618033988749895
 
 
@@ -18,7 +19,8 @@ def colour_at(place: int) -> tuple[int, int, int]:
     >>> colour_at(0)
     (131, 235, 129)
     """
-    red, green, blue = colorsys.hsv_to_rgb(
-        (0.33 + place * _GOLDEN) % 1.0, 0.45 + 0.15 * (place % 3), 0.92 - 0.16 * (place // 3 % 3)
-    )
+    hue = (0.33 + place * _GOLDEN) % 1.0
+    saturation = 0.45 + 0.15 * (place % 3)
+    brightness = 0.92 - 0.16 * (place // 3 % 3)
+    red, green, blue = colorsys.hsv_to_rgb(hue, saturation, brightness)
     return round(red * 255), round(green * 255), round(blue * 255)

@@ -73,7 +73,9 @@ def patch_measures(
     ----------
     maps : Maps
     measure : Measure
-    connectivity, depth : int
+    connectivity : {4, 8}
+    depth : int
+        The depth of the core, in steps across edges.
     classes : list of int, optional
         Measure only patches of these classes.
     fewest : int
@@ -81,24 +83,29 @@ def patch_measures(
     has_zones : bool
         Whether the maps include a map `zones`.
     """
-    found = PatchSum(classes, fewest)
-    question = Question("map", connectivity, depth, "zones" if has_zones else "")
-    if measure.by_row is None and maps.ask(question, clump_line(connectivity), found):
-        return _of_sum(found, measure)
+    # The program counts the cells of a patch, but not by row, as areas in degrees require.
+    if measure.by_row is None:
+        patch_sum = PatchSum(classes, fewest)
+        question = Question("map", connectivity, depth, zones="zones" if has_zones else "")
+        if maps.ask(question, clump_line(connectivity), patch_sum):
+            return _of_sum(patch_sum, measure)
     return _of_tables(maps, measure, connectivity, depth, classes, fewest, has_zones)
 
 
-def _of_sum(found: PatchSum, measure: Measure) -> PatchMeasures:
+def _of_sum(patch_sum: PatchSum, measure: Measure) -> PatchMeasures:
     """Convert the program's patch counts to patch measures."""
-    counts, has_area = dict(found.counts), measure.unit is not None
-    zones = counts.pop("zones", None)
+    counts, has_area = patch_sum.counts, measure.unit is not None
+    zones = counts.get("zones")
+    if patch_sum.tables:  # measured in tiles, each of which sees only a part of a patch's zones
+        zones = _zones(patch_sum.numbers, patch_sum.tables[0])
+    names = ("cells", "core", "ends", "flanks", "top", "bottom", "left", "right")
     return PatchMeasures(
-        numbers=found.numbers,
-        classes=counts.pop("class"),
-        zones=_zones(found.numbers, found.tables[0]) if found.tables else zones,
+        numbers=patch_sum.numbers,
+        classes=counts["class"],
+        zones=zones,
         area=measure.area(counts["cells"]) if has_area else None,
         core_area=measure.area(counts["core"]) if has_area else None,
-        **counts,
+        **{name: counts[name] for name in names},
     )
 
 
@@ -114,22 +121,25 @@ def _zones(numbers: Integers, table: Integers) -> Integers:
     table : array of int64
         A table with the columns patch, zone and cells.
     """
-    found = np.full(numbers.size, NULL, np.int64)
-    order = np.lexsort([table[:, 1], -table[:, 2], table[:, 0]])
-    first = order[places_of(table[order, 0])]
-    at, kept = _places(numbers, table[first, 0])
-    found[at] = table[first[kept], 1]
-    return found
+    patch, zone, cells = table.T
+    order = np.lexsort([zone, -cells, patch])  # by patch, then from most cells, then by zone
+    first = order[places_of(patch[order])]
+    at, is_listed = _places(numbers, patch[first])
+    zones = np.full(numbers.size, NULL, np.int64)
+    zones[at] = zone[first[is_listed]]
+    return zones
 
 
-def _places(numbers: Integers, of: Integers) -> tuple[NDArray[np.intp], NDArray[np.bool_]]:
+def _places(numbers: Integers, values: Integers) -> tuple[NDArray[np.intp], NDArray[np.bool_]]:
     """Look up values in an ascending array.
 
     Returns the indices of the values that are found, and a mask of these values.
     """
-    at = np.minimum(np.searchsorted(numbers, of), max(numbers.size - 1, 0))
-    kept = numbers[at] == of if numbers.size else np.zeros(of.size, np.bool_)
-    return at[kept], kept
+    if not numbers.size:
+        return np.empty(0, np.intp), np.zeros(values.size, np.bool_)
+    at = np.minimum(np.searchsorted(numbers, values), numbers.size - 1)
+    is_found = numbers[at] == values
+    return at[is_found], is_found
 
 
 def clump_line(connectivity: int, name: str = "map") -> str:
@@ -149,24 +159,25 @@ def _of_tables(
     """Compute patch measures from a script's tables of sides, cores, rows, columns and zones."""
     by_row = measure.by_row is not None
     script = _script(connectivity, classes, depth, has_zones, by_row)
-    sides, core, by_rows, by_cols, *in_zones = maps.tables(script, once=4)
-    found = _Tables(sides, fewest)
-    ends, flanks = found.sides()
-    (top, bottom), (left, right) = (found.ends_of(table) for table in (by_rows, by_cols))
-    inner = found.summed(core[:, 0], core[:, -1])
-    area, core_area = found.areas(measure, by_rows, core, inner)
+    sides, core, by_rows, by_cols, *by_zones = maps.tables(script, once=4)
+    tables = _Tables(sides, fewest)
+    ends, flanks = tables.sides()
+    top, bottom = tables.ends_of(by_rows)
+    left, right = tables.ends_of(by_cols)
+    core_cells = tables.summed(core[:, 0], core[:, -1])
+    area, core_area = tables.areas(measure, by_rows, core, core_cells)
     return PatchMeasures(
-        numbers=found.numbers,
-        classes=found.classes,
-        cells=found.cells,
-        core=inner,
+        numbers=tables.numbers,
+        classes=tables.classes,
+        cells=tables.cells,
+        core=core_cells,
         ends=ends,
         flanks=flanks,
-        top=top - 1,
+        top=top - 1,  # row() and col() count from 1
         bottom=bottom - 1,
         left=left - 1,
         right=right - 1,
-        zones=_zones(found.numbers, in_zones[0]) if has_zones else None,
+        zones=_zones(tables.numbers, by_zones[0]) if has_zones else None,
         area=area,
         core_area=core_area,
     )
@@ -176,8 +187,10 @@ def _script(
     connectivity: int, classes: Optional[list[int]], depth: int, has_zones: bool, by_row: bool
 ) -> str:
     """Return a script that counts the sides, cores, rows, columns and zones of patches."""
+    # Whether the neighbour at an offset (row, column) is outside the patch: 1 or 0.
     leaves = "(isnull(patch[{0}]) ||| patch[{0}] != patch)"
-    north, south, west, east = (leaves.format(place) for place in ("-1,0", "1,0", "0,-1", "0,1"))
+    north, south, west, east = (leaves.format(offset) for offset in ("-1,0", "1,0", "0,-1", "0,1"))
+    # Removes the outermost cells of each patch: one step of the core's depth.
     core = (
         "if({0}[-1,0] == {0} && {0}[1,0] == {0} && {0}[0,-1] == {0} && {0}[0,1] == {0}, {0}, "
         "null())"
@@ -187,10 +200,9 @@ def _script(
         f"r.mapcalc side = if(isnull(patch), null(), {north} + {south} + {_FLANK} * ({west} + "
         f"{east}))"
     ]
-    lines += [
-        f"r.mapcalc core{step + 1} = {core.format(f'core{step}' if step else 'patch')}"
-        for step in range(depth)
-    ]
+    for step in range(depth):
+        previous = f"core{step}" if step else "patch"
+        lines.append(f"r.mapcalc core{step + 1} = {core.format(previous)}")
     lines += ["r.mapcalc row = row()", "r.mapcalc col = col()"]
     kept, inner = "patch", f"core{depth}"
     if classes is not None:
@@ -207,7 +219,9 @@ def _script(
         f"r.stats {'-c ' if by_row else ''}-n input={kept},row",
         f"r.stats -n input={kept},col",
     ]
-    return "\n".join(lines + ([f"r.stats -c -n input={kept},zones"] if has_zones else []))
+    if has_zones:
+        lines.append(f"r.stats -c -n input={kept},zones")
+    return "\n".join(lines)
 
 
 class _Tables:
@@ -223,50 +237,48 @@ class _Tables:
     def __init__(self, sides: Integers, fewest: int) -> None:
         first = places_of(sides[:, 0])
         cells = sums_of(sides[:, 3], first)
-        kept = cells >= fewest
-        self.numbers, self.classes, self.cells = (
-            sides[first[kept], 0],
-            sides[first[kept], 1],
-            cells[kept],
-        )
+        is_large = cells >= fewest
+        self.numbers, self.classes = sides[first[is_large], 0], sides[first[is_large], 1]
+        self.cells = cells[is_large]
         self._sides = sides
 
     def sides(self) -> list[Integers]:
         """Return the number of ends and the number of flanks of each patch."""
-        numbers, codes, cells = self._sides[:, 0], self._sides[:, 2], self._sides[:, 3]
+        numbers, _, codes, cells = self._sides.T
         return [self.summed(numbers, cells * part) for part in (codes % _FLANK, codes // _FLANK)]
 
     def summed(self, numbers: Integers, values: NDArray[Any]) -> NDArray[Any]:
-        """Return the sum of each patch's values.
+        """Return the sum of each patch's values, or 0 for patches without values.
 
         Entries with the same patch number must be consecutive.
         """
         first = places_of(numbers)
-        found = np.zeros(self.numbers.size, values.dtype)
-        at, kept = _places(self.numbers, numbers[first])
-        found[at] = sums_of(values, first)[kept]
-        return found
+        sums = np.zeros(self.numbers.size, values.dtype)
+        at, is_kept = _places(self.numbers, numbers[first])
+        sums[at] = sums_of(values, first)[is_kept]
+        return sums
 
     def ends_of(self, table: Integers) -> tuple[Integers, Integers]:
         """Return the first row (or column) and the last row (or column) of each patch."""
         first = places_of(table[:, 0])
-        last = np.append(first, len(table))[1:] - 1
-        kept = _places(self.numbers, table[first, 0])[1]
-        return table[first[kept], 1], table[last[kept], 1]
+        next_first = np.append(first, len(table))[1:]
+        _, is_kept = _places(self.numbers, table[first, 0])
+        return table[first[is_kept], 1], table[next_first[is_kept] - 1, 1]
 
     def areas(
-        self, measure: Measure, rows: Integers, core: Integers, inner: Integers
+        self, measure: Measure, rows: Integers, core: Integers, core_cells: Integers
     ) -> tuple[Optional[Floats], Optional[Floats]]:
         """Return the areas of the patches and of their cores, or None if no areas are wanted.
 
-        If the map is in degrees, areas are summed row by row.
+        If the map is in degrees, areas are summed row by row, from tables `rows` and `core` with
+        the columns patch, row and cells.
         """
+        if measure.unit is None:
+            return None, None
         if measure.by_row is None:
-            has_area = measure.unit is not None
-            return (measure.area(self.cells), measure.area(inner)) if has_area else (None, None)
-        area, core_area = (
-            self.summed(table[:, 0], table[:, 2] * measure.by_row[table[:, 1] - 1])
-            / measure.divisor
-            for table in (rows, core)
-        )
-        return area, core_area
+            return measure.area(self.cells), measure.area(core_cells)
+        areas = []
+        for numbers, row, cells in (rows.T, core.T):
+            square_metres = self.summed(numbers, cells * measure.by_row[row - 1])
+            areas.append(square_metres / measure.divisor)
+        return areas[0], areas[1]

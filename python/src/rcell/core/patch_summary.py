@@ -106,15 +106,17 @@ class _Summary:
             patches = self._waiting[tile][0]
             patches[:, 1] = numbers_of(tile, patches[:, 1])
         tables, areas = zip(*(self._waiting.pop(tile) for tile in tiles))
-        joined = _added(np.concatenate(tables), np.concatenate(areas))
-        self._complete[tiles[-1] + 1] = self._counted(*joined)
+        patches, area = _added(np.concatenate(tables), np.concatenate(areas))
+        # Joined patches are counted last, as if they were in another tile.
+        self._complete[tiles[-1] + 1] = self._counted(patches, area)
 
     def _patches_of(self, table: Integers) -> tuple[Integers, Floats]:
         """Return the patches in a table as rows of class, number and cells, and their areas."""
         if self._measure.by_row is None:
             return table, self._measure.area(table[:, -1])
-        area = table[:, -1] * self._measure.by_row[table[:, 2] - 1] / self._measure.divisor
-        return _added(table[:, [0, 1, 3]], area)
+        code, patch, row, cells = table.T
+        area = cells * self._measure.by_row[row - 1] / self._measure.divisor
+        return _added(np.column_stack([code, patch, cells]), area)
 
     def _counted(self, patches: Integers, area: Floats) -> dict[int, Numbers]:
         """Return the totals by class, counting only patches that are large enough."""
@@ -124,14 +126,14 @@ class _Summary:
         if not first.size:
             return {}
         cells = patches[:, 2]
-        measures = (
-            np.diff([*first, len(patches)]),
-            np.add.reduceat(cells, first),
-            np.add.reduceat(area, first),
-            np.maximum.reduceat(cells, first),
-            np.maximum.reduceat(area, first),
+        numbers = map(
+            Numbers,
+            np.diff([*first, len(patches)]).tolist(),
+            np.add.reduceat(cells, first).tolist(),
+            np.add.reduceat(area, first).tolist(),
+            np.maximum.reduceat(cells, first).tolist(),
+            np.maximum.reduceat(area, first).tolist(),
         )
-        numbers = map(Numbers, *(measure.tolist() for measure in measures))
         return dict(zip(patches[first, 0].tolist(), numbers))
 
     def _by_class(self) -> dict[int, Numbers]:
@@ -146,26 +148,26 @@ class _Summary:
         """Return the columns of the summary table, with one row per class."""
         by_class = self._by_class()
         codes = np.array(sorted(by_class), np.int64)
-        numbers = [by_class[code] for code in codes.tolist()]
-        count = np.array([number.patches for number in numbers], np.int64)
-        cells = np.array([number.cells for number in numbers], np.int64)
+        totals = [by_class[code] for code in codes.tolist()]
+        patches = np.array([total.patches for total in totals], np.int64)
+        cells = np.array([total.cells for total in totals], np.int64)
         columns = [
-            *maps.columns("class", codes, "map", labels, "label"),
-            Column("patches", "count", count),
+            *maps.columns("class", codes, "map", legend=labels, label="label"),
+            Column("patches", "count", patches),
             Column("cells", "count", cells),
         ]
         unit = self._measure.unit
         if unit is None:
-            largest_cells = np.array([number.largest_cells for number in numbers], np.int64)
+            largest_cells = np.array([total.largest_cells for total in totals], np.int64)
             columns.append(Column("largest_cells", "count", largest_cells))
-            return [*columns, Column("mean_cells", "measure", cells / np.maximum(count, 1))]
-        area = np.array([number.area for number in numbers], np.float64)
+            return [*columns, Column("mean_cells", "measure", cells / np.maximum(patches, 1))]
+        area = np.array([total.area for total in totals], np.float64)
         if self._measure.by_row is None:  # exact, unlike a sum of rounded areas
             area = self._measure.area(cells)
-        largest = np.array([number.largest_area for number in numbers], np.float64)
+        largest = np.array([total.largest_area for total in totals], np.float64)
         columns.append(Column(f"area_{unit}", "measure", area))
         columns.append(Column(f"largest_{unit}", "measure", largest))
-        return [*columns, Column(f"mean_{unit}", "measure", area / np.maximum(count, 1))]
+        return [*columns, Column(f"mean_{unit}", "measure", area / np.maximum(patches, 1))]
 
 
 def _added(patches: Integers, area: Floats) -> tuple[Integers, Floats]:

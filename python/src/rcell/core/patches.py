@@ -108,60 +108,62 @@ def patches(
     fewest = 1 if min_cells is None else whole_number_of("min_cells", min_cells, 1)
     listed = classes_of(classes)
     if summary is not None and (summary != "class" or zones is not None):
-        told = "must be left out if zones are given" if summary == "class" else 'must be "class"'
-        raise BadArgument("summary", f"{told}; got {summary!r}")
+        rule = "must be left out if zones are given" if summary == "class" else 'must be "class"'
+        raise BadArgument("summary", f"{rule}; got {summary!r}")
     maps = Maps({"map": map}, crs, zones, zone_field, layer, each)
     measure = maps.measure(area)
     if summary is not None:
         return class_summary(maps, clump_line(connectivity), measure, listed, fewest, labels)
-    found = patch_measures(maps, measure, connectivity, depth, listed, fewest, zones is not None)
+    measured = patch_measures(maps, measure, connectivity, depth, listed, fewest, zones is not None)
     transform = maps.first.transform
-    areas = _areas(found, measure)
+    *area_column, core_column = _areas(measured, measure)
     columns = [
-        Column("patch", "class", found.numbers),
-        *maps.columns("class", found.classes, "map", labels, "label"),
-        Column("cells", "count", found.cells),
-        *areas[:-1],
-        Column("perimeter_m", "measure", _perimeter(found, transform, measure.length())),
-        areas[-1],
-        *_extents(found, transform),
+        Column("patch", "class", measured.numbers),
+        *maps.columns("class", measured.classes, "map", legend=labels, label="label"),
+        Column("cells", "count", measured.cells),
+        *area_column,
+        Column("perimeter_m", "measure", _perimeter(measured, transform, measure.length())),
+        core_column,
+        *_extents(measured, transform),
     ]
-    if found.zones is not None:
-        columns += maps.columns("zone", found.zones, "zones", zone_labels)
+    if measured.zones is not None:
+        columns += maps.columns("zone", measured.zones, "zones", legend=zone_labels)
     return Table(columns)
 
 
-def _areas(found: PatchMeasures, measure: Measure) -> list[Column]:
+def _areas(measured: PatchMeasures, measure: Measure) -> list[Column]:
     """Return the columns of patch and core areas or, without areas, the column of core cells."""
-    if found.area is None or found.core_area is None:
-        return [Column("core_cells", "count", found.core)]
+    if measured.area is None or measured.core_area is None:
+        return [Column("core_cells", "count", measured.core)]
     return [
-        Column(f"area_{measure.unit}", "measure", found.area),
-        Column(f"core_{measure.unit}", "measure", found.core_area),
+        Column(f"area_{measure.unit}", "measure", measured.area),
+        Column(f"core_{measure.unit}", "measure", measured.core_area),
     ]
 
 
-def _perimeter(found: PatchMeasures, transform: Transform, unit: float) -> NDArray[np.float64]:
-    """Return the perimeter of each patch in metres.
+def _perimeter(measured: PatchMeasures, transform: Transform, unit: float) -> NDArray[np.float64]:
+    """Return the perimeter of each patch in metres, if the map's unit is `unit` metres long.
 
     An end is as long as a cell is wide, and a flank is as long as a cell is high.
     """
-    return (found.ends * transform[0] + found.flanks * -transform[4]) * unit
+    width, _, _, _, height, _ = transform
+    return (measured.ends * width + measured.flanks * -height) * unit
 
 
-def _extents(found: PatchMeasures, transform: Transform) -> list[Column]:
+def _extents(measured: PatchMeasures, transform: Transform) -> list[Column]:
     """Return the columns with the bounding box of each patch."""
     width, _, west, _, height, north = transform
+    # The far edge of the last row or column is the near edge of the next row or column.
     edges = {
-        "west": (west, width, found.left, 0),
-        "south": (north, height, found.bottom, 1),
-        "east": (west, width, found.right, 1),
-        "north": (north, height, found.top, 0),
+        "west": (west, width, measured.left),
+        "south": (north, height, measured.bottom + 1),
+        "east": (west, width, measured.right + 1),
+        "north": (north, height, measured.top),
     }
 
     def edge(name: str) -> NDArray[np.float64]:
-        origin, step, cells, more = edges[name]
-        return origin + step * (cells + more)
+        origin, step, cells = edges[name]
+        return origin + step * cells
 
     return measures(dict(zip(edges, in_threads(edge, edges))))
 
@@ -211,12 +213,14 @@ def clump(
     check_connectivity(connectivity)
     fewest = 1 if min_cells is None else whole_number_of("min_cells", min_cells, 1)
     listed = classes_of(classes)
-    run = Run(clump_line(connectivity), {"map": source_of("map", map)}, {}, crs)
+    run = Run(clump_line(connectivity), {"map": source_of("map", map)}, named={}, crs=crs)
     if fewest == 1 and listed is None:
-        return dataclasses.replace(run.maps(["patch"])[0], labels={}, colors={})
+        [all_patches] = run.maps(["patch"])
+        return dataclasses.replace(all_patches, labels={}, colors={})
     run.script += "\nr.stats -c -n input=patch,map"
     stats, numbers = run.outputs(["patch"])
     assert isinstance(stats, Stats) and isinstance(numbers, ArrayMap) and stats.cells is not None
+    # Patches are numbered from 1, and each has one entry in the table, in the same order.
     kept = np.zeros(len(stats.categories) + 1, np.bool_)
     kept[1:] = stats.cells >= fewest
     if listed is not None:
@@ -226,11 +230,11 @@ def clump(
 
 
 def _leave_out(numbers: ArrayMap, kept: NDArray[np.bool_]) -> None:
-    """Set the cells of excluded patches to null, one block of rows at a time."""
+    """Set the cells of all patches that are not `kept` to null, one block of rows at a time."""
     null = numbers.nodata_value
     assert null is not None
     step = max(1, BLOCK_CELLS // numbers.region.cols)
     for row in range(0, numbers.region.rows, step):
-        part = numbers.array[row : row + step]
-        is_kept = (part != null) & kept[np.where(part == null, 0, part)]
-        np.copyto(part, null, where=~is_kept)
+        block = numbers.array[row : row + step]
+        is_kept = (block != null) & kept[np.where(block == null, 0, block)]
+        np.copyto(block, null, where=~is_kept)

@@ -45,7 +45,8 @@ class Piece:
     @classmethod
     def of(cls, source: Any, outer: Rectangle) -> Piece:
         """Return a piece that contains the cells in a window of a map."""
-        scale, block = getattr(source, "scale", 1), source.window(*outer)
+        block = source.window(*outer)
+        scale = getattr(source, "scale", 1)  # only maps of decimals have a scale
         return cls(source.name, source.dtype, source.nodata, source.is_masked, scale, block)
 
     def window(self, row: int, col: int, rows: int, cols: int) -> Block:
@@ -106,11 +107,13 @@ def sendable(source: Any, outer: Rectangle) -> Any:
     Dask maps, and maps whose files can be opened by path, have a method `sent`. All other maps are
     sent as cells.
     """
+    if isinstance(source, Piece):
+        return source
     inner = source.source if isinstance(source, Scaled) else source
     sent = inner.sent(outer) if hasattr(inner, "sent") else None
     if sent is None:
-        return source if isinstance(source, Piece) else Piece.of(source, outer)
-    return sent if inner is source else Scaled(sent, source.scale)
+        return Piece.of(source, outer)
+    return Scaled(sent, source.scale) if isinstance(source, Scaled) else sent
 
 
 def chunks_of(source: Any) -> Any:
@@ -146,12 +149,12 @@ def states_of(paths: Iterable[str]) -> dict[str, State]:
 
 def check_files_are(states: Mapping[str, State]) -> None:
     """Raise ReadFailed if a file's current state differs from its recorded state."""
-    for path, state in states.items():
-        own = states_of([path]).get(path)
-        if own is None:
+    for path, recorded in states.items():
+        current = states_of([path]).get(path)
+        if current is None:
             raise ReadFailed(path, "cannot open: No such file or directory")
-        if own != state:
-            difference = f"{_state_text(own)} here, and {_state_text(state)} there"
+        if current != recorded:
+            difference = f"{_state_text(current)} here, and {_state_text(recorded)} there"
             raise ReadFailed(path, f"differs from the file on the caller's machine: {difference}")
 
 

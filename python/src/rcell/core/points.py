@@ -55,9 +55,9 @@ class Points:
             The number and the map class of each cell that contains points and is not null in the
             map.
         """
-        mapped = np.full(int(self.cells.max(initial=0)) + 1, NULL, np.int64)
-        mapped[table[:, 0]] = table[:, 1]
-        classes = mapped[self.cells]
+        class_of_cell = np.full(int(self.cells.max(initial=0)) + 1, NULL, np.int64)
+        class_of_cell[table[:, 0]] = table[:, 1]
+        classes = class_of_cell[self.cells]
         has_class = classes != NULL
         left_out = {**self.left_out, "on null cells": np.count_nonzero(~has_class)}
         lost = sum(left_out.values())
@@ -67,9 +67,9 @@ class Points:
                 f"{count:,} {reason}" for reason, count in left_out.items() if count
             )
             warn(f"reference: {lost:,} of {total:,} points are left out: {reasons}")
-        both = np.column_stack([classes[has_class], self.classes[has_class]])
-        kinds, cells = np.unique(both, axis=0, return_counts=True)
-        return np.column_stack([kinds, cells])
+        pairs = np.column_stack([classes[has_class], self.classes[has_class]])
+        distinct, counts = np.unique(pairs, axis=0, return_counts=True)
+        return np.column_stack([distinct, counts])
 
 
 def points_of(layer: Layer, field: Optional[str], like: Source, crs: Any = None) -> Points:
@@ -83,6 +83,7 @@ def points_of(layer: Layer, field: Optional[str], like: Source, crs: Any = None)
     field : str, optional
         The field that contains each point's class.
     like : Source
+        The map whose cells are used.
     crs : any
         The coordinate reference system to assume for maps that do not have one.
 
@@ -95,26 +96,30 @@ def points_of(layer: Layer, field: Optional[str], like: Source, crs: Any = None)
     """
     name = _field_of(layer, field)
     titles = {"map": like.name, "reference": layer.name}
-    common_crs({"map": like.crs, "reference": layer.crs}, crs, "ogr2ogr", titles)
-    rows = list(_points(layer, name))
-    known = np.array([row for row in rows if row is not None], np.float64).reshape(-1, 3)
-    x, y, codes = known.T
-    width, _, west, _, height, north = like.transform
+    systems = {"map": like.crs, "reference": layer.crs}
+    common_crs(systems, crs, warp="ogr2ogr", titles=titles)
+    points = list(_points(layer, name))
+    known = [point for point in points if point is not None]
+    x, y, codes = np.array(known, np.float64).reshape(-1, 3).T
+    region, transform = like.region, like.transform
+    width, _, west, _, height, north = transform
     col = np.floor((x - west) / width)
     row = np.floor((north - y) / -height)
-    high, wide = like.region.shape
-    inside = (row >= 0) & (row < high) & (col >= 0) & (col < wide)
+    rows, cols = region.shape
+    inside = (row >= 0) & (row < rows) & (col >= 0) & (col < cols)
     left_out = {
-        "without a class": len(rows) - len(known),
+        "without a class": len(points) - len(known),
         "outside the map": np.count_nonzero(~inside),
     }
-    places = row[inside].astype(np.int64) * wide + col[inside].astype(np.int64)
-    distinct, cells = np.unique(places, return_inverse=True)
-    numbers = np.full((high, wide), NULL, np.int32)
+    flat_index = row[inside].astype(np.int64) * cols + col[inside].astype(np.int64)
+    distinct, places = np.unique(flat_index, return_inverse=True)
+    numbers = np.full((rows, cols), NULL, np.int32)
     numbers.reshape(-1)[distinct] = np.arange(1, distinct.size + 1)
-    numbered = ArrayMap(layer.name, numbers, like.region, None, NULL, {}, like.crs, like.transform)
+    numbered = ArrayMap(
+        layer.name, numbers, region, nodata_value=NULL, crs=like.crs, exact_transform=transform
+    )
     classes = codes[inside].astype(np.int64)
-    return Points(numbered, cells.reshape(-1) + 1, classes, left_out)
+    return Points(numbered, places.reshape(-1) + 1, classes, left_out)
 
 
 def _field_of(layer: Layer, field: Optional[str]) -> str:

@@ -22,6 +22,7 @@ __all__ = ["is_text_grid", "printed", "spooled"]
 _SCRIPT = b"r.out.ascii input=grid\n"
 _KEYS = b"north|south|east|west|rows|cols|null|type|multiplier"
 _FIRST_LINE = re.compile(rb"\s*(?:%s):" % _KEYS)
+# rcell: FILE:LINE: TEXT
 _MESSAGE = re.compile(r"rcell: [^:]*:(\d+): (.*)")
 
 
@@ -100,6 +101,7 @@ def _pieces(process: Started) -> Iterator[bytes]:
     status, message = process.end()
     match = _MESSAGE.match(message.decode("utf-8", "surrogateescape"))
     if status > 0 and match:
-        raise Rejected(status, "request", 0, int(match[1]), 0, match[2])
+        line, text = int(match[1]), match[2]
+        raise Rejected(status, source="request", map=0, line=line, column=0, text=text)
     if status:
         raise failure_of(status, message)

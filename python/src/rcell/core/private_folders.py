@@ -14,7 +14,7 @@ import shutil
 
 __all__ = ["PrivateFolder"]
 
-_LONGEST_STEM = 200
+_LONGEST_STEM = 200  # bytes, because most file systems limit names to 255
 _ENDING = re.compile("-[0-9a-f]{8}")
 
 
@@ -119,12 +119,12 @@ def _remove_abandoned(folder: str, stem: str) -> None:
 def _remove_unlocked(path: str) -> None:
     """Remove a folder if it belongs to this user, or raise OSError if a process holds its lock."""
     with contextlib.ExitStack() as opened:
-        room = os.open(path, os.O_RDONLY | os.O_DIRECTORY | os.O_NOFOLLOW)
-        opened.callback(os.close, room)
-        if os.fstat(room).st_uid != os.geteuid():
+        folder = os.open(path, os.O_RDONLY | os.O_DIRECTORY | os.O_NOFOLLOW)
+        opened.callback(os.close, folder)
+        if os.fstat(folder).st_uid != os.geteuid():
             return
-        words = os.O_WRONLY | os.O_NOFOLLOW | os.O_NONBLOCK
-        lock = os.open(os.path.basename(path), words, dir_fd=room)
+        flags = os.O_WRONLY | os.O_NOFOLLOW | os.O_NONBLOCK  # never waits, even for a named pipe
+        lock = os.open(os.path.basename(path), flags, dir_fd=folder)
         opened.callback(os.close, lock)
         fcntl.flock(lock, fcntl.LOCK_EX | fcntl.LOCK_NB)
         _remove(path)

@@ -42,19 +42,20 @@ With pages of 4 KiB, allocation took an eighth of the time of a table.
 MESSAGE_LIMIT = 1 << 16
 """The largest number of bytes to keep from a program's standard error, usually one line."""
 
-_held: set[int] = set()
+_open_pipes: set[int] = set()  # the ends of pipes that this process holds open
 _works = 0  # running blocks that must remove a file or stop a program before this process ends
 _lock = threading.RLock()
 
 
-def _let_go() -> None:
+def _close_all() -> None:
     """Close the pipes in a forked child, because open copies would block the parent."""
-    while _held:
-        os.close(_held.pop())
+    while _open_pipes:
+        os.close(_open_pipes.pop())
     _lock.release()
 
 
-os.register_at_fork(before=_lock.acquire, after_in_parent=_lock.release, after_in_child=_let_go)
+# No thread may open or close a pipe during a fork.
+os.register_at_fork(before=_lock.acquire, after_in_parent=_lock.release, after_in_child=_close_all)
 
 
 def begin_work() -> None:
@@ -106,7 +107,7 @@ def pipe() -> tuple[int, int]:
     """
     with _lock:
         reader, writer = (above_standard(end) for end in os.pipe())
-        _held.update((reader, writer))
+        _open_pipes.update((reader, writer))
     with contextlib.suppress(OSError):
         fcntl.fcntl(writer, SET_PIPE_SIZE, PIPE_BYTES)
     return reader, writer
@@ -115,7 +116,7 @@ def pipe() -> tuple[int, int]:
 def close(descriptor: int) -> None:
     """Close one end of a pipe."""
     with _lock:
-        _held.discard(descriptor)
+        _open_pipes.discard(descriptor)
         os.close(descriptor)
 
 
@@ -169,7 +170,7 @@ class Started:
             close(self._output)
             close(self._errors)
             raise
-        finally:
+        finally:  # only the program writes, so that the streams end when it ends
             close(output)
             close(errors)
         self._poll = select.poll()
@@ -236,6 +237,7 @@ class Started:
         self._open_ends.discard(end)
 
     def _longest_wait(self) -> float | None:
+        """Call the watch function, and return the seconds to wait, or None if there is no limit."""
         left = self._seconds_left()
         if self._watch is None:
             return left

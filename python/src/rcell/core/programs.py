@@ -43,9 +43,12 @@ def candidates(name: str) -> Iterator[str]:
         path = os.path.join(folder, name)
         if os.path.isabs(folder) and os.path.isfile(path):
             yield path
-    yield from filter(None, [found_on_path(name)])
+    on_path = found_on_path(name)
+    if on_path is not None:
+        yield on_path
 
 
+# The programs that passed their tests: inode, size and modification time, by path.
 _known: dict[str, tuple[int, int, int]] = {}
 
 
@@ -83,7 +86,8 @@ def find_beside(
         return find(name)
     path = os.fspath(program) if program is not None else os.environ.get(variable)
     if not path:
-        beside = os.path.join(os.path.dirname(os.path.abspath(os.environ.get("RCELL", ""))), name)
+        folder = os.path.dirname(os.path.abspath(os.environ.get("RCELL", "")))
+        beside = os.path.join(folder, name)
         is_beside = "RCELL" in os.environ and os.path.isfile(beside)
         path = beside if is_beside else next(candidates(name), "")
     if not path:
@@ -119,6 +123,7 @@ def _probe(path: str) -> None:
     try:
         with spooled([_PROBE_GRID]) as grid, printed(path, grid, PROBE_SECONDS) as pieces:
             text = b""
+            # Another program may print without end, so reading stops at the first difference.
             while _PRINTED.startswith(text) and (piece := next(pieces, b"")):
                 text += piece
             is_known = text == _PRINTED
@@ -146,15 +151,14 @@ def _probe_pipe(path: str) -> None:
 
 @contextlib.contextmanager
 def program_errors(script: str, names: list[str], path: str) -> Iterator[None]:
-    """Convert rcell-pipe's errors in this block to errors of this package."""
+    """Convert errors of the program at `path`, which reads the maps `names`, to this package's."""
     try:
         yield
-    except protocol.Rejected as end:
-        raise (OutOfMemory if end.status == 3 else Refused)(
-            **end.parts(path, script, names)
-        ) from None
+    except protocol.Rejected as rejected:
+        error_type = OutOfMemory if rejected.status == 3 else Refused
+        raise error_type(**rejected.parts(path, script, names)) from None
     except protocol.Killed as error:
-        raise Killed(int(error.args[0])) from None
+        raise Killed(int(error.args[0])) from None  # the signal
     except protocol.NoAnswer as error:
         raise WrongProgram(str(error)) from None
     except protocol.NotStarted as error:

@@ -36,6 +36,7 @@ __all__ = [
     "Margin",
     "NoAnswer",
     "NotStarted",
+    "NumbersFrame",
     "PatchesFrame",
     "Question",
     "Rejected",
@@ -185,7 +186,34 @@ class PatchesFrame:
     rows: memoryview
 
 
-Frame = Union[TableFrame, GridFrame, PatchesFrame]
+@dataclass(frozen=True)
+class NumbersFrame:
+    """The map of patch numbers, which precedes the patches of a question that asks for it.
+
+    Attributes
+    ----------
+    question : int
+        The index of the question, counted from 0.
+    rows, cols : int
+    type : {"u8", "i32"}
+        The type of the cells, as in `GridFrame`.
+    cells : memoryview
+        The numbers row by row, with the type `type`. Patches are numbered from 1, as in `r.clump`.
+
+    Examples
+    --------
+    >>> NumbersFrame(0, 1, 3, "u8", memoryview(bytes([1, 255, 2]))).cells.tolist()
+    [1, 255, 2]
+    """
+
+    question: int
+    rows: int
+    cols: int
+    type: str
+    cells: memoryview
+
+
+Frame = Union[TableFrame, GridFrame, PatchesFrame, NumbersFrame]
 
 
 class Call(NamedTuple):
@@ -436,11 +464,17 @@ class _Response:
         null_text = bytes(self.text())
         name = self.name()
         edges = self.names(4)
+        return GridFrame(line, name, null_text, edges, *self.map_cells())
+
+    def map_cells(self) -> tuple[int, int, str, memoryview]:
+        """Read the rows and columns of a map, and the type and values of its cells."""
         rows, cols = self.numbers(2)
         kinds = {1: ("u8", "B"), 6: ("i32", "i")}
         kind, letter = kinds.get(self.take(1)[0]) or self.unknown()
-        cells = self.cells(rows * cols, letter)
-        return GridFrame(line, name, null_text, edges, rows, cols, kind, cells)
+        return rows, cols, kind, self.cells(rows * cols, letter)
+
+    def patch_numbers(self) -> NumbersFrame:
+        return NumbersFrame(self.count(), *self.map_cells())
 
     def patches(self) -> PatchesFrame:
         question = self.count()
@@ -507,6 +541,7 @@ class _Response:
             b"TABL": self.table,
             b"CELL": self.table,
             b"GRID": self.grid,
+            b"NUMB": self.patch_numbers,
             b"PTCH": self.patches,
             b"PLAN": self.statement,
         }
@@ -602,7 +637,9 @@ _PROBE_SCRIPT = (
     b"r.clump -d input=probe output=k\nr.stats -c input=probe,k after=7,1\nr.stats -1 "
     b"input=k\nr.out.ascii input=k\n"
 )
-_PROBE_CELLS = [struct.pack("<4i", 12, 2, NULL, NULL), struct.pack("<3i", 1, NULL, 2), b"\1\xff\2"]
+_PROBE_QUESTION = Question("probe", 8, 1, with_numbers=True)
+_PROBE_CELLS = [struct.pack("<4i", 12, 2, NULL, NULL), struct.pack("<3i", 1, NULL, 2)]
+_PROBE_CELLS += [b"\1\xff\2"] * 2
 
 
 def is_known(program: str, seconds: float) -> bool:
@@ -615,7 +652,7 @@ def is_known(program: str, seconds: float) -> bool:
     """
     probe = Map("probe", ("1", "0", "3", "0"), 1, 3, "u8", [Block(b"\7\xff\14")], nodata=255)
     try:
-        frames = run(program, [probe], _PROBE_SCRIPT, seconds=seconds)
+        frames = run(program, [probe], _PROBE_SCRIPT, [_PROBE_QUESTION], seconds=seconds)
     except (Rejected, Killed, NoAnswer):
         return False
     cells = [bytes(frame.cells) for frame in frames if not isinstance(frame, PatchesFrame)]

@@ -82,10 +82,10 @@ def reclass(map: MapLike, rules: Any, other: Optional[str] = None, *, crs: Any =
     lines.append("end")
     if other is None:
         lines.append("r.stats -c input=map,new")
-    run = Run("\n".join(lines), {"map": source}, {}, crs)
+    run = Run("\n".join(lines), {"map": source}, named={}, crs=crs)
     *tables, reclassified = run.outputs(["new"])
     assert isinstance(reclassified, ArrayMap)
-    for table in tables:
+    for table in tables:  # one table, or none if `other` is given
         assert isinstance(table, Stats)
         _check_all(table.categories.tolist(), listed)
     labels = {rule.new: rule.label for rule in listed if rule.new is not None and rule.label}
@@ -110,14 +110,14 @@ def _checked(rules: Iterable[Rule]) -> Sequence[Rule]:
 
 def _joined(listed: Sequence[Rule]) -> Iterator[Rule]:
     """Merge equal rules for consecutive classes, because scripts are limited to 1 MiB."""
-    run = listed[0]
+    merged = listed[0]
     for rule in listed[1:]:
-        if (rule.low, rule.new, rule.label) == (run.high + 1, run.new, run.label):
-            run = run._replace(high=rule.high)
+        if (rule.low, rule.new, rule.label) == (merged.high + 1, merged.new, merged.label):
+            merged = merged._replace(high=rule.high)
         else:
-            yield run
-            run = rule
-    yield run
+            yield merged
+            merged = rule
+    yield merged
 
 
 def _check_all(entries: list[list[int]], listed: Sequence[Rule]) -> None:
@@ -135,8 +135,9 @@ def _check_all(entries: list[list[int]], listed: Sequence[Rule]) -> None:
 
 def _rules_of(crosswalk: Any) -> Iterator[Rule]:
     """Yield the rules of a crosswalk, which is a dict, a DataFrame or a CSV."""
-    if isinstance(crosswalk, (str, os.PathLike)) or hasattr(crosswalk, "columns"):
-        for place, row in rows_of("rules", crosswalk, ("value", "new"), ("label",)):
+    is_data_frame = hasattr(crosswalk, "columns")
+    if isinstance(crosswalk, (str, os.PathLike)) or is_data_frame:
+        for place, row in rows_of("rules", crosswalk, needed=("value", "new"), optional=("label",)):
             yield _rule(f"{place}: ", row["value"], row["new"], row.get("label"))
     elif isinstance(crosswalk, Mapping):
         for value, new in crosswalk.items():
@@ -149,16 +150,17 @@ def _rules_of(crosswalk: Any) -> Iterator[Rule]:
 
 def _rule(place: str, value: Any, new: Any, label: Any) -> Rule:
     """Return the rule for a class or for a range, given as a pair or as a string such as `1-9`."""
-    low, high = value if isinstance(value, tuple) and len(value) == 2 else (value, value)
-    match = _RANGE.fullmatch(value.strip()) if isinstance(value, str) else None
-    if match:
-        low, high = match.groups()
-    first, last = _class_of(place, low), _class_of(place, high)
-    if last < first:
-        raise BadArgument("rules", f"{place}{first}-{last} is not an ascending range")
+    first = last = value
+    if isinstance(value, tuple) and len(value) == 2:
+        first, last = value
+    elif isinstance(value, str) and (match := _RANGE.fullmatch(value.strip())):
+        first, last = match.groups()
+    low, high = _class_of(place, first), _class_of(place, last)
+    if high < low:
+        raise BadArgument("rules", f"{place}{low}-{high} is not an ascending range")
     is_null = is_missing(new) or (isinstance(new, str) and not new.strip())
     text = "" if is_missing(label) else str(label).strip()
-    return Rule(first, last, None if is_null else _class_of(place, new), text)
+    return Rule(low, high, None if is_null else _class_of(place, new), text)
 
 
 def _class_of(place: str, value: Any) -> int:

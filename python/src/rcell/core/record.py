@@ -49,9 +49,9 @@ FORM = 1
 _WORDS = ("area", "crs", "zone_field", "field", "layer", "level", "allocation", "other", "resample")
 # Endings of files whose bytes are recorded, because they are not read as cells.
 _TEXTS = (".csv", ".tsv", ".qml")
-_FILES = 4
+_FILES = 4  # the exit status if a file cannot be read
 # How to create a record, in the terms of each host.
-_ASKED = {
+_ADVICE = {
     "python": "write it with rcell.record",
     "shell": "add --record to the command that writes the table",
     "qgis": "tick RECORD in the algorithm that writes the table",
@@ -113,6 +113,9 @@ def make(
 ) -> RecordedCall:
     """Run a call and record it for a table that will be written to `path`.
 
+    `words` and `named` are the call's positional and keyword arguments. `part` is the name of the
+    table in a result that has several.
+
     Raises
     ------
     BadArgument
@@ -122,12 +125,12 @@ def make(
         raise BadArgument("path", f"must end in .csv; got {path!r}")
     check_arguments(call, named)
     folder = os.path.dirname(os.path.abspath(path))
-    known = inspect.signature(call).parameters
-    own = {name: word for name, word in named.items() if not _is_default(known.get(name), word)}
+    params = inspect.signature(call).parameters
+    given = {name: word for name, word in named.items() if not _is_default(params.get(name), word)}
     recorded_call = {
         "name": call.__name__,
-        "words": [_plain(title, word, folder) for title, word in zip(known, words)],
-        "named": {name: _plain(name, value, folder) for name, value in own.items()},
+        "words": [_plain(title, word, folder) for title, word in zip(params, words)],
+        "named": {name: _plain(name, value, folder) for name, value in given.items()},
         "part": part,
     }
     with writing(path, _beside(path)):
@@ -140,23 +143,24 @@ def csv_of(table: Table) -> bytes:
     return text.encode("utf-8", "surrogateescape")
 
 
-def _is_default(known: Optional[inspect.Parameter], argument: Any) -> bool:
+def _is_default(parameter: Optional[inspect.Parameter], argument: Any) -> bool:
     """Return whether an argument has its default value."""
+    # Arrays and tables are never defaults, and comparing them does not return a bool.
     is_plain = argument is None or isinstance(argument, (bool, int, float, str))
-    return known is not None and is_plain and argument == known.default
+    return parameter is not None and is_plain and argument == parameter.default
 
 
 def _recorded(
     recorded_call: Mapping[str, Any], call: Callable[..., Any], folder: str
 ) -> RecordedCall:
     """Run a call and record its scripts and maps."""
-    before, runs = host().started, []
+    caller_started, runs = host().started, []
 
     def started(script: str, maps: Mapping[str, Source]) -> None:
         sums = {name: sum_of_cells(source) for name, source in maps.items()}
         runs.append({"script": script, "maps": sums})
-        if before is not None:
-            before(script, maps)
+        if caller_started is not None:
+            caller_started(script, maps)
 
     words = [placed(word, folder) for word in recorded_call["words"]]
     named = {name: placed(value, folder) for name, value in recorded_call["named"].items()}
@@ -170,13 +174,13 @@ def table_of(result: Any, part: Optional[str] = None) -> Table:
     if isinstance(result, Accuracy) and part == "summary":
         return summary_of(result)
     tables = {"": result} if isinstance(result, Table) else {}
-    if hasattr(result, "_asdict"):
+    if hasattr(result, "_asdict"):  # a named tuple of tables
         parts = result._asdict()
         tables = {name: value for name, value in parts.items() if isinstance(value, Table)}
     if not tables:
         raise BadArgument("call", f"must return a table; got a {type(result).__name__}")
     if part not in (None, *tables):
-        names = ", ".join(filter(None, tables))
+        names = ", ".join(name for name in tables if name)
         rule = f"must be one of {names}" if names else "must be left out if there is only one table"
         raise BadArgument("table", f"{rule}; got {part!r}")
     return tables[part] if part is not None else next(iter(tables.values()))
@@ -192,8 +196,9 @@ def read_record(path: str) -> dict[str, Any]:
     """
     beside = _beside(path)
     if os.path.exists(path) and not os.path.exists(beside):
-        advice = _ASKED[host().words]
+        advice = _ADVICE[host().words]
         raise Refused(f"{path} has no record ({beside}): {advice}", "record", status=_FILES)
+    # If the table is missing too, the error names the table.
     try:
         text = _bytes_of(beside if os.path.exists(path) else path)
         record: dict[str, Any] = json.loads(text.decode("utf-8", "surrogateescape"))
@@ -244,7 +249,7 @@ def _is_record(record: Any) -> bool:
 
 
 def differences(path: str, version: str) -> Iterator[str]:
-    """Repeat a recorded call and yield a line for each difference from the record."""
+    """Repeat a recorded call with rcell `version`, and yield a line for each difference."""
     record, folder = read_record(path), os.path.dirname(os.path.abspath(path))
     if is_of_r(record):
         text = f'{path} was recorded with the R package: verify it in R with rcell_verify("{path}")'
@@ -271,29 +276,31 @@ def _other_runs(
     runs: Sequence[Any], recorded_runs: Sequence[Any], paths: Mapping[str, str]
 ) -> Iterator[str]:
     """Yield a line for each map whose cells differ, and a line if the scripts differ."""
-    maps: dict[str, None] = {}
+    lines: list[str] = []
     for run, recorded in zip(runs, recorded_runs):
-        for name, sum_then in recorded["maps"].items():
-            if run["maps"].get(name) != sum_then:
+        for name, recorded_sum in recorded["maps"].items():
+            if run["maps"].get(name) != recorded_sum:
                 title = f"{name} ({paths[name]})" if name in paths else name
-                maps[f"the cells of {title} differ"] = None
-    yield from maps
+                lines.append(f"the cells of {title} differ")
+    yield from dict.fromkeys(lines)  # once, although several runs may read the same map
     if [run["script"] for run in runs] != [run["script"] for run in recorded_runs]:
         yield "the scripts differ: the call ran different lines"
 
 
 def _other_lines(recorded: bytes, returned: bytes) -> Iterator[str]:
     """Yield a line that shows the first difference between two tables and counts the others."""
-    lines, others = (text.decode("utf-8", "replace").split("\n") for text in (recorded, returned))
-    pairs = enumerate(zip(lines, others), 1)
-    different = [(number, *pair) for number, pair in pairs if pair[0] != pair[1]]
+    lines, new_lines = (
+        text.decode("utf-8", "replace").split("\n") for text in (recorded, returned)
+    )
+    numbered = enumerate(zip(lines, new_lines), 1)
+    different = [(number, line, new) for number, (line, new) in numbered if line != new]
     if different:
-        (number, line, other), *rest = different
-        noun = "line" if len(rest) == 1 else "lines"
-        more = f" and in {len(rest)} more {noun}" if rest else ""
-        yield f"the table differs in line {number}{more}: `{line}`, but the call returns `{other}`"
+        (number, line, new), *others = different
+        noun = "line" if len(others) == 1 else "lines"
+        more = f" and in {len(others)} more {noun}" if others else ""
+        yield f"the table differs in line {number}{more}: `{line}`, but the call returns `{new}`"
     elif recorded != returned:
-        yield f"the table has {len(lines) - 1} lines, but the call returns {len(others) - 1}"
+        yield f"the table has {len(lines) - 1} lines, but the call returns {len(new_lines) - 1}"
 
 
 def _other_texts(arguments: Any, folder: str) -> Iterator[str]:
@@ -328,7 +335,7 @@ def _paths_of(recorded_call: Mapping[str, Any], call: Callable[..., Any]) -> dic
 
 
 def _plain(title: str, argument: Any, folder: str) -> Any:
-    """Convert an argument to JSON types, with file paths relative to a folder."""
+    """Convert the argument `title` to JSON types, with file paths relative to a folder."""
     if isinstance(argument, BandOf):
         return {**_plain(title, argument.path, folder), "band": argument.band}
     if isinstance(argument, (list, tuple)):
@@ -338,11 +345,13 @@ def _plain(title: str, argument: Any, folder: str) -> Any:
         return {"items": items}
     if isinstance(argument, (str, os.PathLike)):
         text = os.fspath(argument)
-        file = text.partition("|")[0]
+        file, _, _ = text.partition("|")  # QGIS appends a layer: zones.gpkg|layername=parks
         if title in _WORDS or not (os.path.isfile(file) or _is_pattern(file)):
             return text
-        path = {"path": os.path.relpath(os.path.abspath(text), folder)}
-        return {**path, "sha256": file_sum(file)} if file.lower().endswith(_TEXTS) else path
+        recorded = {"path": os.path.relpath(os.path.abspath(text), folder)}
+        if file.lower().endswith(_TEXTS):
+            recorded["sha256"] = file_sum(file)
+        return recorded
     if argument is None or isinstance(argument, (bool, int, float)):
         return argument
     rule = "must be a path, a number or a string to be recorded"

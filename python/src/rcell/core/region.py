@@ -64,6 +64,7 @@ def _is_number(value: Any) -> bool:
 def six_numbers(name: str, transform: Any) -> Transform:
     """Convert a transform of any type to six floats."""
     try:
+        # An Affine has nine numbers, of which the last three are always 0, 0, 1.
         a, b, c, d, e, f = (float(number) for number in tuple(transform)[:6])
     except (TypeError, ValueError):
         raise BadMap(
@@ -188,8 +189,9 @@ class Region:
         """
         upright = six_numbers("region", transform)
         check_upright("region", upright)
+        _, _, west, _, _, north = upright
         _, south, east, _ = edges_of_transform(upright, rows, cols)
-        return cls(upright[5], float(south), float(east), upright[2], rows, cols)
+        return cls(north, float(south), float(east), west, rows, cols)
 
     @classmethod
     def of_cells(cls, rows: int, cols: int) -> Region:
@@ -342,6 +344,7 @@ class Shift:
     height, width : float
         The size of a cell, in cells of the other grid.
     shape : tuple of int
+        The rows and columns of the grid.
     sizes : tuple of tuple of float
         The heights and widths of cells in both grids, beginning with the other grid.
     """
@@ -365,17 +368,20 @@ class Shift:
         """
         other_width, _, other_west, _, other_height, other_north = other
         width, _, west, _, height, north = grid
-        rows = (other_north - north) / -other_height
-        cols = (west - other_west) / other_width
-        sizes = ((-other_height, other_width), (-height, width))
-        shift = _whole(rows), _whole(cols)
-        return cls(*shift, height / other_height, width / other_width, shape, sizes)
+        return cls(
+            rows=_whole((other_north - north) / -other_height),
+            cols=_whole((west - other_west) / other_width),
+            height=height / other_height,
+            width=width / other_width,
+            shape=shape,
+            sizes=((-other_height, other_width), (-height, width)),
+        )
 
     @property
     def has_other_cells(self) -> bool:
         """Whether cell sizes differ so much that the last cells do not coincide."""
         rows, cols = self.shape
-        down, across = abs(self.height - 1) * rows, abs(self.width - 1) * cols
+        down, across = abs(self.height - 1) * rows, abs(self.width - 1) * cols  # at the last cell
         return max(down, across) > NEARLY_WHOLE
 
     @property
@@ -394,10 +400,10 @@ class Shift:
         return down, across
 
     def misfit(self, name: str) -> str:
-        """Explain why the cells of the two grids do not coincide."""
+        """Explain why the cells of the other grid and of the grid `name` do not coincide."""
         if self.has_other_cells:
-            mine, its = (f"{width:.10g} x {height:.10g}" for height, width in self.sizes)
-            return f"cells of {mine}, but `{name}` has cells of {its}"
+            other_size, size = (f"{width:.10g} x {height:.10g}" for height, width in self.sizes)
+            return f"cells of {other_size}, but `{name}` has cells of {size}"
         return f"shifted by {self.rows:.10g} rows and {self.cols:.10g} columns, not by whole cells"
 
 

@@ -36,6 +36,7 @@ MOST_ROWS = 200
 MOST_CLASSES = 40
 MOST_PIXELS = 480
 _DIGITS, _MOST_DECIMALS = 6, 6
+# The first bytes of a PNG, and PNG's number for colours of red, green, blue and opacity.
 _SIGNATURE = b"\x89PNG\r\n\x1a\n"
 _RGBA = 6
 
@@ -117,7 +118,8 @@ def _section_of(path: str) -> str:
     definition = DEFINITIONS.get(call["name"].removeprefix("rcell_"), "")
     verify = f"rcell-gis verify {shlex.quote(name)}"
     if is_of_r(record):
-        verify = f"Rscript -e {shlex.quote(f'rcell::rcell_verify({json.dumps(name)})')}"
+        r_call = f"rcell::rcell_verify({json.dumps(name)})"
+        verify = f"Rscript -e {shlex.quote(r_call)}"
     lines = [
         f"<section>\n<h2>{_text(name)}</h2>",
         f"<p>{_text(definition)}</p>",
@@ -142,7 +144,9 @@ def _table_of(path: str, name: str) -> Iterator[str]:
     """Yield HTML lines with the first rows of a table and the number of omitted rows."""
     with open(path, encoding="utf-8", errors="replace", newline="") as file:
         titles, *rows = csv.reader(file)
-    columns = [_shown(column) for column in zip(*rows)] or [(False, [])] * len(titles)
+    columns = [_shown(column) for column in zip(*rows)]
+    if not rows:
+        columns = [(False, [])] * len(titles)
     marks = [' class="number"' if is_number else "" for is_number, _ in columns]
     head = "".join(f"<th{mark}>{_text(title)}</th>" for mark, title in zip(marks, titles))
     yield f"<table>\n<thead><tr>{head}</tr></thead>\n<tbody>"
@@ -169,8 +173,8 @@ def _shown(column: Sequence[str]) -> tuple[bool, list[str]]:
         return True, list(column)
     known = [abs(number) for number in numbers if number is not None and math.isfinite(number)]
     largest = max(known, default=0.0)
-    before = len(str(int(largest)))
-    decimals = max(0, min(_MOST_DECIMALS, _DIGITS - before))
+    digits_before_point = len(str(int(largest)))
+    decimals = max(0, min(_MOST_DECIMALS, _DIGITS - digits_before_point))
     return True, ["" if number is None else f"{number:.{decimals}f}" for number in numbers]
 
 
@@ -222,8 +226,8 @@ def _picture_of(record: Mapping[str, Any], folder: str) -> Iterator[str]:
         return
     try:
         source = source_of("map", placed(first, folder))
-        known = {digest for run in record["runs"] for digest in run["maps"].values()}
-        if sum_of_cells(source) not in known:
+        recorded = {digest for run in record["runs"] for digest in run["maps"].values()}
+        if sum_of_cells(source) not in recorded:
             yield f"<p>{WORDS['changed'].format(_text(first['path']))}</p>"
             return
     except RcellError:
@@ -254,26 +258,31 @@ def _picture_of(record: Mapping[str, Any], folder: str) -> Iterator[str]:
 
 def _thinned(source: Source) -> tuple[NDArray[np.int64], int]:
     """Return every nth row and column of a map, and n, so that the map fits into a picture."""
-    step = -(-max(source.region.shape) // MOST_PIXELS)
-    rows, first = [], 0
+    step = math.ceil(max(source.region.shape) / MOST_PIXELS)
+    rows, first_row = [], 0
     for block in source.blocks():
         is_null = null_cells(block.cells, block.null, source.nodata)
         cells = np.where(is_null, np.int64(NULL), block.cells)
-        rows.append(cells[-first % step :: step, ::step])
-        first += len(cells)
+        skipped = -first_row % step  # rows of the block before the map's next nth row
+        rows.append(cells[skipped::step, ::step])
+        first_row += len(cells)
     return np.concatenate(rows), step
 
 
 def _png(cells: NDArray[np.int64], colours: Mapping[int, str]) -> bytes:
     """Encode a map as a PNG picture, in which null is transparent and small maps are enlarged."""
     classes = [NULL, *colours]
-    shades = [(0, 0, 0, 0), *((*bytes.fromhex(colour[1:7]), 255) for colour in colours.values())]
+    shades = [(0, 0, 0, 0)]
+    for colour in colours.values():
+        red, green, blue = bytes.fromhex(colour[1:7])  # of #rrggbb
+        shades.append((red, green, blue, 255))
     pixels = np.array(shades, np.uint8)[np.searchsorted(classes, cells)]
     times = max(1, MOST_PIXELS // 2 // max(cells.shape))
-    pixels = pixels.repeat(times, 0).repeat(times, 1)
-    rows, cols = pixels.shape[:2]
+    pixels = pixels.repeat(times, axis=0).repeat(times, axis=1)
+    rows, cols, _ = pixels.shape
     # Each row begins with the number of its filter; 0 means no filter.
     lines = np.concatenate([np.zeros((rows, 1), np.uint8), pixels.reshape(rows, -1)], axis=1)
+    # 8 bits per number; then the usual compression and filters, and no interlacing.
     head = struct.pack(">IIBBBBB", cols, rows, 8, _RGBA, 0, 0, 0)
     chunks = (b"IHDR", head), (b"IDAT", zlib.compress(lines.tobytes(), 9)), (b"IEND", b"")
     return _SIGNATURE + b"".join(

@@ -14,7 +14,7 @@ CELL_BYTES = {"u8": 1, "i8": 1, "u16": 2, "i16": 2, "u32": 4, "i32": 4, "i64": 8
 """The cell types of input maps, in the order of their codes, from 1."""
 
 _CODES = {name: code for code, name in enumerate(CELL_BYTES, 1)}
-_PATCHES = 1  # the code of a question about patches
+_PATCHES, _PATCHES_AND_NUMBERS = 1, 2  # the codes of questions about patches
 # Rows and masks are interleaved in pieces that fit in a processor's cache.
 PIECE_BYTES = 1 << 18
 
@@ -150,12 +150,22 @@ class Question(NamedTuple):
     zones : str
         The name of a map of zones, or an empty string. With zones, each patch is returned with the
         zone that contains most of its cells.
+    with_numbers : bool
+        Whether the map of patch numbers is returned as well.
+
+    Examples
+    --------
+    >>> Question("lc", 4, 1).bytes()
+    b'\\x01\\x02lc\\x04\\x01\\x00\\x00\\x00\\x00'
+    >>> Question("lc", 4, 1, with_numbers=True).bytes()
+    b'\\x02\\x02lc\\x04\\x01\\x00\\x00\\x00\\x00'
     """
 
     map: str
     connectivity: int
     depth: int
     zones: str = ""
+    with_numbers: bool = False
 
     @property
     def is_diagonal(self) -> bool:
@@ -170,13 +180,15 @@ class Question(NamedTuple):
     def bytes(self) -> bytes:
         """Return the bytes that encode the question."""
         numbers = struct.pack("<BI", self.connectivity, self.depth)
-        return bytes([_PATCHES]) + _short(self.map) + numbers + _short(self.zones)
+        kind = _PATCHES_AND_NUMBERS if self.with_numbers else _PATCHES
+        return bytes([kind]) + _short(self.map) + numbers + _short(self.zones)
 
     def text(self) -> str:
         """Return the question as a comment, which follows the script in records."""
         numbers = f"connectivity {self.connectivity}, core depth {self.depth}"
         zones = f", zones {self.zones}" if self.zones else ""
-        return f"# question: patches of {self.map}, {numbers}{zones}"
+        wanted = f"patches of {self.map}" + (" and their numbers" if self.with_numbers else "")
+        return f"# question: {wanted}, {numbers}{zones}"
 
 
 def request(

@@ -42,7 +42,7 @@ class Shelf:
 
     @classmethod
     def of(cls, folder: Optional[str], maps: Mapping[str, Source], shape: tuple[int, int]) -> Shelf:
-        """Return the shelf for these maps, and create the folder if it is missing."""
+        """Return the shelf for maps of a shape, and create the folder if it is missing."""
         if folder is None:
             return cls(None, b"")
         with write_errors(folder):
@@ -50,7 +50,7 @@ class Shelf:
         parts = [repr(shape), state_of(find_pipe())]
         for name, source in maps.items():
             parts += [name, repr(source.region.units), str(source.nodata), str(source.dtype)]
-            parts += [repr(getattr(source, what, None)) for what in _DETAILS]
+            parts += [repr(getattr(source, detail, None)) for detail in _DETAILS]
             parts += map(state_of, source.files)
         return cls(folder, "\0".join(parts).encode("utf-8", "surrogateescape"))
 
@@ -63,6 +63,7 @@ class Shelf:
             maps[name] = source if is_file(source) else Piece.of(source, work.outer)
         path = os.path.join(self.folder, f"{self._sum_of(work, maps)}.npz")
         work = replace(work, maps=maps, path=path)
+        # Missing, incomplete and damaged files are ignored, so that the tile is computed again.
         with contextlib.suppress(OSError, ValueError, EOFError, KeyError, BadZipFile):
             with np.load(path, allow_pickle=False) as arrays:
                 results = [arrays[f"arr_{number}"] for number in range(len(arrays.files))]
@@ -76,13 +77,14 @@ class Shelf:
         """
         texts = [work.text, *(question.text() for question in work.questions)]
         words = "\n".join(texts).encode("utf-8", "surrogateescape")
-        sum_of = hashlib.sha256(b"\0".join([self.state, words, repr(tuple(work.place)).encode()]))
-        for name, piece in maps.items():
-            if isinstance(piece, Piece):
-                block = piece.block
+        place = repr(tuple(work.place)).encode()
+        sum_of = hashlib.sha256(b"\0".join([self.state, words, place]))
+        for name, map in maps.items():
+            if isinstance(map, Piece):
+                block = map.block
                 sum_of.update(f"\0{name} {block.cells.dtype} {block.null is None}\0".encode())
-                for part in (block.cells, block.null):
-                    sum_of.update(b"" if part is None else np.ascontiguousarray(part).data)
+                for array in (block.cells, block.null):
+                    sum_of.update(b"" if array is None else np.ascontiguousarray(array).data)
         return sum_of.hexdigest()
 
     def keep(self, path: str, done: TileDone) -> None:

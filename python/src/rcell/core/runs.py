@@ -206,7 +206,10 @@ def ask(
             raise DryRun(describe(plan, maps, demand, 1))
         if not takes_one_run(plan, maps, demand):
             _tell_host("\n".join(["", question.text()]), maps)
-            ask_tiles(question._replace(zones=""), plan, maps, demand, fold)
+            # The question returns the numbers, so the script only counts zones.
+            script = [each for each in plan if each.command != "r.out.ascii"]
+            asked = question._replace(zones="", with_numbers=True)
+            ask_tiles(asked, script if question.zones else [], maps, demand, fold)
             return True
     [found] = _frames("", maps, (question,))
     assert isinstance(found, protocol.PatchesFrame)

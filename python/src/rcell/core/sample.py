@@ -15,7 +15,7 @@ import numpy as np
 from .arguments import MAX_CATEGORY, first_of, whole_number_of
 from .arrays import Integers
 from .columns import Column, Table
-from .counting import Maps, places_of
+from .counting import Maps, places_of, sums_of
 from .errors import BadArgument
 from .host import warn
 from .sources import MapLike
@@ -91,21 +91,23 @@ def sample(
         raise BadArgument("seed", f"must be a whole number or a string; got {seed!r}")
     requested = _requested(n, allocation)
     maps = Maps({"map": map}, crs)
-    entries = maps.tables("r.mapcalc row = row()\nr.stats -c -n input=map,row")[0]
-    first = places_of(entries[:, 0])
-    classes = entries[first, 0].tolist()
-    until = np.cumsum(entries[:, 2])
-    before = until - entries[:, 2]
-    sizes = np.diff([*before[first], *until[-1:]]).tolist()
+    [entries] = maps.tables("r.mapcalc row = row()\nr.stats -c -n input=map,row")
+    row_classes, row_numbers, row_cells = entries.T
+    first = places_of(row_classes)
+    classes = row_classes[first].tolist()
+    sizes = sums_of(row_cells, first).tolist()
     wanted = _divided(requested, allocation, classes, sizes)
     _warn_of_few(classes, sizes, wanted)
+    # Cells are ranked by class, row and column. An entry has the ranks from `begin` to `end - 1`.
+    end = np.cumsum(row_cells)
+    begin = end - row_cells
     # The class and row of each cell, and its position among the row's cells of this class.
     picked: list[tuple[int, int, int]] = []
-    for code, size, start, count in zip(classes, sizes, before[first].tolist(), wanted):
-        ranks = start + np.array(drawn(f"{seed}:{code}", size, count), np.int64)
-        indices = np.searchsorted(until, ranks, "right")
-        places = ranks - before[indices]
-        for row, place in zip(entries[indices, 1].tolist(), places.tolist()):
+    for code, size, class_begin, count in zip(classes, sizes, begin[first].tolist(), wanted):
+        ranks = class_begin + np.array(drawn(f"{seed}:{code}", size, count), np.int64)
+        indices = np.searchsorted(end, ranks, "right")
+        places = ranks - begin[indices]
+        for row, place in zip(row_numbers[indices].tolist(), places.tolist()):
             picked.append((code, row, place))
     codes, rows, _ = np.array(picked, np.int64).reshape(-1, 3).T
     cols = _columns(maps, picked)
@@ -123,14 +125,15 @@ def sample(
 
 
 def _columns(maps: Maps, picked: Sequence[tuple[int, int, int]]) -> Integers:
-    """Return the column number of each selected cell, reading the selected rows in blocks."""
+    """Return the column of each picked cell (class, row, position), reading rows in blocks."""
     rows = sorted({row for _, row, _ in picked})
     step = max(1, _MOST_LISTED // maps.first.region.cols)
-    columns: dict[tuple[int, ...], Integers] = {}
+    columns: dict[tuple[int, ...], Integers] = {}  # the columns of each class in each row
     for start in range(0, len(rows), step):
         rules = "\n".join(f"{row} = {row}" for row in rows[start : start + step])
+        # In the map `row`, all rows that are not selected become null.
         script = f"r.mapcalc every = row()\nr.reclass input=every output=row\n{rules}\nend"
-        cells = maps.tables(f"{script}\nr.mapcalc col = col()\nr.stats -n input=map,row,col")[0]
+        [cells] = maps.tables(f"{script}\nr.mapcalc col = col()\nr.stats -n input=map,row,col")
         first = places_of(cells[:, :2])
         keys = [tuple(key) for key in cells[first, :2].tolist()]
         columns.update(zip(keys, np.split(cells[:, 2], first[1:])))
@@ -152,9 +155,10 @@ def drawn(key: str, size: int, count: int) -> list[int]:
     numbers: set[int] = set()
     for last in range(size - min(count, size), size):
         limit = last + 1
-        most = (1 << _BITS) // limit * limit
-        value = most
-        while value >= most:
+        # Up to a multiple of the limit, all remainders are equally frequent.
+        unbiased = (1 << _BITS) // limit * limit
+        value = unbiased
+        while value >= unbiased:
             digest = hashlib.sha256(f"{key}:{next(counter)}".encode()).digest()
             value = int.from_bytes(digest[: _BITS // 8], "big")
         numbers.add(last if value % limit in numbers else value % limit)
@@ -172,7 +176,7 @@ def _requested(n: Any, allocation: Any) -> int | dict[int, int]:
         n = int(n)
     if not isinstance(n, Mapping):
         return whole_number_of("n", n, 1, MOST_POINTS)
-    if allocation != ALLOCATIONS[0]:
+    if allocation != "equal":  # the default
         rule = f"must be left out if n has a number for each class; got {allocation!r}"
         raise BadArgument("allocation", rule)
     counts = {}
@@ -185,17 +189,17 @@ def _requested(n: Any, allocation: Any) -> int | dict[int, int]:
 def _divided(
     requested: int | dict[int, int], allocation: str, classes: list[int], sizes: list[int]
 ) -> list[int]:
-    """Return the number of cells to draw from each class."""
+    """Return the number of cells to draw from each class, by the method of largest remainders."""
     if isinstance(requested, dict):
         lacking = sorted(set(requested) - set(classes))
         if lacking:
             raise BadArgument("n", f"must name classes that occur in the map; got {lacking[0]}")
         return [requested.get(code, 0) for code in classes]
-    parts = sizes if allocation == "proportional" else [1] * len(classes)
-    whole = max(sum(parts), 1)
-    counts = [requested * part // whole for part in parts]
-    rest = [requested * part % whole for part in parts]
-    order = sorted(range(len(parts)), key=lambda index: (-rest[index], index))
+    weights = sizes if allocation == "proportional" else [1] * len(classes)
+    total = max(sum(weights), 1)
+    counts = [requested * weight // total for weight in weights]
+    remainders = [requested * weight % total for weight in weights]
+    order = sorted(range(len(weights)), key=lambda index: (-remainders[index], index))
     for index in order[: requested - sum(counts)]:
         counts[index] += 1
     return counts

@@ -85,6 +85,7 @@ class Stats:
         return cells * 100.0 / max(int(cells.sum()), 1)
 
     def _counted(self, option: str) -> NDArray[np.int64]:
+        """Return the numbers of cells, or raise Refused if the table lacks what an option needs."""
         if self.cells is None:
             raise Refused(
                 f"{option} requires a table with counts: use r.stats -c", "script", self.line
@@ -124,16 +125,16 @@ class Run:
             if name not in self.sources and name not in self.made:
                 known = ", ".join([*self.sources, *self.made])
                 raise BadArgument("name", f"must be a map of the script ({known}); got {name!r}")
-        ran = execute(self.script, self.sources, wanted=wanted)
+        outputs = execute(self.script, self.sources, wanted=wanted)
         return [
             self._map(output) if output.command == "r.out.ascii" else self._stats(output)
-            for output in ran
+            for output in outputs
         ]
 
     def maps(self, names: Sequence[str]) -> list[ArrayMap]:
         """Run the script and return the named maps, which the script creates or reads."""
-        outputs = self.outputs(names)
-        return [output for output in outputs[-len(names) :] if isinstance(output, ArrayMap)]
+        requested = self.outputs(names)[-len(names) :]  # after the outputs of the script
+        return [output for output in requested if isinstance(output, ArrayMap)]
 
     def labels(self, name: str) -> Mapping[int, str]:
         """Return the labels of an input map, or of a map that the script creates."""
@@ -142,10 +143,14 @@ class Run:
         return self.made[name].labels
 
     def _stats(self, output: Output) -> Stats:
-        count = len(output.maps)
-        cells = output.values[:, count] if output.has_counts else None
-        labels = {name: self.labels(name) for name in output.maps} if output.has_labels else {}
-        return Stats(output.line, output.maps, output.values[:, :count], cells, labels)
+        map_count = len(output.maps)
+        return Stats(
+            output.line,
+            output.maps,
+            categories=output.values[:, :map_count],
+            cells=output.values[:, map_count] if output.has_counts else None,
+            labels={name: self.labels(name) for name in output.maps} if output.has_labels else {},
+        )
 
     def _map(self, output: Output) -> ArrayMap:
         """Convert an output to a map on the inputs' grid, with labels and colours."""
@@ -278,9 +283,11 @@ def table(
     1   2      3  50.000000
     2   3      1  16.666667
     """
-    ran = Run(script, maps, named, crs)
-    measure = None if area is None else flat_measure(area, ran.first.transform, ran.crs)
-    outputs = ran.outputs()
+    script_run = Run(script, maps, named, crs)
+    measure = None
+    if area is not None:
+        measure = flat_measure(area, script_run.first.transform, script_run.crs)
+    outputs = script_run.outputs()
     if len(outputs) != 1 or not isinstance(outputs[0], Stats):
         tables = sum(isinstance(output, Stats) for output in outputs)
         outcome = f"{tables} r.stats and {len(outputs) - tables} r.out.ascii"
@@ -332,4 +339,5 @@ def grid(
     >>> rcell.grid("r.mapcalc right = lc[0,1]", "right", lc=np.array([[1, 1, 2]])).array.tolist()
     [[1, 2, None]]
     """
-    return Run(script, maps, named, crs).maps([name])[0]
+    [result] = Run(script, maps, named, crs).maps([name])
+    return result

@@ -26,6 +26,8 @@ __all__ = ["Sieved", "cells_of_hectares", "sieve"]
 
 # The decimals to which a number of cells is rounded before it is rounded up.
 _DIGITS = 9
+# The offsets (row, column) of neighbours that share an edge or only a corner. The opposite
+# neighbours are left out, so that each contact of two cells counts once.
 _SIDES = {"right": "0,1", "below": "1,0"}
 _CORNERS = {"falling": "1,1", "rising": "1,-1"}
 _CHANGED = "r.mapcalc changed = if(isnull(map), null(), isnull(new) ||| map != new)"
@@ -110,20 +112,21 @@ def sieve(
     """
     check_connectivity(connectivity)
     source = source_of("map", map)
-    steps = {} if drop else {**_SIDES, **(_CORNERS if connectivity == 8 else {})}
-    script = _script("map", connectivity, ["patch,map"], steps)
-    run = Run(script, {"map": source}, {}, crs)
+    steps = {**_SIDES, **_CORNERS} if connectivity == 8 else _SIDES
+    script = _script("map", connectivity, ["patch,map"], {} if drop else steps)
+    run = Run(script, {"map": source}, named={}, crs=crs)
     fewest = _fewest(min_cells, min_ha, source, run.crs)
-    sizes, *touching, patch = run.outputs(["patch"])
+    sizes, *contacts, patch = run.outputs(["patch"])
     assert isinstance(sizes, Stats) and sizes.cells is not None and isinstance(patch, ArrayMap)
     classes, cells = sizes.categories[:, 1], sizes.cells
     if drop:
         new = np.where(cells < fewest, NULL, classes)
     else:
-        sides, corners = (_Touching.of(cells.size, part) for part in (touching[:2], touching[2:]))
+        sides = _Touching.of(cells.size, contacts[: len(_SIDES)])
+        corners = _Touching.of(cells.size, contacts[len(_SIDES) :])
         new = _Merging(classes, cells, sides, corners).run(fewest)
-    by_number = np.concatenate([[NULL], new]).astype(np.int32)
-    classes_of_cells = by_number[patch.filled(0)]
+    class_of_patch = np.concatenate([[NULL], new]).astype(np.int32)
+    classes_of_cells = class_of_patch[patch.filled(0)]  # patches are numbered from 1
     sieved = dataclasses.replace(
         patch,
         name="sieved",
@@ -135,8 +138,8 @@ def sieve(
         colors=source.colors,
     )
     script = _script("new", connectivity, ["patch", "changed"], {} if drop else _SIDES)
-    run = Run(f"{_CHANGED}\n{script}", {"map": source, "new": sieved}, {}, crs)
-    return sieved, _counted(run, fewest, cells.size)
+    run = Run(f"{_CHANGED}\n{script}", {"map": source, "new": sieved}, named={}, crs=crs)
+    return sieved, _counted(run, fewest, patches_before=cells.size)
 
 
 def _fewest(min_cells: Any, min_ha: Any, source: Source, crs: Any) -> int:
@@ -156,12 +159,14 @@ def cells_of_hectares(name: str, hectares: Any, source: Source, crs: Any) -> int
     if not is_number(hectares) or not 0 < hectares < math.inf:
         raise BadArgument(name, f"must be a number above 0; got {hectares!r}")
     metres = metres_of(name, crs, f": use {option('min_cells')}")
-    cell = -source.transform[0] * source.transform[4] * metres**2
-    return max(1, math.ceil(round(float(hectares) * UNITS_OF_AREA["ha"] / cell, _DIGITS)))
+    width, _, _, _, height, _ = source.transform
+    cell_area = -width * height * metres**2
+    cells = round(float(hectares) * UNITS_OF_AREA["ha"] / cell_area, _DIGITS)
+    return max(1, math.ceil(cells))
 
 
 def _script(name: str, connectivity: int, tables: Sequence[str], steps: Mapping[str, str]) -> str:
-    """Return a script that counts patches, and the contacts between each pair of patches."""
+    """Return a script that counts patches, and contacts of patches at the offsets in `steps`."""
     lines = [clump_line(connectivity, name), *(f"r.stats -c -n input={maps}" for maps in tables)]
     for title, step in steps.items():
         other = f"if(patch != patch[{step}], patch[{step}], null())"
@@ -172,23 +177,26 @@ def _script(name: str, connectivity: int, tables: Sequence[str], steps: Mapping[
 class _Touching(NamedTuple):
     """The neighbours of each patch, and how often the patch touches each neighbour.
 
-    Entries from `starts[n]` to `starts[n + 1] - 1` belong to patch `n`.
+    The entries of patch `n` in `neighbours` and `times` are `starts[n]` to `starts[n + 1] - 1`.
     """
 
     starts: list[int]
-    near: memoryview
+    neighbours: memoryview
     times: memoryview
 
     @classmethod
     def of(cls, patches: int, tables: Sequence[Any]) -> _Touching:
         """Collect the pairs of patches in tables, in both directions, numbered from 0."""
-        pairs = [table.categories - 1 for table in tables] or [np.empty((0, 2), np.int64)]
-        both = np.concatenate([*pairs, *(pair[:, ::-1] for pair in pairs)])
+        pairs, cells = np.empty((0, 2), np.int64), np.empty(0, np.int64)
+        if tables:
+            pairs = np.concatenate([table.categories - 1 for table in tables])
+            cells = np.concatenate([table.cells for table in tables])
+        both = np.concatenate([pairs, pairs[:, ::-1]])
+        times = np.concatenate([cells, cells])
         order = np.argsort(both[:, 0], kind="stable")
-        times = np.concatenate([table.cells for table in tables] * 2 or [np.empty(0, np.int64)])
         starts = np.searchsorted(both[order, 0], np.arange(patches + 1))
-        near = np.ascontiguousarray(both[order, 1])
-        return cls(starts.tolist(), near.data, times[order].data)
+        neighbours = np.ascontiguousarray(both[order, 1])
+        return cls(starts.tolist(), neighbours.data, times[order].data)
 
 
 class _Merging:
@@ -209,6 +217,7 @@ class _Merging:
         self._classes: list[int] = classes.tolist()
         self._cells: list[int] = cells.tolist()
         self._sides, self._corners = sides, corners
+        # The patch into which each patch was merged, or itself, and the parts of small patches.
         self._into = list(range(cells.size))
         self._parts: dict[int, list[int]] = {}
 
@@ -228,14 +237,15 @@ class _Merging:
                 if not shared:
                     continue  # borders only null
                 most = max(shared.values())
-                code = classes[min([near for near, times in shared.items() if times == most])]
-                if self._corners.near.nbytes:
+                first = min(neighbour for neighbour, times in shared.items() if times == most)
+                code = classes[first]
+                if len(self._corners.neighbours):
                     shared.update(self._shared(patch, self._corners))
-                alike = [near for near in shared if classes[near] == code]
-                grown = self._join([patch, *alike], fewest)
-                classes[grown] = code
-                if cells[grown] < fewest:
-                    waiting[cells[grown]].append(grown)
+                alike = [neighbour for neighbour in shared if classes[neighbour] == code]
+                merged = self._join([patch, *alike], fewest)
+                classes[merged] = code
+                if cells[merged] < fewest:
+                    waiting[cells[merged]].append(merged)
         roots = np.array(self._into, np.int64)
         while (roots[roots] != roots).any():
             roots = roots[roots]
@@ -246,11 +256,13 @@ class _Merging:
         shared: dict[int, int] = {}
         starts, into = touching.starts, self._into
         for part in self._parts.get(patch, (patch,)):
-            ends = slice(starts[part], starts[part + 1])
-            for near, times in zip(touching.near[ends].tolist(), touching.times[ends].tolist()):
-                near = near if into[near] == near else self._root(near)
-                if near != patch:
-                    shared[near] = shared.get(near, 0) + times
+            entries = slice(starts[part], starts[part + 1])
+            neighbours = touching.neighbours[entries].tolist()
+            for neighbour, times in zip(neighbours, touching.times[entries].tolist()):
+                if into[neighbour] != neighbour:
+                    neighbour = self._root(neighbour)
+                if neighbour != patch:
+                    shared[neighbour] = shared.get(neighbour, 0) + times
         return shared
 
     def _join(self, joined: list[int], fewest: int) -> int:
@@ -258,17 +270,18 @@ class _Merging:
 
         The parts are stored only while the merged patch is small.
         """
-        grown = min(joined)
-        cells = sum(self._cells[part] for part in joined)
-        parts = (self._parts.pop(part, [part]) for part in joined)
+        merged = min(joined)
+        cells = sum(self._cells[patch] for patch in joined)
         if cells < fewest:
-            self._parts[grown] = [part for listed in parts for part in listed]
-        for part in joined:
-            self._into[part] = grown
-        self._cells[grown] = cells
-        return grown
+            parts = [self._parts.pop(patch, [patch]) for patch in joined]
+            self._parts[merged] = [part for listed in parts for part in listed]
+        for patch in joined:
+            self._into[patch] = merged
+        self._cells[merged] = cells
+        return merged
 
     def _root(self, patch: int) -> int:
+        """Return the patch into which a patch was finally merged, and shorten the way to it."""
         into = self._into
         while into[patch] != patch:
             into[patch] = into[into[patch]]
@@ -276,12 +289,13 @@ class _Merging:
         return patch
 
 
-def _counted(run: Run, fewest: int, before: int) -> Sieved:
+def _counted(run: Run, fewest: int, patches_before: int) -> Sieved:
     """Count patches and changed cells, and check that no small patch borders another class."""
-    sizes, changes, *pairs = (part for part in run.outputs() if isinstance(part, Stats))
+    sizes, changes, *contacts = (output for output in run.outputs() if isinstance(output, Stats))
     assert sizes.cells is not None and changes.cells is not None
     small = sizes.categories[sizes.cells < fewest, 0]
-    if any(np.isin(small, pair.categories).any() for pair in pairs):
+    if any(np.isin(small, pairs.categories).any() for pairs in contacts):
         raise RcellError("a small patch with a neighbour remains: this is a bug in rcell")
     counts = dict(zip(changes.categories[:, 0].tolist(), changes.cells.tolist()))
-    return Sieved(before, sizes.cells.size, counts.get(1, 0), small.size)
+    cells_changed = counts.get(1, 0)  # the map `changed` is 1 or 0
+    return Sieved(patches_before, sizes.cells.size, cells_changed, patches_below=small.size)

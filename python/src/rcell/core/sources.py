@@ -57,11 +57,11 @@ _EXACT_FLOAT32 = 1 << 24
 # The factor for the decimals of the map that is being read, before rounding; None for other maps.
 _scale: contextvars.ContextVar[int | None] = contextvars.ContextVar("rcell.scale", default=None)
 
-# The advice for rounding a map: a command, and a call for Python.
-_ROUNDED = (
-    'gdal_calc.py -A {0}.tif --calc="rint(A)" --type=Int32 --outfile={0}_rounded.tif',
-    "rcell.Raster(np.rint(array), transform, crs)",
+# The advice for rounding a map.
+_ROUNDING_COMMAND = (
+    'gdal_calc.py -A {0}.tif --calc="rint(A)" --type=Int32 --outfile={0}_rounded.tif'
 )
+_ROUNDING_CALL = "rcell.Raster(np.rint(array), transform, crs)"
 
 Cells = NDArray[Any]
 Mask = NDArray[np.bool_]
@@ -205,6 +205,7 @@ def nodata_of(dtype: np.dtype[Any], value: float | None) -> int | None:
     if is_converted(dtype):
         return NULL
     limits = np.iinfo(type_of(dtype))
+    # Numbers beyond 64 bits, NaN and infinity equal no cell, and the last two have no int().
     if value is None or not -(2.0**63) <= value < 2.0**64 or value != int(value):
         return None
     return int(value) if limits.min <= int(value) <= limits.max else None
@@ -269,17 +270,18 @@ def checked(
     null = None if null is None else np.ascontiguousarray(null)
     scale = _scale.get()
     is_kept = not is_converted(cells.dtype) and scale is None
+    # Integers of one or two bytes are always in range.
     if is_kept and (
         cells.itemsize <= 2 or (cells.min() >= -MAX_CATEGORY and cells.max() <= MAX_CATEGORY)
     ):
         return Block(cells, null)
     is_null = null_cells(cells, null, nodata)
     exact = cells if scale is None else np.rint(cells.astype(np.float64) * scale)
-    bad = ~(_good(exact) | is_null)
-    if bad.any():
-        row, col = (int(place) for place in np.unravel_index(int(bad.argmax()), bad.shape))
-        place = (first_row + row + 1, first_col + col + 1)
-        raise _bad_cell(name, *place, cells[row, col].item(), scale)
+    is_bad = ~(_are_categories(exact) | is_null)
+    if is_bad.any():
+        row, col = (int(index) for index in np.unravel_index(int(is_bad.argmax()), is_bad.shape))
+        value = cells[row, col].item()
+        raise _bad_cell(name, first_row + row + 1, first_col + col + 1, value, scale)
     if is_kept:
         return Block(cells, null)
     whole = np.where(is_null, exact.dtype.type(0), exact)
@@ -301,18 +303,21 @@ def null_cells(cells: Cells, null: Mask | None, nodata: float | None) -> Mask:
         parts.append(cells == value)
     if not parts:
         return np.zeros(cells.shape, np.bool_)
-    # Do not change the caller's mask.
-    first = parts[0].copy() if len(parts) == 1 and null is not None else parts[0]
-    return functools.reduce(np.logical_or, parts[1:], first)
+    if len(parts) == 1 and null is not None:
+        return null.copy()  # so that changes to the result do not change the caller's mask
+    return functools.reduce(np.logical_or, parts)
 
 
 def _value_of(dtype: np.dtype[Any], nodata: float | None) -> Any:
     """Convert nodata to a type, or return None if no cell of this type can equal nodata."""
-    if nodata is None or nodata != nodata or sys.float_info.max < abs(nodata) < math.inf:
+    if nodata is None or nodata != nodata:  # NaN does not equal any cell
+        return None
+    if sys.float_info.max < abs(nodata) < math.inf:  # an int that has no float
         return None
     if dtype.kind == "f":
         with np.errstate(over="ignore"):
             value = dtype.type(nodata)
+        # A finite value that is too large for the type has become infinite.
         return value if np.isinf(value) == math.isinf(nodata) else None
     limits = np.iinfo(dtype)
     # Compare as integers, because floats are not exact for all 64-bit integers.
@@ -322,17 +327,18 @@ def _value_of(dtype: np.dtype[Any], nodata: float | None) -> Any:
     return dtype.type(int(nodata)) if is_value else None
 
 
-def _good(cells: Cells) -> Mask:
+def _are_categories(cells: Cells) -> Mask:
     """Return a mask of the cells that are whole numbers in range."""
     if cells.dtype.kind == "f":
+        # MAX_CATEGORY itself is not exact in 32-bit floats, but the next number is.
         with np.errstate(invalid="ignore"):
             return np.asarray((np.rint(cells) == cells) & (np.abs(cells) < MAX_CATEGORY + 1.0))
-    good = cells <= MAX_CATEGORY
-    return good & (cells >= -MAX_CATEGORY) if cells.dtype.kind == "i" else good
+    is_small = cells <= MAX_CATEGORY
+    return is_small & (cells >= -MAX_CATEGORY) if cells.dtype.kind == "i" else is_small
 
 
 def _bad_cell(name: str, row: int, col: int, value: float, scale: int | None) -> BadMap:
-    """Return the error for a cell that is not a whole number in range."""
+    """Return the error for a cell, counted from 1, that is not a whole number in range."""
     number = f"{value:.15g}" if isinstance(value, float) else str(value)
     if scale is not None:
         problem = (
@@ -350,7 +356,8 @@ def _bad_cell(name: str, row: int, col: int, value: float, scale: int | None) ->
     problem = f"not a map of whole numbers: the cell at row {row}, column {col} is {number}{beyond}"
     fault = BadMap(name, problem, row, col, value)
     if not beyond and value == value:
-        fault.advice = _ROUNDED[host().words == "python"].format(name)
+        advice = _ROUNDING_CALL if host().words == "python" else _ROUNDING_COMMAND
+        fault.advice = advice.format(name)
     return fault
 
 
@@ -371,19 +378,19 @@ class Scaled:
         self.source, self.scale = source, scale
 
     def __getattr__(self, name: str) -> Any:
-        if name == "source" or name.startswith(
-            "__"
-        ):  # the source is not set yet while the map is copied
+        # While the map is copied, the source is not set yet, and asking for it would never end.
+        if name == "source" or name.startswith("__"):
             raise AttributeError(name)
         return getattr(self.source, name)
 
     def blocks(self) -> Iterator[Block]:
         """Yield the rows from north to south."""
-        left = self.source.blocks()
+        blocks = self.source.blocks()
         while True:
+            # The scale is set only while this map is read: between blocks, others may be read.
             token = _scale.set(self.scale)
             try:
-                block = next(left, None)
+                block = next(blocks, None)
             finally:
                 _scale.reset(token)
             if block is None:
@@ -554,9 +561,9 @@ def array_map(
         raise BadMap(name, "not an array with rows of equal length")
     check_array(name, array)
     array, null, region, transform = _placed(name, array, null, place)
-    known = checked_labels(name, labels or {})
+    valid_labels, colors = checked_labels(name, labels or {}), colors or {}
     return ArrayMap(
-        name, array, region, null, nodata, known, crs or None, transform, colors or {}, files
+        name, array, region, null, nodata, valid_labels, crs or None, transform, colors, files
     )
 
 
@@ -605,10 +612,10 @@ def source_of(name: str, map: Any) -> Source:
     BadMap
         The argument cannot be a map.
     """
-    if hasattr(map, "blocks") and hasattr(map, "region"):
+    if hasattr(map, "blocks") and hasattr(map, "region"):  # already a source
         source: Source = map
         return source
-    if hasattr(map, "source"):
+    if hasattr(map, "source"):  # a Raster
         source = map.source(name)
         return source
     if isinstance(map, (str, os.PathLike)):
@@ -637,7 +644,8 @@ def source_of(name: str, map: Any) -> Source:
     if module == "dask" and hasattr(map, "ndim"):
         return array_map(name, map.compute())
     if isinstance(map, tuple) and len(map) == 2 and isinstance(map[0], np.ndarray):
-        return array_map(name, *map)
+        cells, place = map
+        return array_map(name, cells, place)
     if isinstance(map, (np.ndarray, list)):
         return array_map(name, map)
     kind = type(map).__name__
@@ -660,11 +668,12 @@ def check_names(names: Iterable[str]) -> None:
     """Raise BadArgument for the first invalid map name."""
     for name in names:
         if not (isinstance(name, str) and _NAME.fullmatch(name)):
-            better = re.sub(r"[^A-Za-z0-9_.]", "_", str(name))[:64]
-            better = better if _NAME.fullmatch(better) else f"m_{better[:60]}"
+            valid = re.sub(r"[^A-Za-z0-9_.]", "_", str(name))[:64]
+            if not _NAME.fullmatch(valid):  # begins with a digit or a dot, or is empty
+                valid = f"m_{valid[:60]}"
             rule = (
                 "must have names of 1 to 64 letters, digits, _ and ., beginning with a letter or "
-                f"_; got {name!r}: write {better}"
+                f"_; got {name!r}: write {valid}"
             )
             raise BadArgument("maps", rule)
 
@@ -715,9 +724,10 @@ def sources_of(
     for name, source in sources.items():
         if source.region != first.region:
             fault = _other_region(first, source)
-            mine, its = (_written(key, (written or maps)[key]) for key in (name, first_name))
-            is_whole = Shift.between(source.transform, first.transform, first.region.shape).is_whole
-            fault.advice = _alignment(name, mine, its, is_whole)
+            passed = written or maps
+            own, target = _written(name, passed[name]), _written(first_name, passed[first_name])
+            shift = Shift.between(source.transform, first.transform, first.region.shape)
+            fault.advice = _alignment(name, own, target, shift.is_whole)
             raise fault
     return sources, common
 
@@ -730,21 +740,19 @@ def _other_region(first: Source, source: Source) -> OtherRegion:
     return OtherRegion(source.name, f"{text}\n{regions}")
 
 
-def _alignment(name: str, mine: str, its: str, is_whole: bool) -> str:
-    """Return the call that aligns a map with the first map."""
+def _alignment(name: str, own: str, target: str, is_whole: bool) -> str:
+    """Return the call that aligns a map with the first map, resampled unless the shift is whole."""
     if host().words == "qgis":
         nearest = "" if is_whole else " and RESAMPLE nearest"
-        return f"rcell:align with INPUT {mine}, TO {its}{nearest}"
+        return f"rcell:align with INPUT {own}, TO {target}{nearest}"
     nearest = "" if is_whole else ', resample="nearest"'
-    return f"{name}=rcell.align({mine}, to={its}{nearest})"
+    return f"{name}=rcell.align({own}, to={target}{nearest})"
 
 
 def _written(name: str, map: Any) -> str:
     """Return the text for a map in the caller's notation: its path or its name."""
     if host().words == "qgis":
         return f'"{map.name}"'
-    return (
-        json.dumps(os.fspath(map), ensure_ascii=False)
-        if isinstance(map, (str, os.PathLike))
-        else name
-    )
+    if isinstance(map, (str, os.PathLike)):
+        return json.dumps(os.fspath(map), ensure_ascii=False)
+    return name

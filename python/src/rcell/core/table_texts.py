@@ -36,15 +36,15 @@ def _shortest(value: Any) -> Any:
 
 def _markdown(columns: Sequence[str], rows: Sequence[Sequence[Any]]) -> str:
     """Format a table in Markdown, with right-aligned numeric columns."""
-    sides = []
+    alignments = []
     for index in range(len(columns)):
         has_texts = any(isinstance(row[index], str) for row in rows)
-        sides.append("---" if has_texts else "---:")
+        alignments.append("---" if has_texts else "---:")
     lines = []
     for row in (columns, *rows):
         cells = " | ".join(map(_markdown_cell, row))
         lines.append(f"| {cells} |")
-    lines.insert(1, f"|{'|'.join(sides)}|")
+    lines.insert(1, f"|{'|'.join(alignments)}|")
     return "\n".join(lines) + "\n"
 
 

@@ -11,7 +11,7 @@ import stat
 from dataclasses import dataclass, field, replace
 from fractions import Fraction
 from itertools import chain
-from typing import Any, Iterator, Mapping
+from typing import Any, Iterator, Mapping, NoReturn
 
 import numpy as np
 
@@ -84,13 +84,13 @@ class TextMap:
             path = self.path
             if self.stream is not None:
                 stream = cleanup.enter_context(self.stream)
+                # The pieces of the pipe, until one is empty.
                 rest = iter(lambda: read_some(stream.fileno(), 1 << 20), b"")
                 path = cleanup.enter_context(spooled(chain([self.held], rest)))
-            cleanup.enter_context(program_errors("", [self.name], program))
-            for rows in cleanup.enter_context(
-                printed_grid(program, path, watch=host().watch)
-            ).blocks:
-                yield Block(rows, None)
+            cleanup.enter_context(program_errors(script="", names=[self.name], path=program))
+            grid = cleanup.enter_context(printed_grid(program, path, watch=host().watch))
+            for rows in grid.blocks:
+                yield Block(rows, null=None)
 
 
 def is_grid(path: str) -> bool:
@@ -133,10 +133,12 @@ def open_path(name: str, path: str | os.PathLike[str]) -> Source:
         opened(text)
         if is_file:
             stream.close()
-        region = _region_of(name, head) or _refused_region(name, text, is_file)
+        region = _region_of(name, head)
+        if region is None:
+            _raise_header_error(name, text, is_file)
         if is_file:
             return TextMap(name, text, region, files=(text,))
-        return TextMap(name, text, region, head, stream)
+        return TextMap(name, text, region, held=head, stream=stream)
     stream.close()
     if not is_file:
         problem = f"{text} is neither a text grid nor a regular file"
@@ -156,7 +158,10 @@ def _head_of(stream: io.FileIO, is_file: bool) -> bytes:
     while len(head) < HEADER_BYTES:
         piece = stream.read(HEADER_BYTES - len(head))
         head += piece or b""
-        if not piece or is_file or not is_text_grid(head) or _fields(head)[1]:
+        if not piece or is_file or not is_text_grid(head):
+            break
+        _, has_cells = _fields(head)
+        if has_cells:
             break
     return head
 
@@ -164,7 +169,8 @@ def _head_of(stream: io.FileIO, is_file: bool) -> bytes:
 def _fields(head: bytes) -> tuple[dict[str, str], bool]:
     """Return the header's values by key, and whether the first line of cells was found."""
     fields: dict[str, str] = {}
-    for line in head.decode("latin-1").split("\n")[:-1]:
+    complete_lines = head.decode("latin-1").split("\n")[:-1]
+    for line in complete_lines:
         key, colon, value = line.strip().partition(":")
         if not line.strip():
             continue
@@ -179,7 +185,7 @@ def _region_of(name: str, head: bytes) -> Region | None:
 
     For an invalid header, the caller raises the program's error.
     """
-    fields = _fields(head + b"\n")[0]
+    fields, _ = _fields(head + b"\n")
     try:
         edges = [_edge_of(fields[key]) for key in ("north", "south", "east", "west")]
         rows, cols = int(fields["rows"]), int(fields["cols"])
@@ -199,9 +205,10 @@ def _edge_of(text: str) -> float | Fraction:
     return float(exact) if units_of(float(exact)) == units_of(exact) else exact
 
 
-def _refused_region(name: str, path: str, is_file: bool) -> Region:
+def _raise_header_error(name: str, path: str, is_file: bool) -> NoReturn:
     """Raise rcell's error about the invalid header of a grid."""
     if is_file:
+        # The program reports the error when it reads the file. The region has no effect.
         for _ in TextMap(name, path, Region.of_cells(1, 1)).blocks():
             pass
     raise BadMap(name, f"{path} does not begin with a valid grid header")

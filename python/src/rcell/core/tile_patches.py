@@ -16,7 +16,7 @@ from .protocol import (
     PATCH_BYTES,
     ZONE_BYTES,
     Frame,
-    GridFrame,
+    NumbersFrame,
     PatchesFrame,
     Question,
     TableFrame,
@@ -71,8 +71,8 @@ def measures_of(work: TileWork, frames: Sequence[Frame]) -> list[Integers]:
     The border is text, stored as bytes. Open patches may continue outside the tile.
     """
     [question] = work.questions
-    grid, *tables, patches = frames
-    assert isinstance(grid, GridFrame) and isinstance(patches, PatchesFrame)
+    *tables, grid, patches = frames
+    assert isinstance(grid, NumbersFrame) and isinstance(patches, PatchesFrame)
     rows = np.frombuffer(patches.rows, PATCH)
     source = work.maps[question.map]
     numbers = np.asarray(grid.cells).reshape(grid.rows, grid.cols)

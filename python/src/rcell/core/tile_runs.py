@@ -126,7 +126,7 @@ def ask_tiles(
     ----------
     question : Question
     plan : sequence of Statement
-        The plan of a script that numbers patches, writes them as a map, and counts tables of them.
+        The plan of a script that counts tables of patches, or empty.
     maps, demand
         See `run_tiles`, which also lists the errors.
     fold : PatchFold

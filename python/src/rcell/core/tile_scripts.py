@@ -18,14 +18,16 @@ __all__ = ["TileScript", "is_counted", "is_diagonal"]
 def _short_names(taken: Iterable[str]) -> Iterator[str]:
     """Yield unused map names as short as `row()`, so that lines do not become longer."""
     known = set(taken)
-    return (
-        name for name in map("".join, product("_", *[ascii_lowercase] * 4)) if name not in known
-    )
+    for letters in product(ascii_lowercase, repeat=4):
+        name = "_" + "".join(letters)
+        if name not in known:
+            yield name
 
 
 def _with_calls(statement: Statement, written: Mapping[str, str]) -> str:
     """Return a statement's text, with each function call replaced by its text in `written`."""
     text = statement.text.encode("utf-8", "surrogateescape")
+    # From the last call to the first, so that the positions of the other calls stay valid.
     for call in reversed(statement.calls):
         text = text[: call.start] + written[call.function].encode() + text[call.end :]
     return text.decode("utf-8", "surrogateescape")
@@ -34,7 +36,8 @@ def _with_calls(statement: Statement, written: Mapping[str, str]) -> str:
 def _counting(stats: Statement, inputs: Sequence[str]) -> str:
     """Return the `r.stats` line that tiles run over these maps, without labels.
 
-    Cells are counted if the statement or the correction for the halo needs counts.
+    `inputs` replace the statement's maps. Cells are counted if the statement or the correction for
+    the halo needs counts.
     """
     flags = set(stats.options) - {"l"}
     if is_counted(stats):
@@ -52,7 +55,8 @@ def is_counted(stats: Statement) -> bool:
     Counts are needed if the statement has the flag `-c`, or if the table may contain an entry of
     nulls, from which the halo's cells are subtracted.
     """
-    return "c" in stats.options or not {"n", "N"} & {*stats.options}
+    leaves_nulls_out = "n" in stats.options or "N" in stats.options
+    return "c" in stats.options or not leaves_nulls_out
 
 
 @dataclass(frozen=True)
@@ -85,10 +89,7 @@ class TileScript:
 
     @classmethod
     def of(
-        cls,
-        plan: Sequence[Statement],
-        outputs: Sequence[Statement],
-        names: Iterable[str],
+        cls, plan: Sequence[Statement], outputs: Sequence[Statement], names: Iterable[str]
     ) -> TileScript:
         """Return the script for these outputs of a plan, with the statements that they need."""
         used: list[Statement] = []
@@ -99,6 +100,7 @@ class TileScript:
             if statement.made in wanted:
                 used.insert(0, statement)
                 wanted.update(statement.reads)
+        # For rows, columns, the inside, a clump's masked input and numbers, and inputs of tables.
         count = 5 + sum(len(output.inputs) for output in outputs)
         taken = [*names, *(statement.made for statement in plan)]
         spare = tuple(islice(_short_names(taken), count))
@@ -115,8 +117,8 @@ class TileScript:
         for statement in (*self.statements, *self.outputs):
             reach = NO_MARGIN
             for name, margin in statement.reads.items():
-                inner = reaches.get(name, NO_MARGIN)
-                total = Margin(*(near + far for near, far in zip(inner, margin)))
+                map_reach = reaches.get(name, NO_MARGIN)
+                total = Margin(*(inner + outer for inner, outer in zip(map_reach, margin)))
                 reach = _widest(reach, total)
             reaches[statement.made] = reach
             widest = _widest(widest, reach)
@@ -151,7 +153,8 @@ class TileScript:
             if _is_table(output):
                 lines.append(_counting(output, [masked[name] for name in output.inputs]))
             else:
-                lines.append(f"r.out.ascii input={output.inputs[0]}")
+                [name] = output.inputs
+                lines.append(f"r.out.ascii input={name}")
         return "\n".join(lines)
 
     def clump_text(
@@ -166,50 +169,43 @@ class TileScript:
 
         If an r.stats over the clumps is given, its table is written first.
         """
-        read = list(clump.inputs)
+        [clumped] = clump.inputs
+        read = [clumped]
         if stats is not None:
             read += [name for name in stats.inputs if name != clump.made]
         lines, masked = self._lines(place, outer, shape, read)
-        numbers, classes = self.spare[-1], masked[clump.inputs[0]]
+        numbers, classes = self.spare[-1], masked[clumped]
         flag = "-d " if is_diagonal(clump) else ""
         lines.append(f"r.clump {flag}input={classes} output={numbers}")
         if stats is not None:
-            known = {**masked, clump.made: numbers}
-            lines.append(_counting(stats, [known[name] for name in stats.inputs]))
+            tile_names = {**masked, clump.made: numbers}
+            lines.append(_counting(stats, [tile_names[name] for name in stats.inputs]))
         lines.append(f"r.out.ascii input={numbers}")
         lines.append(f"r.out.ascii input={classes}")
         return "\n".join(lines)
 
     def _lines(
-        self,
-        place: Rectangle,
-        outer: Rectangle,
-        shape: tuple[int, int],
-        names: Sequence[str],
+        self, place: Rectangle, outer: Rectangle, shape: tuple[int, int], names: Sequence[str]
     ) -> tuple[list[str], dict[str, str]]:
         """Return a tile's statements, and the name of a masked map for each map in `names`.
 
         A masked map is null in the halo.
         """
         row, col, inside, *others = self.spare
+        full_rows, full_cols = shape
         lines = []
         if "row" in self.calls:
             lines.append(f"r.mapcalc {row} = row() + {outer.top}")
         if "col" in self.calls:
             lines.append(f"r.mapcalc {col} = col() + {outer.left}")
-        written = {
-            "row": row,
-            "col": col,
-            "nrows": str(shape[0]),
-            "ncols": str(shape[1]),
-        }
+        written = {"row": row, "col": col, "nrows": str(full_rows), "ncols": str(full_cols)}
         lines += [_with_calls(statement, written) for statement in self.statements]
         if place == outer or not names:
             return lines, {name: name for name in names}
         lines.append(f"r.mapcalc {inside} = {_within(place, outer)}")
-        masked = dict(zip(dict.fromkeys(names), others))
-        for name, new in masked.items():
-            lines.append(f"r.mapcalc {new} = if(isnull({inside}), null(), {name})")
+        masked = dict(zip(dict.fromkeys(names), others))  # each name once
+        for name, masked_name in masked.items():
+            lines.append(f"r.mapcalc {masked_name} = if(isnull({inside}), null(), {name})")
         return lines, masked
 
 
@@ -219,7 +215,8 @@ def _widest(margin: Margin, other: Margin) -> Margin:
 
 def is_diagonal(clump: Statement) -> bool:
     """Return whether an `r.clump` statement also connects cells that share only a corner."""
-    return "-d" in clump.text.partition("#")[0].split()
+    command, _, _comment = clump.text.partition("#")
+    return "-d" in command.split()
 
 
 def _is_table(statement: Statement) -> bool:

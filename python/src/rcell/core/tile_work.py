@@ -24,15 +24,7 @@ from .runs import entries_of
 from .sources import Block
 from .tile_clumps import NO_CLUMP, SIDES, border_text, sides_text
 
-__all__ = [
-    "TileDone",
-    "TileWork",
-    "clumps_of",
-    "outputs_of",
-    "patches_of",
-    "run_work",
-    "wide",
-]
+__all__ = ["TileDone", "TileWork", "clumps_of", "outputs_of", "patches_of", "run_work", "wide"]
 
 Integers = NDArray[Any]
 
@@ -98,7 +90,7 @@ def run_work(work: TileWork) -> TileDone:
     """
     if work.known is not None:
         return work.known
-    warnings: dict[str, None] = {}
+    warnings: dict[str, None] = {}  # without duplicates, in order
 
     def collect(text: str) -> None:
         warnings[text] = None
@@ -121,7 +113,7 @@ def _frames(work: TileWork, watches: Mapping[str, Watch]) -> list[protocol.Frame
             return protocol.run(path, sent, words, work.questions, watch=host().watch)
     except OutOfMemory as error:
         problem = f"{error.text} for a tile of {work.outer.rows} x {work.outer.cols} cells"
-        raise OutOfMemory(problem, "arguments", 0, error.status) from None
+        raise OutOfMemory(problem, "arguments", status=error.status) from None
 
 
 def _read(source: Any, outer: Rectangle) -> Piece:
@@ -131,23 +123,23 @@ def _read(source: Any, outer: Rectangle) -> Piece:
 
 def _sent(work: TileWork, name: str, source: Piece, watches: Mapping[str, Watch]) -> protocol.Map:
     """Convert a tile's map for the program, and count nodata values along the full map's border."""
-    place, outer, block = work.place, work.outer, source.block
-    null = None if block.null is None else place.part_of(outer, block.null)
-    own = replace(block, cells=place.part_of(outer, block.cells), null=null)
+    place, sent, block = work.place, work.outer, source.block
+    null = None if block.null is None else place.part_of(sent, block.null)
+    without_halo = replace(block, cells=place.part_of(sent, block.cells), null=null)
     if name in watches:
-        watches[name].add(own, place.top, place.left)
+        watches[name].add(without_halo, place.top, place.left)
     if work.questions:
-        outer, block = place, _contiguous(own)
+        sent, block = place, _contiguous(without_halo)
     mask = None if block.null is None else block.null.view(np.uint8).data
     return protocol.Map(
         name,
-        Region.of_cells(outer.rows, outer.cols).edges,
-        outer.rows,
-        outer.cols,
-        source.dtype.kind + str(8 * source.dtype.itemsize),
-        [protocol.Block(block.cells.data, mask)],
-        source.nodata,
-        source.is_masked,
+        edges=Region.of_cells(sent.rows, sent.cols).edges,
+        rows=sent.rows,
+        cols=sent.cols,
+        type=source.dtype.kind + str(8 * source.dtype.itemsize),
+        blocks=[protocol.Block(block.cells.data, mask)],
+        nodata=source.nodata,
+        is_masked=source.is_masked,
     )
 
 
@@ -157,7 +149,8 @@ def _contiguous(block: Block) -> Block:
     return replace(block, cells=np.ascontiguousarray(block.cells), null=null)
 
 
-# Results
+# Results. The functions are partial calls because, unlike closures, these can be sent to other
+# machines.
 
 
 def outputs_of(counted: Sequence[bool]) -> partial[list[Integers]]:
@@ -188,10 +181,10 @@ def clumps_of(diagonal: bool) -> partial[list[Integers]]:
 
 def _clumps(diagonal: bool, work: TileWork, frames: Sequence[protocol.Frame]) -> list[Integers]:
     """Return a tile's border text and clump numbers, from the frames of clumps and classes."""
-    numbers, cells = frames
-    assert isinstance(numbers, GridFrame) and isinstance(cells, GridFrame)
+    numbers, classes = frames
+    assert isinstance(numbers, GridFrame) and isinstance(classes, GridFrame)
     clumps = wide(_cells_of(numbers, work), NO_CLUMP)
-    text = border_text(work.place, wide(_cells_of(cells, work), NULL), clumps, diagonal)
+    text = border_text(work.place, wide(_cells_of(classes, work), NULL), clumps, diagonal)
     return [np.frombuffer(text, np.uint8), clumps]
 
 
@@ -206,14 +199,17 @@ def patches_of(diagonal: bool, is_counted: bool) -> partial[list[Integers]]:
 def _patches(
     diagonal: bool, is_counted: bool, work: TileWork, frames: Sequence[protocol.Frame]
 ) -> list[Integers]:
+    """Return a tile's border, clump table and open clumps, from the frames of the three outputs."""
     table, *grids = frames
-    numbers, cells = (_cells_of(grid, work) for grid in grids if isinstance(grid, GridFrame))
-    sides = [(wide(cells[side], NULL), wide(numbers[side], NO_CLUMP)) for side in SIDES]
+    numbers, classes = (_cells_of(grid, work) for grid in grids if isinstance(grid, GridFrame))
+    sides = [(wide(classes[side], NULL), wide(numbers[side], NO_CLUMP)) for side in SIDES]
     if numbers.dtype == np.uint8:
         numbers = wide(numbers, NO_CLUMP)
+    # Clumps are numbered in the order of their first cells, so the largest number up to a row
+    # counts the clumps that have begun. Rows of nulls have a negative maximum.
     begun = np.maximum.accumulate(numbers.max(axis=1).clip(min=NO_CLUMP))
     text = sides_text(work.place, sides, begun, diagonal)
-    open_clumps = np.unique(np.concatenate([own.ravel() for _, own in sides]))
+    open_clumps = np.unique(np.concatenate([side_numbers.ravel() for _, side_numbers in sides]))
     return [
         np.frombuffer(text, np.uint8),
         _table_of(table, work, is_counted),
@@ -235,9 +231,9 @@ def _cells_of(frame: GridFrame, work: TileWork) -> Integers:
 
 def wide(cells: Integers, null: int) -> Integers:
     """Convert cells to int32, with the given value for null."""
-    own = protocol.NULL_BYTE if cells.dtype == np.uint8 else NULL
+    old_null = protocol.NULL_BYTE if cells.dtype == np.uint8 else NULL
     wide_cells: Integers = cells.astype(np.int32)
-    np.copyto(wide_cells, null, where=cells == own)
+    np.copyto(wide_cells, null, where=cells == old_null)
     return wide_cells
 
 
@@ -248,8 +244,9 @@ def _table_of(frame: protocol.Frame, work: TileWork, is_counted: bool) -> Intege
     """
     assert isinstance(frame, protocol.TableFrame)
     table: Integers = entries_of(frame)
-    halo = work.outer.cells - work.place.cells if is_counted else 0
-    if not halo or not len(table) or (table[-1, :-1] != NULL).any():
+    halo_cells = work.outer.cells - work.place.cells if is_counted else 0
+    # The entry of nulls, if there is one, is the last. Its last column is the number of cells.
+    if not halo_cells or not len(table) or (table[-1, :-1] != NULL).any():
         return table
-    table[-1, -1] -= halo
+    table[-1, -1] -= halo_cells
     return table if table[-1, -1] else table[:-1]

@@ -106,7 +106,7 @@ def working(
     engine: Optional[Callable[..., Any]] = None,
     meanwhile: Optional[Callable[[], Any]] = None,
 ) -> Iterator[None]:
-    """Change the given settings for the calls in a `with` block."""
+    """Change the given settings for the calls in a `with` block. See `Work` for the settings."""
     before = _work.get()
     count, client = before.workers, before.client
     if workers is not None:
@@ -115,13 +115,13 @@ def working(
     folder = before.resume if resume is None else os.fspath(resume) or before.resume
     token = _work.set(
         Work(
-            count,
-            client,
-            folder,
-            size or before.size,
-            is_dry or before.is_dry,
-            engine or before.engine,
-            meanwhile or before.meanwhile,
+            workers=count,
+            client=client,
+            resume=folder,
+            size=size or before.size,
+            is_dry=is_dry or before.is_dry,
+            engine=engine or before.engine,
+            meanwhile=meanwhile or before.meanwhile,
         )
     )
     try:
@@ -175,7 +175,7 @@ def describe(
         machines = cluster()
         (high, wide), workers = tile_size(maps, demand, machines)
         high, wide = min(high, rows), min(wide, cols)
-        tiles = -(-rows // high) * -(-cols // wide)
+        tiles = math.ceil(rows / high) * math.ceil(cols / wide)
         memory = _megabytes(demand.of_tile(high, wide))
         lines.append(f"{tiles:,} tiles of up to {high:,} x {wide:,} cells, at most {memory} each")
         free = free_memory() if machines is None else machines.memory
@@ -209,18 +209,17 @@ class Demand:
 
     @classmethod
     def of(
-        cls,
-        maps: Mapping[str, Source],
-        results: int,
-        grids: int,
-        clumps: int,
-        reach: Margin,
+        cls, maps: Mapping[str, Source], results: int, grids: int, clumps: int, reach: Margin
     ) -> Demand:
-        """Return the demand of a script with these inputs and these numbers of maps and clumps."""
+        """Return the demand of a script.
+
+        `results`, `grids` and `clumps` are the numbers of maps that the script creates, of maps
+        that it writes, and of its r.clump statements.
+        """
         read = sum(_read_bytes(source) for source in maps.values())
         program = MAP_BYTES * (len(maps) + results) + CLUMP_BYTES * clumps
-        # An output map is in memory twice: in the response and in its result.
-        return cls(read + program + 8 * grids, reach)
+        written = 2 * 4 * grids  # in memory twice, as int32: in the response and in its result
+        return cls(read + program + written, reach)
 
     def of_tile(self, rows: int, cols: int) -> int:
         """Return the memory, in bytes, that a tile and its program need."""
@@ -239,9 +238,8 @@ def _read_bytes(source: Source) -> int:
     Cells of more than two bytes are checked and copied.
     """
     size = source.dtype.itemsize
-    if size > 2:
-        size += size + _CHECKING_BYTES
-    return size + source.is_masked
+    mask = 1 if source.is_masked else 0
+    return (2 * size + _CHECKING_BYTES if size > 2 else size) + mask
 
 
 def is_small(maps: Mapping[str, Source]) -> bool:
@@ -273,7 +271,8 @@ def tile_size(
     """Return the rows and columns of tiles, and the number of tiles to process at a time.
 
     Tiles are squares. If the first map stores complete rows, tiles are bands of complete rows,
-    because square tiles would have to read the rows completely.
+    because square tiles would have to read the rows completely. If a cluster is given, its machines
+    process the tiles, instead of threads.
 
     Raises
     ------
@@ -282,24 +281,24 @@ def tile_size(
     """
     current = work()
     first = next(iter(maps.values()))
-    (rows, cols), workers = first.region.shape, threads()
-    if cluster is not None:
-        workers = cluster.threads
+    rows, cols = first.region.shape
+    workers = threads() if cluster is None else cluster.threads
     if current.size is not None:
         return current.size, workers
-    up, down, left, right = demand.reach
-    enough = math.isqrt(rows * cols // (workers * TILES_EACH)) + 1
-    side = min(max(enough, USUAL_SIDE), MOST_SIDE)
+    balanced = math.isqrt(rows * cols // (workers * TILES_EACH)) + 1
+    side = min(max(balanced, USUAL_SIDE), MOST_SIDE)
     free = free_memory() if cluster is None else cluster.memory * workers
     while side > LEAST_SIDE and demand.of_tile(side, side) * workers > free * SHARE:
         side //= 2
     workers = min(workers, int(free * SHARE // demand.of_tile(side, side)))
     if workers < 1:
         raise _too_little(demand.of_tile(side, side), side, free)
-    high, wide = getattr(first, "block_shape", (LEAST_SIDE, LEAST_SIDE))
-    if wide >= cols > side and cols + left + right <= SIDE_LIMIT:
-        return (_multiple(max(side * side // cols, 1), high), cols), workers
-    return (_even_side(rows, side, high), _even_side(cols, side, wide)), workers
+    block_rows, block_cols = getattr(first, "block_shape", (LEAST_SIDE, LEAST_SIDE))
+    _, _, left, right = demand.reach
+    if block_cols >= cols > side and cols + left + right <= SIDE_LIMIT:
+        band_rows = max(side * side // cols, 1)  # as many cells as in a square
+        return (_multiple(band_rows, block_rows), cols), workers
+    return (_even_side(rows, side, block_rows), _even_side(cols, side, block_cols)), workers
 
 
 def _multiple(side: int, block: int) -> int:
@@ -310,7 +309,8 @@ def _multiple(side: int, block: int) -> int:
 def _even_side(length: int, most: int, block: int) -> int:
     """Return the side length that cuts a map into tiles of about equal size.
 
-    A narrow last tile would cost the program as much per row as a wide tile.
+    A narrow last tile would cost the program as much per row as a wide tile. The side is at most
+    `most` and, if the map's blocks are not larger, a multiple of their side `block`.
 
     Examples
     --------
@@ -318,14 +318,15 @@ def _even_side(length: int, most: int, block: int) -> int:
     (2816, 1024, 500)
     """
     most = _multiple(most, block)
-    count = -(-length // most)
+    count = math.ceil(length / most)
     if block > most:
-        return -(-length // count)
-    side = -(-length // (count * block)) * block
-    is_last_narrow = 0 < length % side < side // 2
-    return -(-length // ((count + is_last_narrow) * block)) * block
+        return math.ceil(length / count)
+    side = math.ceil(length / (count * block)) * block
+    if 0 < length % side < side // 2:  # the last tile is narrow
+        count += 1
+    return math.ceil(length / (count * block)) * block
 
 
 def _too_little(needed: int, side: int, free: int) -> OutOfMemory:
     problem = f"a tile of {side} x {side} cells may need {needed:,} bytes; only {free:,} are free"
-    return OutOfMemory(f"{problem}: close other programs, or use fewer maps", "arguments", 0, 3)
+    return OutOfMemory(f"{problem}: close other programs, or use fewer maps", "arguments", status=3)

@@ -122,26 +122,23 @@ def trajectories(
     measure = series.measure(area)
     counts = _counts(series, measure)
     sequences = _Sequences(counts, steps, measure)
-    tables = (
-        sequences.table(_labels_of(series, counts, labels)),
-        sequences.changes(),
-        sequences.intervals(),
-    )
+    table = sequences.table(_labels_of(series, counts, labels))
+    changes, intervals = sequences.changes(), sequences.intervals()
     if not include_maps:
-        return Trajectories(*tables, {})
+        return Trajectories(table, changes, intervals, maps={})
     script = "\n".join(_lines_of_maps(list(series.sources), steps))
-    run = Run(script, series.sources, {}, series.crs)
-    return Trajectories(*tables, dict(zip(MAPS, run.maps(MAPS))))
+    run = Run(script, series.sources, named={}, crs=series.crs)
+    return Trajectories(table, changes, intervals, maps=dict(zip(MAPS, run.maps(MAPS))))
 
 
 def _labels_of(series: Maps, counts: Counts, legend: Any) -> list[Mapping[int, str]]:
     """Return each map's labels, from the legend, the map itself, or the first map with labels."""
     own = [source.labels for source in series.sources.values()]
-    shared: Mapping[int, str] = next(filter(None, own), {})
     if legend is not None:
-        shared = legend_for(legend, {}, list(zip(series.sources, counts.classes.T)))
-        own = [{}] * len(own)
-    return [labels or shared for labels in own]
+        classes = list(zip(series.sources, counts.classes.T))
+        return [legend_for(legend, own={}, classes=classes)] * len(own)
+    first_labels: Mapping[int, str] = next((labels for labels in own if labels), {})
+    return [labels or first_labels for labels in own]
 
 
 class _Sequences:
@@ -155,35 +152,37 @@ class _Sequences:
     def table(self, labels: Sequence[Mapping[int, str]]) -> Table:
         """Return a table with a row for each sequence."""
         columns: list[Column] = []
-        for year, classes, own in zip(self._years, self.counts.classes.T, labels):
-            columns += coded(f"class_{year}", classes, own, f"label_{year}")
+        for year, classes, map_labels in zip(self._years, self.counts.classes.T, labels):
+            columns += coded(f"class_{year}", classes, map_labels, f"label_{year}")
         columns += self.counts.columns(self._measure, self.counts.percent())
         ordered = np.sort(self.counts.classes, axis=1)
-        kinds = (ordered[:, 1:] != ordered[:, :-1]).sum(axis=1, dtype=np.int64) + 1
-        columns += [Column("changes", "count", self._changes), Column("classes", "count", kinds)]
-        last = self._moved.shape[1] - 1
-        first_change = self._moved.argmax(axis=1)
-        last_change = last - self._moved[:, ::-1].argmax(axis=1)
-        after = np.array(self._years[1:], np.int64)
-        for title, index in (("first_change", first_change), ("last_change", last_change)):
-            columns.append(Column(title, "class", np.where(self._changes > 0, after[index], NULL)))
+        distinct = (ordered[:, 1:] != ordered[:, :-1]).sum(axis=1, dtype=np.int64) + 1
+        columns.append(Column("changes", "count", self._changes))
+        columns.append(Column("classes", "count", distinct))
+        last_interval = self._moved.shape[1] - 1
+        first_change = self._moved.argmax(axis=1)  # the first interval that is True
+        last_change = last_interval - self._moved[:, ::-1].argmax(axis=1)
+        year_to = np.array(self._years[1:], np.int64)
+        for title, interval in (("first_change", first_change), ("last_change", last_change)):
+            dates = np.where(self._changes > 0, year_to[interval], NULL)
+            columns.append(Column(title, "class", dates))
         return Table(columns)
 
     def changes(self) -> Table:
         """Return a table with a row for each number of changes."""
         order = np.argsort(self._changes, kind="stable")
         numbers = self._changes[order][:, None]
-        each = dataclasses.replace(self.counts.where(order), classes=numbers)
-        together = each.summed(places_of(numbers))
-        columns = together.columns(self._measure, together.percent())
-        return Table([Column("changes", "count", together.classes[:, 0]), *columns])
+        by_sequence = dataclasses.replace(self.counts.where(order), classes=numbers)
+        by_number = by_sequence.summed(places_of(numbers))
+        columns = by_number.columns(self._measure, by_number.percent())
+        return Table([Column("changes", "count", by_number.classes[:, 0]), *columns])
 
     def intervals(self) -> Table:
         """Return a table with a row for each interval between two years."""
-        years, measured = np.array(self._years, np.int64), self.counts.weights()
-        changed = (self._moved * measured[:, None]).sum(axis=0)
+        years, weights = np.array(self._years, np.int64), self.counts.weights()
+        changed = (self._moved * weights[:, None]).sum(axis=0)
         cells = (self._moved * self.counts.cells[:, None]).sum(axis=0)
-        total = measured.sum()
+        total = weights.sum()
         percent = changed * 100.0 / total if total else np.full(years.size - 1, np.nan)
         area = self._measure.area(cells) if self.counts.area is None else changed
         uniform = np.full(cells.size, percent.sum() / (years[-1] - years[0]))
@@ -206,23 +205,26 @@ def _counts(series: Maps, measure: Measure) -> Counts:
     names = list(series.sources)
     rows = [] if measure.by_row is None else ["row"]
     if len(names) + len(rows) <= MOST_MAPS:
-        return series.counts([names], measure)[0]
+        [counts] = series.counts([names], measure)
+        return counts
     tables = series.tables("\n".join(f"r.stats -n input={name}" for name in names))
     classes = np.unique(np.concatenate([table[:, 0] for table in tables]))
+    # A pack of maps is a number in this base, with the rank of each map's class as a digit. As many
+    # digits as fit into a category are packed.
     base = max(classes.size, 2)
     size = next(size for size in range(1, 32) if base ** (size + 1) > MAX_CATEGORY)
     packs = [names[start : start + size] for start in range(0, len(names), size)]
     if len(packs) + len(rows) > MOST_MAPS:
         most = size * (MOST_MAPS - len(rows))
         raise BadArgument(
-            "maps",
-            f"must list at most {most} maps for {classes.size} classes; got {len(names)}",
+            "maps", f"must list at most {most} maps for {classes.size} classes; got {len(names)}"
         )
     lines = list(_packing(packs, classes.tolist(), base))
     lines += ["r.mapcalc row = row()"] if rows else []
     packed = [f"pack{number}" for number in range(len(packs))]
     lines.append(f"r.stats -c -n input={','.join([*rows, *packed])}")
-    packed_counts = counts_of(series.tables("\n".join(lines))[0], measure)
+    [packed_table] = series.tables("\n".join(lines))
+    packed_counts = counts_of(packed_table, measure)
     columns: list[Integers] = []
     for pack, numbers in zip(packs, packed_counts.classes.T):
         powers = base ** np.arange(len(pack) - 1, -1, -1)
@@ -251,6 +253,7 @@ def _lines_of_maps(names: Sequence[str], years: Sequence[int]) -> Iterator[str]:
         sums.append(f"sum{len(sums)}")
         yield f"r.mapcalc {sums[-1]} = {text}"
     yield f"r.mapcalc changes = {' + '.join(sums)}"
+    # The interval that is added last is tested first.
     for name, ordered in (("first_change", moves[::-1]), ("last_change", moves)):
         text = "null()"
         for number, (before, after, year) in enumerate(ordered, 1):

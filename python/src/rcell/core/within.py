@@ -76,14 +76,17 @@ def within(
         raise BadArgument("classes", f"must be a list of whole numbers; got {classes!r}")
     steps = _ascending(distances)
     rules = "\n".join(f"{code} = 0" for code in listed)
-    run = Run(f"r.reclass input=map output=within\n{rules}\nend", {"map": map}, {}, crs)
-    metres, transform = metres_of("distances", run.crs), run.first.transform
-    sizes = transform[0] * metres, -transform[4] * metres
-    rings = [[0], *(reaches(distance, *sizes) for distance in steps)]
+    script = f"r.reclass input=map output=within\n{rules}\nend"
+    run = Run(script, {"map": map}, named={}, crs=crs)
+    metres = metres_of("distances", run.crs)
+    width, _, _, _, height, _ = run.first.transform
+    # The first ring contains only the cell itself.
+    rings = [[0], *(reaches(distance, width * metres, -height * metres) for distance in steps)]
     [inside] = run.maps(["within"])
     null = NULL_BYTE if inside.is_narrow and len(rings) < NULL_BYTE else NULL
     ends = [f"{distance:.10g}" for distance in steps]
-    labels = ["inside", *(f"{begin} to {end} m" for begin, end in zip(["up", *ends], ends))]
+    begins = ["up", *ends[:-1]]
+    labels = ["inside", *(f"{begin} to {end} m" for begin, end in zip(begins, ends))]
     return dataclasses.replace(
         inside,
         array=_ring_of(inside.array, rings, null),
@@ -114,36 +117,39 @@ def reaches(distance: float, width: float, height: float) -> list[int]:
     >>> reaches(2.5, 1, 1)
     [2, 2, 1]
     """
-    square, wide, high = (Fraction(length) ** 2 for length in (distance, width, height))
-    if square >= min(wide, high) * (MOST_STEPS + 1) ** 2:
+    # Squares of fractions are exact, so that no cell on the edge of a circle is lost by rounding.
+    distance2, width2, height2 = (Fraction(length) ** 2 for length in (distance, width, height))
+    if distance2 >= min(width2, height2) * (MOST_STEPS + 1) ** 2:
         cells = distance / min(width, height)
         rule = (
             f"must be at most {MOST_STEPS} cells; got {distance:.10g} m, which is {cells:.1f} cells"
         )
         raise BadArgument("distances", rule)
     cols: list[int] = []
-    while len(cols) ** 2 * high <= square:
-        cols.append(math.isqrt(math.floor((square - len(cols) ** 2 * high) / wide)))
+    while (remaining := distance2 - len(cols) ** 2 * height2) >= 0:
+        cols.append(math.isqrt(math.floor(remaining / width2)))
     return cols
 
 
 def _ring_of(cells: Any, rings: Sequence[Sequence[int]], null: int) -> Any:
-    """Return the index of each cell's smallest ring that contains a 0."""
-    if hasattr(cells, "map_overlap"):  # a Dask array
-        sides = len(rings[-1]) - 1, rings[-1][0]
-        depth = tuple(map(min, sides, cells.shape))
-        words = {"rings": rings, "null": NULL, "dtype": np.int32, "boundary": "none"}
-        return cells.map_overlap(_ring_of, depth=depth, **words).rechunk(cells.chunks)
+    """Return the index of each cell's smallest ring that contains a 0, or null if none does."""
+    largest = rings[-1]
+    ring_rows, ring_cols = len(largest) - 1, largest[0]
     rows, cols = cells.shape
+    if hasattr(cells, "map_overlap"):  # a Dask array
+        depth = min(ring_rows, rows), min(ring_cols, cols)
+        options = {"rings": rings, "null": NULL, "dtype": np.int32, "boundary": "none"}
+        return cells.map_overlap(_ring_of, depth=depth, **options).rechunk(cells.chunks)
     step = max(1, _CACHED // cols)
     parts = [slice(start, start + step) for start in range(0, rows, step)]
     # One bit per cell, and zeros after each row, so that a widened row does not reach the next row.
-    inside = np.zeros((rows, (cols + rings[-1][0]) // 64 + 1), "<u8")
+    inside = np.zeros((rows, (cols + ring_cols) // 64 + 1), "<u8")
     for part in parts:
         bits = np.packbits(cells[part] == 0, axis=1, bitorder="little")
         inside[part].view(np.uint8)[:, : bits.shape[1]] = bits
     nearest = cells_for(cells.shape, np.uint8 if null == NULL_BYTE else np.int32)
     nearest.fill(null)
+    # Smaller rings come later and replace larger rings.
     for number, ring in reversed(list(enumerate(rings))):
         near = _near(inside, ring, parts).view(np.uint8)
         for part in parts:
@@ -155,9 +161,11 @@ def _ring_of(cells: Any, rings: Sequence[Sequence[int]], null: int) -> Any:
 def _near(inside: Any, ring: Sequence[int], parts: Sequence[slice]) -> Any:
     """Return the bits of the cells whose ring contains a cell in `inside`."""
     most = len(ring) - 1
+    # With `most` additional rows above and below, for rings that reach beyond the map.
     near = np.zeros((len(inside) + 2 * most, inside.shape[1]), inside.dtype)
     for part in parts:
         wide, width = inside[part], 0
+        # The ring is narrowest in its farthest rows, so the bits are widened from these rows on.
         for row, reach in reversed(list(enumerate(ring))):
             wide, width = _widened(wide, reach - width), reach
             for top in (part.start + most - row, part.start + most + row):
@@ -170,6 +178,7 @@ def _widened(bits: Any, times: int) -> Any:
     flat = bits.reshape(-1)
     for _ in range(times):
         wide = flat | flat << 1 | flat >> 1
+        # A bit at the end of a 64-bit word also widens into the next word.
         wide[1:] |= flat[:-1] >> 63
         wide[:-1] |= flat[1:] << 63
         flat = wide

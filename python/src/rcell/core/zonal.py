@@ -85,19 +85,20 @@ def zonal(
         source = Scaled(source, whole_number_of("scale", scale, 1, MAX_CATEGORY))
     maps = Maps({"values": source}, crs, zones, zone_field, layer, each)
     try:
-        entries = maps.tables("r.stats -c -n input=zones,values")[0]
+        [entries] = maps.tables("r.stats -c -n input=zones,values")
     except BadMap as error:
         if scale is None and error.source == source.name and error.advice:
             error.advice = f"{option('scale', 100)}, which rounds to 1/100"
         raise
     if scale is not None:
         warn(f"{source.name}: rounded to 1/{scale}")
-    first = places_of(entries[:, 0])
-    columns = maps.columns("zone", entries[first, 0], "zones", zone_labels)
+    entry_zones, entry_values, cells = entries.T
+    first = places_of(entry_zones)
+    columns = maps.columns("zone", entry_zones[first], "zones", legend=zone_labels)
     return Table(
         columns
-        + _moments(entries[:, 1], entries[:, 2], first, scale)
-        + _quantiles(entries[:, 1], entries[:, 2], first, titled_quantiles, scale)
+        + _moments(entry_values, cells, first, scale)
+        + _quantiles(entry_values, cells, first, titled_quantiles, scale)
     )
 
 
@@ -106,18 +107,21 @@ def _title(quantile: Any) -> str:
     try:
         number = float(quantile)
     except (TypeError, ValueError):
-        number = -1.0
+        number = -1.0  # out of range
     percentage = Decimal(repr(number)) * 100
     if not 0 <= number <= 1:
         raise BadArgument("quantiles", f"must be from 0 to 1; got {quantile!r}")
     text = f"{percentage:f}"
-    return "q" + (text.rstrip("0").rstrip(".") if "." in text else text).replace(".", "_")
+    if "." in text:
+        text = text.rstrip("0").rstrip(".")
+    return "q" + text.replace(".", "_")
 
 
 def _moments(
     values: Integers, cells: Integers, first: NDArray[np.intp], scale: int | None
 ) -> list[Column]:
     """Return sums, means, extremes and variances, using integers until the last division."""
+    # A zone's values, in ascending order, begin at its index in `first`. Each occurs in `cells`.
     if not first.size:
         sums = squares = count = least = most = np.empty(0, np.int64)
     else:
@@ -128,18 +132,21 @@ def _moments(
         largest = int(np.abs(values).max())
         exact = values if largest**2 * int(count.max()) < 2**63 else values.astype(object)
         squares = np.add.reduceat(exact * exact * cells, first)
-    whole = list(zip(count.tolist(), sums.tolist(), squares.tolist()))
     unit, kind = (1, "count") if scale is None else (scale, "measure")
-    mean = np.array([added / (n * unit) for n, added, _ in whole], np.float64)
-    spread = [(n * squared - added * added) / (n * n * unit * unit) for n, added, squared in whole]
-    total, low, high = (part if scale is None else part / scale for part in (sums, least, most))
+    means, variances = [], []
+    for n, total, squared in zip(count.tolist(), sums.tolist(), squares.tolist()):
+        means.append(total / (n * unit))
+        variances.append((n * squared - total * total) / (n * n * unit * unit))
+    totals, minima, maxima = (
+        part if scale is None else part / scale for part in (sums, least, most)
+    )
     return [
         Column("cells", "count", count),
-        Column("sum", kind, total),
-        Column("mean", "measure", mean),
-        Column("minimum", kind, low),
-        Column("maximum", kind, high),
-        Column("variance", "measure", np.array(spread, np.float64)),
+        Column("sum", kind, totals),
+        Column("mean", "measure", np.array(means, np.float64)),
+        Column("minimum", kind, minima),
+        Column("maximum", kind, maxima),
+        Column("variance", "measure", np.array(variances, np.float64)),
     ]
 
 
@@ -153,19 +160,18 @@ def _quantiles(
     """Return quantiles by zone, interpolated like numpy's method `linear`."""
     if not first.size:
         return [Column(title, "measure", np.empty(0)) for title, _ in titled_quantiles]
-    until = np.cumsum(cells)
-    before = np.concatenate([[0], until])[first]
+    end = np.cumsum(cells)
+    zone_begin = np.concatenate([[0], end])[first]
     count = np.add.reduceat(cells, first)
     columns = []
     for title, quantile in titled_quantiles:
-        place = (count - 1) * quantile
-        lower = np.floor(place).astype(np.int64)
-        part = place - lower
-        low, high = (
-            values[np.searchsorted(until, before + offset, "right")]
-            for offset in (lower, np.minimum(lower + 1, count - 1))
-        )
-        step = (high - low).astype(np.float64)
-        interpolated = np.where(part < 0.5, low + step * part, high - step * (1 - part))
+        rank = (count - 1) * quantile
+        lower = np.floor(rank).astype(np.int64)
+        upper = np.minimum(lower + 1, count - 1)
+        low = values[np.searchsorted(end, zone_begin + lower, "right")]
+        high = values[np.searchsorted(end, zone_begin + upper, "right")]
+        fraction, step = rank - lower, (high - low).astype(np.float64)
+        # As in numpy, from the nearer of the two values.
+        interpolated = np.where(fraction < 0.5, low + step * fraction, high - step * (1 - fraction))
         columns.append(Column(title, "measure", interpolated / (1 if scale is None else scale)))
     return columns

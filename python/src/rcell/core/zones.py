@@ -137,12 +137,14 @@ def zones_of(
     if field is not None and field not in layer.fields:
         raise BadMap(layer.name, f"no field {field}: {known_names('field', layer.fields)}")
     titles = {"map": like.name, "zones": layer.name}
-    common_crs({"map": like.crs, "zones": layer.crs}, crs, "ogr2ogr", titles)
+    systems = {"map": like.crs, "zones": layer.crs}
+    common_crs(systems, crs, warp="ogr2ogr", titles=titles)
     features = _with_a_zone(layer, field)
     zones, labels = _numbered([feature.value for feature in features])
     ids = np.array(sorted(set(zones)), np.int64)
+    categories = np.searchsorted(ids, zones) + 1
     names = [_name(feature, zone, labels) for feature, zone in zip(features, zones)]
-    grid = _Grid(layer, like, features, np.searchsorted(ids, zones) + 1, names)
+    grid = _Grid(layer, like, features, categories, names)
     parts = [list(range(len(features)))]
     if each:
         parts = _apart([layer.bounds(feature.geometry) for feature in features], zones)
@@ -217,19 +219,19 @@ class _Losses:
 
     def __init__(self) -> None:
         self.cells = 0
-        self.first = (sys.maxsize, 0)
+        self.first_cell = (sys.maxsize, 0)  # row and column
         self.features: set[int] = set()
         self._lock = threading.Lock()
 
-    def add(self, place: Rectangle, first: NDArray[np.int32], lost: NDArray[np.bool_]) -> None:
-        """Record the cells of a block that a feature loses to a later feature."""
+    def add(self, place: Rectangle, feature: NDArray[np.int32], lost: NDArray[np.bool_]) -> None:
+        """Record the `lost` cells of a block, which each cell's `feature` loses to a later one."""
         if not lost.any():
             return
         row, col = np.unravel_index(int(np.argmax(lost)), lost.shape)
         with self._lock:
             self.cells += int(np.count_nonzero(lost))
-            self.features |= set(np.unique(first[lost]).tolist())
-            self.first = min(self.first, (int(row) + place.top, int(col) + place.left))
+            self.features |= set(np.unique(feature[lost]).tolist())
+            self.first_cell = min(self.first_cell, (int(row) + place.top, int(col) + place.left))
 
 
 @dataclass
@@ -264,6 +266,7 @@ class _Grid:
         losses = _Losses()
 
         def burn(place: Rectangle) -> NDArray[np.bool_]:
+            # In reverse order, the first feature is burnt last.
             last, are_last = self._burnt(part, place)
             first, are_first = self._burnt(part[::-1], place)
             place.part_of(full, cells)[...] = categories[last]
@@ -276,7 +279,9 @@ class _Grid:
         if losses.cells:
             self._find_hidden([index for index in part if not self._has_centre[index + 1]])
             self._warn_of_losers(losses)
-        return ArrayMap(name, cells, like.region, None, 0, {}, like.crs, like.transform)
+        return ArrayMap(
+            name, cells, like.region, nodata_value=0, crs=like.crs, exact_transform=like.transform
+        )
 
     def _over_blocks(self, burn: Callable[[Rectangle], NDArray[np.bool_]]) -> None:
         """Burn features into all blocks and record which features contain a cell centre."""
@@ -296,10 +301,11 @@ class _Grid:
         Features are numbered from 1. A cell that no feature contains is 0.
         """
         width, _, west, _, height, north = self.like.transform
-        transform = (width, 0.0, west + width * place.left, 0.0, height, north + height * place.top)
-        right, low = (transform[2] + width * place.cols, transform[5] + height * place.rows)
-        near = _meets(np.array([transform[2], low, right, transform[5]]), self._boxes)
-        shapes = [(self.features[index].geometry, index + 1) for index in part if near[index]]
+        left, top = west + width * place.left, north + height * place.top
+        right, bottom = left + width * place.cols, top + height * place.rows
+        transform = (width, 0.0, left, 0.0, height, top)
+        is_near = _meets(np.array([left, bottom, right, top]), self._boxes)
+        shapes = [(self.features[index].geometry, index + 1) for index in part if is_near[index]]
         shape = (place.rows, place.cols)
         last = self.layer.burn(shapes, transform, shape) if shapes else np.zeros(shape, np.int32)
         cells = np.bincount(last.reshape(-1), minlength=self._has_centre.size)
@@ -307,16 +313,17 @@ class _Grid:
 
     def _find_hidden(self, rest: list[int]) -> None:
         """Find the features that contain a cell centre but are hidden by other features."""
+        # Without the features that have been found, the features below them are visible.
         while rest:
             self._over_blocks(lambda place: self._burnt(rest, place)[1])
-            left = [index for index in rest if not self._has_centre[index + 1]]
-            if len(left) == len(rest):
+            hidden = [index for index in rest if not self._has_centre[index + 1]]
+            if len(hidden) == len(rest):
                 return
-            rest = left
+            rest = hidden
 
     def _warn_of_losers(self, losses: _Losses) -> None:
         losers = [self.names[number - 1] for number in sorted(losses.features)]
-        row, col = losses.first
+        row, col = losses.first_cell
         warn(
             f"{self.layer.name}: {losses.cells:,} cells are in more than one polygon, the first "
             f"at row {row + 1}, column {col + 1}: "
@@ -349,23 +356,23 @@ def _apart(
         members.setdefault(zone, []).append(index)
     parts: list[list[int]] = []
     boxes_of_parts: list[NDArray[np.float64]] = []
-    for places in members.values():
-        own = np.array([bounds[index] for index in places])
-        box = np.concatenate([own[:, :2].min(axis=0), own[:, 2:].max(axis=0)])
-        for part, boxes in enumerate(boxes_of_parts):
-            if not _meets(box, boxes).any():
+    for indices in members.values():
+        boxes = np.array([bounds[index] for index in indices])
+        zone_box = np.concatenate([boxes[:, :2].min(axis=0), boxes[:, 2:].max(axis=0)])
+        for part, part_boxes in enumerate(boxes_of_parts):
+            if not _meets(zone_box, part_boxes).any():
                 break
-        else:
+        else:  # the zone overlaps a zone of each part
             part = len(parts)
             parts.append([])
             boxes_of_parts.append(np.empty((0, 4)))
-        parts[part] += places
-        boxes_of_parts[part] = np.concatenate([boxes_of_parts[part], box[None]])
+        parts[part] += indices
+        boxes_of_parts[part] = np.concatenate([boxes_of_parts[part], zone_box[None]])
     return parts
 
 
 def _meets(box: NDArray[np.float64], others: NDArray[np.float64]) -> NDArray[np.bool_]:
-    """Return a mask of the other boxes that a box touches."""
+    """Return a mask of the other boxes (west, south, east, north) that a box touches."""
     is_below = (others[:, :2] <= box[2:]).all(axis=1)
     is_above = (others[:, 2:] >= box[:2]).all(axis=1)
     touches: NDArray[np.bool_] = is_below & is_above

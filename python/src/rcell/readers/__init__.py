@@ -38,7 +38,7 @@ def open_raster(name: str, path: str, band: int | None = None) -> Source:
         The band cannot be a map.
     MissingLibrary
     """
-    reader = _reader("rasterio", "gdal", "gis", "to read a raster")
+    reader = _reader("rasterio", "gdal", extra="gis", purpose="to read a raster")
     source: Source = reader.open_raster(name, path, band)
     return source
 
@@ -63,7 +63,7 @@ def open_features(name: str, source: Any, layer: Optional[str] = None) -> Option
         The file has several layers and none is named, or no layer has this name.
     MissingLibrary
     """
-    if hasattr(source, "burn"):
+    if hasattr(source, "burn"):  # already a layer
         features: Layer = source
         return features
     if isinstance(source, (str, os.PathLike)):
@@ -76,11 +76,10 @@ def open_features(name: str, source: Any, layer: Optional[str] = None) -> Option
             )
         if not path.startswith("/vsi") and not os.path.exists(path):
             raise ReadFailed(name, f"cannot open: {path}: No such file or directory")
-        features = _reader("fiona", "ogr", "vector", "to read a layer").open_layer(
-            name, path, layer or named or None
-        )
+        reader = _reader("fiona", "ogr", extra="vector", purpose="to read a layer")
+        features = reader.open_layer(name, path, layer or named or None)
         return features
-    if isinstance(source, dict) or hasattr(source, "geom_type"):
+    if isinstance(source, dict) or hasattr(source, "geom_type"):  # GeoJSON, or from geopandas
         from .polygons import layer_of
 
         return layer_of(name, source)
@@ -97,23 +96,24 @@ def crs_of(text: str) -> Crs:
     MissingLibrary
     """
     purpose = f"to read the coordinate reference system {text[:60]!r}"
-    system: Crs = _reader("pyproj", "osr", "gis", purpose).crs_of(text)
+    system: Crs = _reader("pyproj", "osr", extra="gis", purpose=purpose).crs_of(text)
     return system
 
 
 def _reader(library: str, other: str, extra: str, purpose: str) -> Any:
-    """Return the reader for a library or, if the library is missing, for GDAL's Python bindings.
+    """Return the reader for a library or, if it is missing, `other`, for GDAL's Python bindings.
 
-    The QGIS plugin contains only the readers for GDAL's bindings.
+    The QGIS plugin contains only the readers for GDAL's bindings. Messages name the `extra` of this
+    package that installs the library.
     """
     reason = ""
-    for name, needed in ((library, library), (other, "osgeo")):
+    for reader, needed in ((library, library), (other, "osgeo")):
         try:
             with warnings.catch_warnings():
                 # In a virtual environment, Debian's pyproj warns although PROJ finds its files.
                 warnings.filterwarnings("ignore", "Valid PROJ data directory not found")
                 importlib.import_module(needed)
-                return importlib.import_module(f".{name}", __name__)
+                return importlib.import_module(f".{reader}", __name__)
         except ModuleNotFoundError:
             continue
         except ImportError as error:  # installed, but cannot be loaded

@@ -49,15 +49,10 @@ def bands(raster: Any, /, **numbers: int) -> dict[str, Any]:
 
         layers = layers_of(raster)
     else:
-        dataset = (
-            open_dataset("raster", os.fspath(raster))
-            if isinstance(raster, str | os.PathLike)
-            else raster
-        )
-        layers = [
-            need("rasterio", "gis", "to read a raster").band(dataset, number)
-            for number in dataset.indexes
-        ]
+        is_path = isinstance(raster, (str, os.PathLike))
+        dataset = open_dataset("raster", os.fspath(raster)) if is_path else raster
+        band = need("rasterio", "gis", "to read a raster").band
+        layers = [band(dataset, number) for number in dataset.indexes]
     for name, number in numbers.items():
         if number not in range(1, len(layers) + 1):
             raise BadMap(name, f"no band {number}: the raster has {len(layers)}")

@@ -43,7 +43,10 @@ def open_layer(name: str, path: str, layer: Optional[str] = None) -> Polygons:
                 (int(feature["id"]), dict(feature["properties"] or {}), feature["geometry"])
                 for feature in source
             ]
-            fields = tuple(records[0][1]) if records else ()
+            fields: tuple[str, ...] = ()
+            if records:  # which all have the same properties
+                _, properties, _ = records[0]
+                fields = tuple(properties)
             return Polygons(name, source.crs_wkt or None, fields, records)
     except (fiona.errors.FionaError, KeyError, OSError, ValueError) as error:
         raise ReadFailed(name, f"cannot open: {path}: {error}") from None

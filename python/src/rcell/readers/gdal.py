@@ -101,12 +101,7 @@ def open_raster(
 
 
 def _map_of(
-    name: str,
-    path: str,
-    dataset: Any,
-    band: Optional[int],
-    null_ranges: Ranges,
-    uses_nodata: bool,
+    name: str, path: str, dataset: Any, band: Optional[int], null_ranges: Ranges, uses_nodata: bool
 ) -> RasterMap:
     """Convert a band of an open dataset to a map."""
     layer = dataset.GetRasterBand(_only_band(name, dataset) if band is None else band)
@@ -119,7 +114,9 @@ def _map_of(
     system = dataset.GetSpatialRef()
     dtype = _dtype_of(layer)
     alpha = next((number for number in _alphas(dataset) if number != layer.GetBand()), None)
+    # The flags of a band's own mask, and of masks for all bands.
     masks = (0, gdal.GMF_PER_DATASET, gdal.GMF_PER_DATASET | gdal.GMF_NODATA)
+    block_cols, block_rows = layer.GetBlockSize()
     return RasterMap(
         name=name,
         path=path,
@@ -133,7 +130,7 @@ def _map_of(
         has_mask=layer.GetMaskFlags() in masks,
         alpha=alpha,
         is_upside_down=is_upside_down,
-        block_shape=(layer.GetBlockSize()[1], layer.GetBlockSize()[0]),
+        block_shape=(block_rows, block_cols),
         files=tuple(dataset.GetFileList() or ()),
         style_path=path,
     )
@@ -224,8 +221,9 @@ class RasterMap:
     def _legend_of_file(self) -> Legend:
         dataset = open_dataset(self.name, self.path)
         with quiet():
-            described = gdal.GetDriverByName("VRT").CreateCopy("", dataset, 0)
-            text = described.GetMetadata("xml:VRT")[0]
+            # A description of the raster, as XML without a path.
+            described = gdal.GetDriverByName("VRT").CreateCopy("", dataset, strict=0)
+            [text] = described.GetMetadata("xml:VRT")
         bands = ElementTree.fromstring(text).findall("VRTRasterBand")
         return legend_of_band(bands[self.band - 1], self.style_path)
 
@@ -240,13 +238,13 @@ class RasterMap:
             A cell is not a whole number in range.
         """
         rows, cols = self.region.shape
-        step = max(1, BLOCK_CELLS // cols)
-        height = self.block_shape[0]
-        step = max(step - step % height, min(step, height))
+        block_rows, _ = self.block_shape
+        most = max(1, BLOCK_CELLS // cols)
+        step = (most - most % block_rows) or most  # if a block of the file has more rows
         dataset = open_dataset(self.name, self.path)
         for row in range(0, rows, step):
             count = min(step, rows - row)
-            cells, null = self._read(dataset, row, 0, count, cols)
+            cells, null = self._read(dataset, row, col=0, rows=count, cols=cols)
             yield checked(self.name, cells, null, self.file_nodata, row)
 
     def window(self, row: int, col: int, rows: int, cols: int) -> Block:

@@ -26,6 +26,7 @@ def of_this_thread(path: str, open_path: Callable[[], Any]) -> Any:
     >>> of_this_thread("a", lambda: [1]) is of_this_thread("a", lambda: [1])
     True
     """
+    # In the order of last use, because a dataset is removed here and added again below.
     handles: dict[str, Any] = _here.__dict__.setdefault("handles", {})
     dataset = handles.pop(path, None)
     if dataset is None:

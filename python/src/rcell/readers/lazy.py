@@ -50,12 +50,12 @@ def lazy_map(make: Callable[[], Any]) -> Any:
     BadArgument
         The map depends on a table.
     """
-    first: list[Source] = []
+    first_maps: list[Source] = []  # of each script
 
     def engine(
         script: str, maps: Mapping[str, Source], wanted: Sequence[str], fold: Fold | None
     ) -> list[Output]:
-        first.append(next(iter(maps.values())))
+        first_maps.append(next(iter(maps.values())))
         outputs = _graph_of(script, maps, wanted)
         if any(output.command == "r.stats" for output in outputs):
             raise BadArgument("compute", "must be True: this map depends on a table of all cells")
@@ -63,7 +63,8 @@ def lazy_map(make: Callable[[], Any]) -> Any:
 
     with working(engine=engine):
         result = make()
-    like = first[0].array if isinstance(first[0], DataArrayMap) else None
+    first = first_maps[0]
+    like = first.array if isinstance(first, DataArrayMap) else None
     return data_array(
         result.array, result.transform, result.crs, result.labels, result.name, like=like
     )
@@ -91,7 +92,7 @@ def lazy_table(name: str, words: Sequence[Any], named: Mapping[str, Any]) -> Any
     outputs = [replace(output, values=_NOTHING) for output in requested]
     dask = need("dask", "xarray", "to compute results later")
     hidden = _Hidden((name, hollow_words, hollow_named, outputs))
-    return dask.delayed(_answered)(hidden, [output.values for output in requested])
+    return dask.delayed(_computed)(hidden, [output.values for output in requested])
 
 
 class _TablesRequested(Exception):
@@ -114,7 +115,7 @@ def _hollow(argument: Any) -> Any:
         return type(argument)(map(_hollow, argument))
     if type(argument).__module__.partition(".")[0] != "xarray":
         return argument
-    if hasattr(argument, "data_vars"):
+    if hasattr(argument, "data_vars"):  # a Dataset
         return argument.map(_hollow, keep_attrs=True)
     if not is_lazy(argument):
         return argument
@@ -124,7 +125,7 @@ def _hollow(argument: Any) -> Any:
     return hollow
 
 
-def _answered(hidden: _Hidden, tables: Sequence[Integers]) -> Any:
+def _computed(hidden: _Hidden, tables: Sequence[Integers]) -> Any:
     """Return the result of a call from its computed tables."""
     name, words, named, outputs = hidden.content
     scripts: list[str] = []
@@ -137,7 +138,8 @@ def _answered(hidden: _Hidden, tables: Sequence[Integers]) -> Any:
         scripts.append(script)
         if fold is None:
             return [replace(output, values=values) for output, values in zip(outputs, tables)]
-        fold.add(0, tables[0], np.empty(0, np.int64))
+        [table] = tables
+        fold.add(tile=0, table=table, waiting=_NOTHING)  # the only tile, so no patch continues
         return []
 
     with working(engine=engine):
@@ -179,7 +181,7 @@ def _chunks_of(plan: Sequence[Statement], maps: Mapping[str, Any]) -> Any:
     return tuple(chunks)
 
 
-class _Known:
+class _ComputedMap:
     """A map that the graph computes, as a Dask array."""
 
     def __init__(self, name: str, array: Any, nodata: int) -> None:
@@ -189,7 +191,7 @@ class _Known:
         """Return the Dask chunks that contain a window."""
         top, left, rows, cols = outer
         cells = self._array[top : top + rows, left : left + cols]
-        return Chunks(self._name, self._array.dtype, self._nodata, False, cells)
+        return Chunks(self._name, self._array.dtype, self._nodata, is_masked=False, cells=cells)
 
 
 class _Graph:
@@ -203,12 +205,13 @@ class _Graph:
 
     def __init__(self, maps: dict[str, Any], chunks: tuple[tuple[int, ...], tuple[int, ...]]):
         self._maps, self._chunks, self._call = maps, chunks, uuid4().hex
-        self._shape = sum(chunks[0]), sum(chunks[1])
-        tops, lefts = (list(accumulate(lengths, initial=0)) for lengths in chunks)
+        row_chunks, col_chunks = chunks
+        self._shape = sum(row_chunks), sum(col_chunks)
+        tops, lefts = accumulate(row_chunks, initial=0), list(accumulate(col_chunks, initial=0))
         self._places = [
             Rectangle(top, left, rows, cols)
-            for top, rows in zip(tops, chunks[0])
-            for left, cols in zip(lefts, chunks[1])
+            for top, rows in zip(tops, row_chunks)
+            for left, cols in zip(lefts, col_chunks)
         ]
         self._delayed = need("dask", "xarray", "to compute results later").delayed
         self._dask = need("dask.array", "xarray", "to use Dask arrays")
@@ -234,9 +237,9 @@ class _Graph:
         """Add the map of an `r.clump` statement to the maps of the graph."""
         script, diagonal = self._script(plan, [clump]), is_diagonal(clump)
         tiles = self._run(script, partial(script.clump_text, clump), clumps_of(diagonal))
-        whole = self._delayed(_joined)(tiles, diagonal)
-        cells = [self._delayed(_renumbered)(index, tile, whole) for index, tile in enumerate(tiles)]
-        self._maps[clump.made] = _Known(clump.made, self._array_of(cells), NO_CLUMP)
+        full = self._delayed(_joined)(tiles, diagonal)
+        cells = [self._delayed(_renumbered)(index, tile, full) for index, tile in enumerate(tiles)]
+        self._maps[clump.made] = _ComputedMap(clump.made, self._array_of(cells), NO_CLUMP)
 
     def _script(self, plan: Sequence[Statement], outputs: Sequence[Statement]) -> TileScript:
         needed = [
@@ -251,13 +254,17 @@ class _Graph:
     ) -> list[Any]:
         """Return the delayed result of a script for each chunk."""
         maps = {name: source for name, source in self._maps.items() if name in script.reads}
-        maps = maps or dict([next(iter(self._maps.items()))])
+        if not maps:  # a script that reads no map still needs the region of a map
+            name, source = next(iter(self._maps.items()))
+            maps = {name: source}
         run = self._delayed(run_on_worker)
         done = []
         for place in self._places:
             outer = place.with_halo(script.reach, self._shape)
-            words = text(place, outer, self._shape)
-            work = TileWork(words, place, outer, self._shape, maps, (), results, call=self._call)
+            words, shape = text(place, outer, self._shape), self._shape
+            work = TileWork(
+                words, place, outer, shape, maps, watched=(), results=results, call=self._call
+            )
             done.append(run(*sent_parts(work)))
         return done
 
@@ -267,10 +274,10 @@ class _Graph:
             self._dask.from_delayed(block, (place.rows, place.cols), np.int32)
             for block, place in zip(cells, self._places)
         ]
-        across = len(self._chunks[1])
-        return self._dask.block(
-            [arrays[start : start + across] for start in range(0, len(arrays), across)]
-        )
+        _, col_chunks = self._chunks
+        across = len(col_chunks)
+        rows = [arrays[start : start + across] for start in range(0, len(arrays), across)]
+        return self._dask.block(rows)
 
 
 def _added(statement: Statement, index: int, tiles: Sequence[TileDone]) -> Integers:
@@ -288,13 +295,16 @@ def _cells_of(index: int, tile: TileDone) -> Integers:
 
 
 def _joined(tiles: Sequence[TileDone], diagonal: bool) -> Joined:
-    whole = join([tile.results[0].tobytes() for tile in tiles], diagonal)
-    if whole.clumps > MAX_CATEGORY:
-        problem = f"a lazy map can have at most {MAX_CATEGORY:,} patches; got {whole.clumps:,}"
+    """Return the numbering of the full map, from the border and clumps of each chunk."""
+    borders = [border for border, _ in (tile.results for tile in tiles)]
+    full = join([border.tobytes() for border in borders], diagonal)
+    if full.clumps > MAX_CATEGORY:
+        problem = f"a lazy map can have at most {MAX_CATEGORY:,} patches; got {full.clumps:,}"
         raise BadMap("map", f"{problem}: omit compute=False")
-    return whole
+    return full
 
 
-def _renumbered(index: int, tile: TileDone, whole: Joined) -> Integers:
+def _renumbered(index: int, tile: TileDone, full: Joined) -> Integers:
     """Return a chunk's cells with the clump numbers of the full map."""
-    return renumber(tile.results[1], whole.tiles[index], np.empty(tile.results[1].shape, np.int32))
+    _, clumps = tile.results
+    return renumber(clumps, full.tiles[index], out=np.empty(clumps.shape, np.int32))

@@ -54,7 +54,7 @@ def open_layer(name: str, path: str, layer: Optional[str] = None) -> OgrLayer:
             f"{path}|layername={names[0]}"
         )
         raise Refused(problem, name)
-    if not names or layer is not None and layer not in names:
+    if not names or (layer is not None and layer not in names):
         raise Refused(f"no layer {layer}: {known_names('layer', names)}", name)
     return OgrLayer(name, source, layer or names[0])
 
@@ -131,7 +131,7 @@ def feature_of(name: str, number: Any, value: Any, wkb: bytes) -> Feature:
         The bytes are not a geometry.
     """
     if not wkb:
-        return Feature(number, value, "", None)
+        return Feature(number, value, kind="", geometry=None)
     with quiet():
         geometry = ogr.CreateGeometryFromWkb(wkb)
     if geometry is None:
@@ -139,7 +139,7 @@ def feature_of(name: str, number: Any, value: Any, wkb: bytes) -> Feature:
     if geometry.HasCurveGeometry():
         geometry = geometry.GetLinearGeometry()
     if geometry.IsEmpty():
-        return Feature(number, value, "", None)
+        return Feature(number, value, kind="", geometry=None)
     kind = ogr.GeometryTypeToName(ogr.GT_Flatten(geometry.GetGeometryType()))
     return Feature(number, value, kind.replace(" ", ""), geometry)
 
@@ -163,10 +163,11 @@ def burn(
         feature.SetField("number", number)
         layer.CreateFeature(feature)
     rows, cols = shape
-    target = gdal.GetDriverByName("MEM").Create("", cols, rows, 1, gdal.GDT_Int32)
+    target = gdal.GetDriverByName("MEM").Create("", cols, rows, bands=1, eType=gdal.GDT_Int32)
     width, b, west, d, height, north = transform
     target.SetGeoTransform((west, width, b, north, d, height))
     with quiet():
-        gdal.RasterizeLayer(target, [1], layer, options=["ATTRIBUTE=number"])
+        bands = [1]
+        gdal.RasterizeLayer(target, bands, layer, options=["ATTRIBUTE=number"])
     burnt: NDArray[np.int32] = target.ReadAsArray()
     return burnt

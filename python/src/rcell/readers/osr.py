@@ -44,7 +44,7 @@ class OsrCrs(Crs):
         """Return whether osr considers both systems equal, ignoring axis order."""
         assert isinstance(other, OsrCrs)
         with quiet():
-            first, second = (osr.SpatialReference() for _ in range(2))
+            first, second = osr.SpatialReference(), osr.SpatialReference()
             first.SetFromUserInput(eastward(self.system.ExportToPROJJSON()))
             second.SetFromUserInput(eastward(other.system.ExportToPROJJSON()))
             return bool(first.IsSame(second, _EXCEPT_AXES))
@@ -60,7 +60,8 @@ class OsrCrs(Crs):
         with quiet():
             change = osr.CoordinateTransformation(self.system, to.system)
             moved = np.array(change.TransformPoints(np.column_stack([x.ravel(), y.ravel()])))
-        return moved[:, 0].reshape(x.shape), moved[:, 1].reshape(x.shape)
+        new_x, new_y = moved[:, 0], moved[:, 1]  # without heights
+        return new_x.reshape(x.shape), new_y.reshape(x.shape)
 
 
 def crs_of(text: str) -> OsrCrs:
@@ -74,7 +75,7 @@ def crs_of(text: str) -> OsrCrs:
     system = osr.SpatialReference()
     with quiet():
         try:
-            is_known = system.SetFromUserInput(text) == 0
+            is_known = system.SetFromUserInput(text) == 0  # the code for no error
         except RuntimeError:
             is_known = False
     if not is_known:

@@ -61,20 +61,21 @@ class Polygons:
 
     def bounds(self, geometry: Any) -> tuple[float, float, float, float]:
         """Return the west, south, east and north bounds of a geometry."""
+        if hasattr(geometry, "bounds"):  # a shapely object
+            west, south, east, north = geometry.bounds
+            return west, south, east, north
         # rasterio cannot compute the bounds of points or of fiona's geometries.
-        is_shape = hasattr(geometry, "bounds")
-        corners = () if is_shape else zip(*_places(geometry["coordinates"]))
-        x, y = (geometry.bounds[::2], geometry.bounds[1::2]) if is_shape else corners
+        x, y = zip(*_vertices(geometry["coordinates"]))
         return min(x), min(y), max(x), max(y)
 
 
-def _places(coordinates: Any) -> Iterator[Sequence[float]]:
+def _vertices(coordinates: Any) -> Iterator[Sequence[float]]:
     """Yield the vertices of a GeoJSON geometry."""
     if isinstance(coordinates[0], numbers.Real):
         yield coordinates[:2]
         return
     for part in coordinates:
-        yield from _places(part)
+        yield from _vertices(part)
 
 
 def _kind(geometry: Any) -> str:
@@ -87,11 +88,11 @@ def _kind(geometry: Any) -> str:
 
 def layer_of(name: str, source: Any) -> Optional[Polygons]:
     """Convert a GeoDataFrame, GeoSeries or GeoJSON to a layer, or return None for other types."""
-    if hasattr(source, "geom_type") and hasattr(source, "crs"):
+    if hasattr(source, "geom_type") and hasattr(source, "crs"):  # from geopandas
         shapes = source.geometry
         properties: Sequence[Mapping[str, Any]] = [{}] * len(shapes)
         fields: tuple[str, ...] = ()
-        if hasattr(source, "columns"):
+        if hasattr(source, "columns"):  # a GeoDataFrame
             table = source.drop(columns=shapes.name)
             properties = table.to_dict("records") or properties
             fields = tuple(map(str, table.columns))
@@ -101,10 +102,10 @@ def layer_of(name: str, source: Any) -> Optional[Polygons]:
             (feature.get("id", place), feature.get("properties") or {}, feature.get("geometry"))
             for place, feature in enumerate(source["features"])
         ]
-        titles: dict[str, None] = {}
+        # Features may lack properties that others have; these are None.
+        missing: dict[str, Any] = {}
         for _, own, _ in records:
-            titles.update(dict.fromkeys(own))
-        fields = tuple(titles)
-        whole = [(place, {**dict.fromkeys(fields), **own}, shape) for place, own, shape in records]
-        return Polygons(name, GEOJSON_CRS, fields, whole)
+            missing.update(dict.fromkeys(own))
+        complete = [(number, {**missing, **own}, shape) for number, own, shape in records]
+        return Polygons(name, GEOJSON_CRS, tuple(missing), complete)
     return None

@@ -58,9 +58,10 @@ def crs_of(text: str) -> PyprojCrs:
     except pyproj.exceptions.CRSError as error:
         raise ValueError(str(error)) from None
     kind = _kind_of(system)
-    unit = math.radians(1)
+    unit = math.radians(1)  # one degree, unless the axes have a unit
     if system.axis_info:
-        unit = float(system.axis_info[0].unit_conversion_factor)
+        first_axis = system.axis_info[0]
+        unit = float(first_axis.unit_conversion_factor)
     ellipsoid = (math.nan, math.nan)
     geod = system.get_geod() if kind == "geographic" else None
     if geod is not None:

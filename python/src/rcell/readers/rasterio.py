@@ -75,11 +75,8 @@ def open_raster(name: str, source: Any, band: int | None = None) -> RasterMap:
     with read_errors(name, "cannot open"):
         if isinstance(source, rasterio.Band):
             return RasterMap.of_dataset(name, source.ds, int(source.bidx))
-        dataset = (
-            open_dataset(name, os.fspath(source))
-            if isinstance(source, (str, os.PathLike))
-            else source
-        )
+        is_path = isinstance(source, (str, os.PathLike))
+        dataset = open_dataset(name, os.fspath(source)) if is_path else source
         return RasterMap.of_dataset(name, dataset, band)
 
 
@@ -87,9 +84,8 @@ def open_raster(name: str, source: Any, band: int | None = None) -> RasterMap:
 def read_errors(name: str, problem: str) -> Iterator[None]:
     """Convert errors from rasterio and the operating system to ReadFailed."""
     rasterio = need("rasterio", "gis", _PURPOSE)
-    gdal_error = need(
-        "rasterio._err", "gis", _PURPOSE
-    ).CPLE_BaseError  # raised directly by some properties of a dataset
+    # Some properties of a dataset raise GDAL's errors directly.
+    gdal_error = need("rasterio._err", "gis", _PURPOSE).CPLE_BaseError
     try:
         yield
     except UnicodeEncodeError:
@@ -148,8 +144,8 @@ class Layer:
         if np.dtype(dtype).kind in "iu" and np.dtype(dtype).itemsize == 8:
             dtype, nodata = _of_64_bits(dataset, band)
         flags = dataset.mask_flag_enums[band - 1]
-        others = [number for number in alphas(dataset, enums) if number != band]
-        alpha = others[0] if others else None
+        alpha = next((number for number in alphas(dataset, enums) if number != band), None)
+        # A band without flags has its own mask. An alpha band is read separately.
         has_mask = not flags or enums.MaskFlags.per_dataset in flags
         if enums.MaskFlags.alpha in flags:
             has_mask = False
@@ -159,6 +155,8 @@ class Layer:
         self, name: str, dataset: Any, place: tuple[int, int, int, int], title: str
     ) -> tuple[Cells, Mask | None]:
         """Return the cells of a window, and a mask of masked and transparent cells, or None.
+
+        The window is its first row and column and its shape. Messages call it `title`.
 
         Raises
         ------
@@ -304,9 +302,8 @@ class RasterMap:
     @property
     def is_masked(self) -> bool:
         """Whether the map's blocks have masks."""
-        return (self.layer.has_mask or self.layer.alpha is not None) and not is_converted(
-            np.dtype(self.layer.dtype)
-        )
+        is_masked = self.layer.has_mask or self.layer.alpha is not None
+        return is_masked and not is_converted(np.dtype(self.layer.dtype))
 
     @property
     def labels(self) -> Mapping[int, str]:
@@ -325,8 +322,8 @@ class RasterMap:
     def blocks(self) -> Iterator[Block]:
         """Yield the rows from north to south, in multiples of the file's blocks."""
         rows, cols = self.region.shape
-        height = self.block_shape[0]
-        step = max(1, round(BLOCK_CELLS / cols / height)) * height
+        block_rows, _ = self.block_shape
+        step = max(1, round(BLOCK_CELLS / cols / block_rows)) * block_rows
         step = min(step, max(1, MOST_BLOCK_CELLS // cols))
         for row in range(0, rows, step):
             yield self.window(row, 0, min(step, rows - row), cols)
@@ -347,8 +344,8 @@ class RasterMap:
             cells, null = self.layer.read(self.name, self.dataset, place, title)
         elif self._has_path:
             path = self.labels_path
-            own = of_this_thread(path, lambda: open_dataset(self.name, path))
-            cells, null = self.layer.read(self.name, own, place, title)
+            dataset = of_this_thread(path, lambda: open_dataset(self.name, path))
+            cells, null = self.layer.read(self.name, dataset, place, title)
         else:  # for example a warped raster, which cannot be opened again by name
             with _one_thread:
                 cells, null = self.layer.read(self.name, self.dataset, place, title)
@@ -402,8 +399,10 @@ def upright(name: str, dataset: Any) -> tuple[Transform, bool]:
         The transform is rotated, has columns from east to west, or is given by control points.
     """
     a, b, c, d, e, f = transform = six_numbers(name, dataset.transform)
+    # Without a transform, rasterio returns the identity, which a file may also contain.
     if transform == _IDENTITY and _described(dataset).find("GeoTransform") is None:
-        if dataset.gcps[0]:
+        control_points, _ = dataset.gcps
+        if control_points:
             raise BadMap(name, "has ground control points but no transform: warp it first")
         return (1.0, 0.0, 0.0, 0.0, -1.0, float(dataset.height)), False
     is_upside_down = e > 0 and not b and not d

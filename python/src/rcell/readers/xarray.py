@@ -44,34 +44,14 @@ __all__ = [
 # Names, CF standard names, CF axes, and CF units. Units are enough to identify a latitude or
 # longitude.
 _AXES = {
-    "Y": {
-        "Y",
-        "y",
-        "lat",
-        "latitude",
-        "rlat",
-        "grid_latitude",
-        "northing",
-        "projection_y_coordinate",
-        "degrees_north",
-        "degree_north",
-        "degrees_N",
-        "degree_N",
-    },
-    "X": {
-        "X",
-        "x",
-        "lon",
-        "longitude",
-        "rlon",
-        "grid_longitude",
-        "easting",
-        "projection_x_coordinate",
-        "degrees_east",
-        "degree_east",
-        "degrees_E",
-        "degree_E",
-    },
+    "Y": set(
+        "Y y lat latitude rlat grid_latitude northing projection_y_coordinate degrees_north "
+        "degree_north degrees_N degree_N".split()
+    ),
+    "X": set(
+        "X x lon longitude rlon grid_longitude easting projection_x_coordinate degrees_east "
+        "degree_east degrees_E degree_E".split()
+    ),
 }
 # The tolerance, in cells, for coordinates to count as evenly spaced.
 _TOLERANCE = 1e-4
@@ -119,31 +99,31 @@ class DataArrayMap:
     def blocks(self) -> Iterator[Block]:
         """Yield the rows from north to south."""
         rows, cols = self.region.shape
-        chunks = self.array.chunks
-        step = max(1, BLOCK_CELLS // cols, chunks[0][0] if chunks else 1)
+        row_chunks, _ = self.array.chunks or ((1,), (1,))
+        step = max(1, BLOCK_CELLS // cols, row_chunks[0])
         for row in range(0, rows, step):
             yield self.window(row, 0, min(step, rows - row), cols)
 
     @property
     def block_shape(self) -> tuple[int, int]:
         """The number of rows and columns in the largest Dask chunk."""
-        chunks = self.array.chunks
-        return (max(chunks[0]), max(chunks[1])) if chunks else (1, 1)
+        row_chunks, col_chunks = self.array.chunks or ((1,), (1,))
+        return max(row_chunks), max(col_chunks)
 
     def window(self, row: int, col: int, rows: int, cols: int) -> Block:
         """Return a window of cells, computing only the Dask chunks that contain the window.
 
         Rows and columns are counted from the north-west corner.
         """
-        part = self._part(row, col, rows, cols)
-        cells = part.cells.compute() if is_lazy(self.array) else part.cells
-        return replace(part, cells=cells).window(row, col, rows, cols)
+        chunks = self._chunks_of(row, col, rows, cols)
+        cells = chunks.cells.compute() if is_lazy(self.array) else chunks.cells
+        return replace(chunks, cells=cells).window(row, col, rows, cols)
 
     def sent(self, outer: Rectangle) -> Chunks | None:
         """Return the Dask chunks that contain a window, or None if the array is a numpy array."""
-        return self._part(*outer) if is_lazy(self.array) else None
+        return self._chunks_of(*outer) if is_lazy(self.array) else None
 
-    def _part(self, row: int, col: int, rows: int, cols: int) -> Chunks:
+    def _chunks_of(self, row: int, col: int, rows: int, cols: int) -> Chunks:
         cells = self.array[row : row + rows, col : col + cols].data
         return Chunks(self.name, self.array.dtype, self.nodata_value, self.is_masked, cells)
 
@@ -188,7 +168,7 @@ def flat_of(name: str, array: Any) -> Flat:
             f"must be a DataArray; got a {type(array).__name__}: pass it as the only map, or pass "
             f"one variable, for example dataset[{next(iter(array), 'name')!r}]",
         )
-    if any(size != size for size in array.shape):
+    if any(size != size for size in array.shape):  # NaN
         raise BadMap(
             name,
             "the sizes of its Dask chunks are unknown: call .data.compute_chunk_sizes() first",
@@ -268,8 +248,9 @@ def layers_of(array: Any) -> list[Any]:
             f"{getattr(array, 'ndim', 'several variables')}",
         )
     axes = [_axis_of(array, dim) for dim in array.dims]
-    across = array.dims[axes.index(None) if {"X", "Y"} <= set(axes) else 0]
-    return [array.isel({across: index}) for index in range(array.sizes[across])]
+    # Without names of rows and columns, the first dimension counts bands, as in rasterio.
+    band_dim = array.dims[axes.index(None) if {"X", "Y"} <= set(axes) else 0]
+    return [array.isel({band_dim: index}) for index in range(array.sizes[band_dim])]
 
 
 def series_of(array: Any) -> tuple[list[Any], list[int]]:
@@ -295,7 +276,7 @@ def _flat(name: str, array: Any) -> Any:
     dim_of = dict(zip(axes, array.dims))
     dims = [dim_of.get("Y"), dim_of.get("X")]
     if None in dims:
-        dims = _by_place(array, dims)
+        dims = _by_position(array, dims)
     others = [dim for dim in array.dims if dim not in dims]
     long = [dim for dim in others if array.sizes[dim] != 1]
     if len(dims) != 2 or long:
@@ -313,15 +294,15 @@ def _axis_of(array: Any, dim: Any) -> str | None:
     return next((axis for axis, names in _AXES.items() if hints & names), None)
 
 
-def _by_place(array: Any, named: list[Any]) -> list[Any]:
+def _by_position(array: Any, known: list[Any]) -> list[Any]:
     """Return the two dimensions with several elements or, if there are not two, the last two.
 
-    A dimension whose axis is known determines the order.
+    A dimension that is known to be rows or columns, the elements of `known`, determines the order.
     """
-    dims = [dim for dim in array.dims if array.sizes[dim] > 1 or dim in named]
+    dims = [dim for dim in array.dims if array.sizes[dim] > 1 or dim in known]
     if len(dims) != 2:
         dims = list(array.dims[-2:])
-    rows, cols = named
+    rows, cols = known
     if dims and (rows == dims[-1] or cols == dims[0]):
         dims.reverse()
     return dims
@@ -347,8 +328,12 @@ def _transform_of(name: str, array: Any) -> Transform | None:
     if y not in array.coords or x not in array.coords:
         return None
     stated = _stated_transform(name, array)
-    north, height = _spacing(name, array[y], None if stated is None else (stated[5], stated[4]))
-    west, width = _spacing(name, array[x], None if stated is None else (stated[2], stated[0]))
+    stated_rows = stated_cols = None
+    if stated is not None:
+        a, _, c, _, e, f = stated
+        stated_rows, stated_cols = (f, e), (c, a)
+    north, height = _spacing(name, array[y], stated_rows)
+    west, width = _spacing(name, array[x], stated_cols)
     if width < 0:
         raise BadMap(
             name, f"its columns run from east to west: sort them, for example with .sortby({x!r})"
@@ -367,7 +352,10 @@ def _stated_transform(name: str, array: Any) -> Transform | None:
 
 
 def _spacing(name: str, coordinate: Any, stated: tuple[float, float] | None) -> tuple[float, float]:
-    """Return the outer edge and the step between cell centres along a dimension."""
+    """Return the outer edge and the step between cell centres along a dimension.
+
+    These are `stated`, which is exact, if its cell centres are the coordinates.
+    """
     try:
         centres = np.asarray(coordinate.values, dtype=np.float64)
     except (TypeError, ValueError):
@@ -386,19 +374,18 @@ def _spacing(name: str, coordinate: Any, stated: tuple[float, float] | None) -> 
             "rcell.Raster(array.values, region)",
         )
     step = (centres[-1] - centres[0]) / (count - 1)
-    off = np.abs(centres[0] + step * np.arange(count) - centres)
-    if step == 0 or off.max() > abs(step) * _TOLERANCE:
+    deviations = np.abs(centres[0] + step * np.arange(count) - centres)
+    if step == 0 or deviations.max() > abs(step) * _TOLERANCE:
         raise BadMap(name, f"its coordinate {coordinate.name} is not evenly spaced")
     return float(centres[0] - step / 2), float(step)
 
 
 def _crs_of(array: Any) -> Any:
-    named = array.encoding.get("grid_mapping") or array.attrs.get("grid_mapping")
-    reference = array.coords.get(named, array.coords.get("spatial_ref"))
-    attributes = {} if reference is None else reference.attrs
-    return (
-        attributes.get("crs_wkt") or attributes.get("spatial_ref") or array.attrs.get("crs") or None
-    )
+    """Return the reference system from CF's grid mapping or the attributes, or None."""
+    grid_mapping = array.encoding.get("grid_mapping") or array.attrs.get("grid_mapping")
+    reference = array.coords.get(grid_mapping, array.coords.get("spatial_ref"))
+    attrs = {} if reference is None else reference.attrs
+    return attrs.get("crs_wkt") or attrs.get("spatial_ref") or array.attrs.get("crs") or None
 
 
 def _nodata_of(name: str, array: Any) -> float | None:
@@ -416,7 +403,7 @@ def _nodata_of(name: str, array: Any) -> float | None:
                 values += np.asarray(attributes[key]).reshape(-1).tolist()
     if not all(isinstance(value, numbers.Real) for value in values):
         raise BadMap(name, f"its nodata values must be numbers; got {', '.join(map(repr, values))}")
-    distinct = {value for value in values if value == value}
+    distinct = {value for value in values if value == value}  # without NaN
     if len(distinct) > 1:
         raise BadMap(
             name,
@@ -428,10 +415,8 @@ def _nodata_of(name: str, array: Any) -> float | None:
 
 def _flags_of(array: Any) -> dict[int, str]:
     values = array.attrs.get("flag_values")
-    return flags_of(
-        None if values is None else np.asarray(values).reshape(-1).tolist(),
-        array.attrs.get("flag_meanings"),
-    )
+    listed = None if values is None else np.asarray(values).reshape(-1).tolist()
+    return flags_of(listed, array.attrs.get("flag_meanings"))
 
 
 def data_array_of(
@@ -471,21 +456,19 @@ def data_array(
         attributes["flag_meanings"] = " ".join(
             "_".join(labels[category].split()) for category in sorted(labels)
         )
-    a, _, c, _, e, f = transform
-    reference = {"GeoTransform": " ".join(repr(number) for number in (c, a, 0.0, f, 0.0, e))}
+    width, _, west, _, height, north = transform
+    geotransform = (west, width, 0.0, north, 0.0, height)
+    reference = {"GeoTransform": " ".join(map(repr, geotransform))}
     wkt = wkt_of(crs)
     if wkt:
         reference |= {"crs_wkt": wkt, "spatial_ref": wkt}
     if like is None:
-        centres = f + e * (np.arange(cells.shape[0]) + 0.5), c + a * (
-            np.arange(cells.shape[1]) + 0.5
-        )
-        places, coordinates = ("y", "x"), dict(zip(("y", "x"), centres))
+        rows, cols = cells.shape
+        y, x = north + height * (np.arange(rows) + 0.5), west + width * (np.arange(cols) + 0.5)
+        dims, coordinates = ("y", "x"), {"y": y, "x": x}
     else:
-        places, coordinates = like.dims, {
-            dim: like.coords[dim] for dim in like.dims if dim in like.coords
-        }
+        dims = like.dims
+        coordinates = {dim: like.coords[dim] for dim in dims if dim in like.coords}
     coordinates["spatial_ref"] = xarray.Variable((), 0, reference)
-    return xarray.DataArray(
-        cells, coordinates, places, name, attributes | {"grid_mapping": "spatial_ref"}
-    )
+    attributes["grid_mapping"] = "spatial_ref"
+    return xarray.DataArray(cells, coordinates, dims, name, attributes)
