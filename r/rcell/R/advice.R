@@ -14,8 +14,8 @@ with open(path, 'rb') as script:
 sys.stdout.buffer.write(('%d\\n%s' % (column or 0, found or '')).encode())
 "
 
-# Return the wrong word with its column (in bytes, from 1) or NULL, and the advice, which may be
-# empty.
+# Return a list: `bad` is the wrong word with its column (in bytes, from 1), or NULL, and `text` is
+# the advice, which may be empty.
 advice_on <- function(program, lines, line, text, names) {
   nothing <- list(bad = NULL, text = "")
   python <- getOption("rcell.python", Sys.which("python3")[[1]])
@@ -29,7 +29,7 @@ advice_on <- function(program, lines, line, text, names) {
       "-B", "-c", ADVICE_CODE, system.file("python", package = "rcell"), program, path, line,
       text, names
     )
-    printed <- run(python, words, timeout = ADVICE_SECONDS)$stdout
+    printed <- run(python, words, timeout = ADVICE_SECONDS)$stdout # column (or 0), line end, advice
     Encoding(printed) <- "UTF-8"
     column <- as.integer(sub("\n.*", "", printed))
     bad <- if (column > 0L) list(word = word_at(lines[[line]], column), column = column)

@@ -8,25 +8,26 @@ rcell_aggregate <- function(x, factor, min_percent = 0, filename = "", overwrite
   check_argument(is_percent, min_percent, "min_percent= must be a number from 0 to 100")
   sources <- map_to_write(x, crs, filename, overwrite)
   blocks <- blocks_of(sources$map, factor)
-  place <- "r.mapcalc block = (row() - 1) / %.0f * %.0f + (col() - 1) / %.0f"
-  script <- c(sprintf(place, factor, ncol(blocks), factor), "r.stats -cn input=block,map")
-  frame <- run_own(script, sources)[[1]]
+  number <- "r.mapcalc block = (row() - 1) / %.0f * %.0f + (col() - 1) / %.0f"
+  script <- c(sprintf(number, factor, ncol(blocks), factor), "r.stats -cn input=block,map")
+  frame <- run_script(script, sources)[[1]]
   block <- frame$codes[[1]] + 1L
   class <- frame$codes[[2]]
   classes <- sort(unique(class))
   best <- most_frequent(block, frame$cells, class)
-  majority <- summed(class[best], block[best], ncell(blocks))
+  majority <- summed(class[best], block[best], ncell(blocks)) # each sum has only one term
   cells <- summed(frame$cells, block, ncell(blocks))
   known <- list(seq_len(ncell(blocks)), classes)
   shares <- crossed(100 * frame$cells / cells[block], list(block, class), known)
   layers <- cbind(majority, cells, shares)
-  layers[cells == 0 | 100 * cells < min_percent * factor^2, -2] <- NA
+  is_sparse <- cells == 0 | 100 * cells < min_percent * factor^2
+  layers[is_sparse, colnames(layers) != "cells"] <- NA
   raster <- rast(blocks, nlyrs = ncol(layers), vals = layers)
-  own <- c("majority", "cells")
+  titles <- c("majority", "cells")
   labels <- sources$map$labels
-  set.names(raster, c(own, class_titles(list(labels), list(classes), own)[[1]]))
+  set.names(raster, c(titles, class_titles(list(labels), list(classes), taken = titles)[[1]]))
   set_labels(raster, labels, "majority")
-  written(raster, filename, "FLT8S")
+  written(raster, filename, type = "FLT8S")
 }
 
 # Return the grid of blocks, which may extend beyond the southern and eastern edges of the map.

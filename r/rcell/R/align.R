@@ -15,14 +15,14 @@ rcell_align <- function(x, to, resample = NULL, filename = "", overwrite = FALSE
   map <- with_stated(source_of("map", x), stated)
   target <- with_stated(target_source("to", to), stated)
   check_inputs(filename, inputs_of(list(map, target)))
-  if (nzchar(map$crs) != nzchar(target$crs)) check_crs(list(target, map), "")
-  is_same <- !nzchar(map$crs) || same_crs(map$crs, target$crs)
-  if (is.null(resample)) check_alignment(map, target, is_same)
-  find_places <- if (is_same) places_by_side else places_by_centre
+  if (nzchar(map$crs) != nzchar(target$crs)) check_crs(list(target, map), stated = "")
+  is_same_crs <- !nzchar(map$crs) || same_crs(map$crs, target$crs)
+  if (is.null(resample)) check_alignment(map, target, is_same_crs)
+  find_places <- if (is_same_crs) places_by_side else places_by_centre
   places <- find_places(template_of(map), template_of(target))
   cells <- all_cells(map)
-  if (is.null(places$index)) {
-    moved <- as.vector(cells[places$cols, places$rows])
+  if (is_same_crs) {
+    moved <- as.vector(cells[places$cols, places$rows]) # each row of the map is a column of `cells`
   } else {
     moved <- cells[places$index]
   }
@@ -42,17 +42,16 @@ target_source <- function(name, to) {
 }
 
 # Check that a shift by whole cells is enough to align a map.
-check_alignment <- function(map, target, is_same) {
-  if (!is_same) check_crs(list(target, map), "")
-  sizes <- list(res(map$raster), res(target$raster))
-  extent <- c(map$region$cols, map$region$rows)
-  if (any(abs(sizes[[1]] - sizes[[2]]) * extent > SHIFT_TOLERANCE * sizes[[1]])) {
-    spelled <- vapply(sizes, function(size) {
-      paste(format(size, digits = 15, trim = TRUE), collapse = " x ")
-    }, "")
+check_alignment <- function(map, target, is_same_crs) {
+  if (!is_same_crs) check_crs(list(target, map), stated = "")
+  size <- res(map$raster)
+  target_size <- res(target$raster)
+  difference <- abs(size - target_size) * c(map$region$cols, map$region$rows)
+  if (any(difference > SHIFT_TOLERANCE * size)) {
+    spelled <- function(size) paste(format(size, digits = 15, trim = TRUE), collapse = " x ")
     text <- "cells of %s, but `to` has cells of %s: %s"
     class <- "rcell_other_region"
-    bad_map(map$name, text, spelled[[1]], spelled[[2]], TRY_NEAREST, class = class)
+    bad_map(map$name, text, spelled(size), spelled(target_size), TRY_NEAREST, class = class)
   }
   shift <- shift_of(map$raster, target$raster)
   if (any(shift != round(shift))) {
@@ -73,9 +72,10 @@ shift_of <- function(from, to) {
 # NA.
 places_by_side <- function(from, to) {
   shift <- shift_of(from, to)
-  along <- function(shift, ratio, count, most) {
+  # `count` are the rows or columns of `to`, and `limit` the rows or columns of `from`.
+  along <- function(shift, ratio, count, limit) {
     place <- floor(shift + (seq_len(count) - 0.5) * ratio + BORDER_TOLERANCE) + 1
-    place[place < 1 | place > most] <- NA
+    place[place < 1 | place > limit] <- NA
     as.integer(place)
   }
   ratio <- res(to) / res(from)
@@ -90,10 +90,11 @@ places_by_side <- function(from, to) {
 places_by_centre <- function(from, to) {
   centres <- project(xyFromCell(to, seq_len(ncell(to))), from = crs(to), to = crs(from))
   index <- cells_at(from, centres[, 1], centres[, 2], BORDER_TOLERANCE)
-  list(index = index, shift = c(NA_real_, NA_real_))
+  list(index = index, shift = c(NA_real_, NA_real_)) # no shift
 }
 
 # Count the map's cells with a value that are in the result, in it more than once, and not in it.
+# `cells` are the cells of the map (each row in a column), and `moved` the cells of the result.
 facts_of <- function(places, cells, moved) {
   with_value <- function(cells) length(cells) - sum(is.na(cells))
   # Without repetitions, the result contains each used cell once.
@@ -103,10 +104,10 @@ facts_of <- function(places, cells, moved) {
     used <- sum(times > 0L)
     once <- sum(times == 1L)
   } else if (anyDuplicated(na.omit(places$rows)) || anyDuplicated(na.omit(places$cols))) {
-    rows <- tabulate(places$rows, ncol(cells))
-    cols <- tabulate(places$cols, nrow(cells))
-    used <- with_value(cells[cols > 0L, rows > 0L])
-    once <- with_value(cells[cols == 1L, rows == 1L])
+    times_of_rows <- tabulate(places$rows, ncol(cells))
+    times_of_cols <- tabulate(places$cols, nrow(cells))
+    used <- with_value(cells[times_of_cols > 0L, times_of_rows > 0L])
+    once <- with_value(cells[times_of_cols == 1L, times_of_rows == 1L])
   }
   data.frame(
     shift_rows = places$shift[[1]], shift_columns = places$shift[[2]], cells_used = used,
@@ -119,9 +120,9 @@ align_call <- function(first, source) {
   spelled <- function(source) {
     if (is.character(source$given)) sprintf("\"%s\"", source$given) else source$name
   }
-  is_of_one_size <- isTRUE(all.equal(res(first$raster), res(source$raster), tolerance = 1e-9))
-  is_moved <- is_of_one_size && all(shift_of(source$raster, first$raster) %% 1 == 0)
-  resample <- if (is_moved) "" else ", resample = \"nearest\""
+  is_of_same_size <- isTRUE(all.equal(res(first$raster), res(source$raster), tolerance = 1e-9))
+  is_shifted <- is_of_same_size && all(shift_of(source$raster, first$raster) %% 1 == 0)
+  resample <- if (is_shifted) "" else ", resample = \"nearest\""
   sprintf(
     "%s <- rcell_align(%s, to = %s%s)", source$name, spelled(source), spelled(first), resample
   )

@@ -13,7 +13,7 @@ rcell_run <- function(.script, ..., crs = NULL, maps = list()) {
 rcell_table <- function(.script, ..., area = NULL, percent = FALSE, wide = FALSE, crs = NULL,
                         maps = list()) {
   if (missing(.script)) no_script()
-  requested_unit(area)
+  requested_unit(area) # raises an error if the unit is unknown
   check_flag(percent, "percent")
   check_flag(wide, "wide")
   request <- request_of(.script, list(...), maps)
@@ -73,8 +73,8 @@ request_of <- function(script, dots, maps) {
   c(accepted(script, names(maps)), list(maps = maps))
 }
 
-# Run an accepted script on its maps. Return the frames of the requested outputs and maps, with the
-# labels and the first source, which are needed to read them.
+# Run an accepted script on its maps. Return the frames of the requested `outputs` and of the maps
+# named in `wanted`, with the labels and the first source, which are needed to read them.
 answer_of <- function(request, sources, outputs = list(), wanted = character()) {
   labels <- c(lapply(sources, `[[`, "labels"), request$labels)
   script <- sent_script(request, outputs, wanted)
@@ -82,10 +82,9 @@ answer_of <- function(request, sources, outputs = list(), wanted = character()) 
   list(frames = frames, labels = labels, source = sources[[1]])
 }
 
-# Run a script that this package has written, and return its frames. If polygons are counted
-# separately, the script runs once for each part: the rows of tables are merged in order, and
-# patches are listed part by part.
-run_own <- function(script, sources, questions = list()) {
+# Run a script that this package has written. Return a frame for each output, and then for each
+# question. If polygons are counted separately, the script runs once for each part of the zones.
+run_script <- function(script, sources, questions = list()) {
   path <- program_path()
   parts <- sources$zones$parts
   if (is.null(parts)) return(run_pipe(path, sources, script, questions = questions))
@@ -96,10 +95,12 @@ run_own <- function(script, sources, questions = list()) {
   do.call(Map, c(list(joined_frames), runs))
 }
 
+# Join the frames of one output. Patches are listed part by part, and tables are sorted by code.
 joined_frames <- function(...) {
   frames <- list(...)
-  if (frames[[1]]$kind == "PTCH") return(do.call(Map, c(list(c), frames)))
-  codes <- do.call(Map, c(list(c), lapply(frames, `[[`, "codes")))
+  joined <- function(lists) do.call(Map, c(list(c), lists)) # concatenate each element
+  if (frames[[1]]$kind == "PTCH") return(joined(frames))
+  codes <- joined(lapply(frames, `[[`, "codes"))
   cells <- unlist(lapply(frames, `[[`, "cells"))
   order <- do.call(order, codes)
   list(codes = lapply(codes, `[`, order), cells = cells[order])
@@ -112,9 +113,9 @@ output_of <- function(output, answer) {
   raster_of(frame, answer$source, answer$labels[[frame$maps]])
 }
 
-# Return a frame's raster with a source's geometry, a name and labels, and optionally with new
-# values for the cell values 1, 2, .. Attributes are set in place, because assignment would make
-# terra copy the cells.
+# Return a frame's raster with a source's geometry, a name and labels. `new` optionally has the new
+# values of cells with the values 1, 2, .. Attributes are set in place, because assignment would
+# make terra copy the cells.
 raster_of <- function(frame, source, labels, name = frame$maps, new = NULL) {
   raster <- frame$raster
   if (!is.null(new)) values(raster) <- new[values(raster, mat = FALSE)]

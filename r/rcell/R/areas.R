@@ -35,7 +35,7 @@ unit_of <- function(area, source, argument = "area=") {
       "%s requires a map in metres, feet or degrees, but %s does not define the area of a",
       "cell%s"
     )
-    instead <- sub("^, or", ":", instead)
+    instead <- sub("^, or", ":", instead) # this message names no other remedy
     bad_argument(text, argument, crs_name(source$crs), instead)
   }
   unit
@@ -47,7 +47,7 @@ is_in_degrees <- function(source) kind_of_crs(source$crs) == "degrees"
 
 # Reject a map whose cells do not all have the same size in metres, if an argument requires it.
 check_metres <- function(source, argument, advice = "") {
-  unit_of("m2", source, argument)
+  unit_of("m2", source, argument) # raises an error if the size of a cell is unknown
   if (!is_in_degrees(source)) return(invisible())
   text <- "%s requires a map in metres or feet, but this map is in degrees%s"
   bad_argument(text, argument, advice)
@@ -67,7 +67,7 @@ cell_sizes <- function(source) {
   size <- res(template)
   if (!is_in_degrees(source)) return(prod(size) * metres_of_unit(source)^2)
   shape <- ellipsoid_of(source$crs)
-  edges <- (ymax(template) - 0:nrow(template) * size[[2]]) * shape$angle
+  edges <- (ymax(template) - 0:nrow(template) * size[[2]]) * shape$angle # latitudes in radians
   if (any(abs(edges) > pi / 2 + BEYOND_THE_POLE * size[[2]] * shape$angle)) {
     is_north <- edges[[1]] > -edges[[length(edges)]]
     edge <- if (is_north) ymax(template) else ymin(template)
@@ -79,11 +79,11 @@ cell_sizes <- function(source) {
   zones * shape$minor^2 / 2 * size[[1]] * shape$angle
 }
 
-# Compute the area between two parallels, without the factors for ellipsoid and longitude. This
-# closed form loses no digits if the parallels are close.
+# Compute the area between two parallels (equation 3-12 in Snyder 1987, Map Projections), without
+# the factors for ellipsoid and longitude. This form loses no digits if the parallels are close.
 zone_areas <- function(north, south, e) {
   sines <- sin(north) * sin(south)
-  difference <- 2 * cos((north + south) / 2) * sin((north - south) / 2)
+  difference <- 2 * cos((north + south) / 2) * sin((north - south) / 2) # sin(north) - sin(south)
   if (e == 0) return(2 * difference)
   squares <- (1 - (e * sin(north))^2) * (1 - (e * sin(south))^2)
   difference * (1 + e^2 * sines) / squares + atanh(e * difference / (1 - e^2 * sines)) / e
@@ -97,15 +97,17 @@ ellipsoid_of <- function(wkt) {
   form <- paste0(
     "ELLIPSOID\\[\"[^\"]*\",", number, ",", number, "(,LENGTHUNIT\\[\"[^\"]*\",", number, ")?"
   )
-  axes <- as.numeric(regmatches(flat, regexec(form, flat))[[1]][c(2, 3, 5)])
-  major <- axes[[1]] * (if (is.na(axes[[3]])) 1 else axes[[3]])
-  flattening <- if (axes[[2]] == 0) 0 else 1 / axes[[2]]
+  # The semi-major axis, the inverse flattening (0 for a sphere), and metres per unit (NA if none).
+  numbers <- as.numeric(regmatches(flat, regexec(form, flat))[[1]][c(2, 3, 5)])
+  major <- numbers[[1]] * (if (is.na(numbers[[3]])) 1 else numbers[[3]])
+  flattening <- if (numbers[[2]] == 0) 0 else 1 / numbers[[2]]
   system <- sub("^.*CS\\[ellipsoidal", "", flat)
+  # The match, and its groups: the name of the angle unit, and its size in radians.
   angle <- regmatches(system, regexec(paste0("ANGLEUNIT\\[\"([^\"]*)\",", number), system))[[1]]
-  is_plain <- length(angle) < 3L || angle[[2]] == "degree"
+  is_degree <- length(angle) < 3L || angle[[2]] == "degree"
   list(
     minor = major * (1 - flattening), eccentricity = sqrt(flattening * (2 - flattening)),
-    angle = if (is_plain) pi / 180 else as.numeric(angle[[3]])
+    angle = if (is_degree) pi / 180 else as.numeric(angle[[3]])
   )
 }
 
@@ -116,15 +118,18 @@ areas_of <- function(weights, source, unit) {
 
 # Return the lengths in metres of a cell's ends (its northern and southern sides) and flanks, or NA
 # if they are unknown.
-side_lengths <- function(source) res(template_of(source)) * metres_of_unit(source)
+side_lengths <- function(source) {
+  structure(res(template_of(source)) * metres_of_unit(source), names = c("end", "flank"))
+}
 
 # Return the length of borders, which consist of ends and flanks.
 length_of <- function(borders, lengths) {
-  borders$ends * lengths[[1]] + borders$flanks * lengths[[2]]
+  borders$ends * lengths[["end"]] + borders$flanks * lengths[["flank"]]
 }
 
-# Count combinations of maps with r.stats -cn, and return a table for each (see `counted`). For
-# areas in degrees, the cells of each row are counted separately.
+# Count categories with r.stats, and return a table (see `counted`) for each of `combinations`, the
+# names of its maps. `area` is a unit, and `before` are lines that make maps. For areas in degrees,
+# the cells of each row are counted separately.
 count_cells <- function(sources, combinations, area = NULL, before = character(),
                         include_null = FALSE) {
   by_row <- !is.null(area) && is_in_degrees(sources[[1]])
@@ -134,14 +139,14 @@ count_cells <- function(sources, combinations, area = NULL, before = character()
     before, if (by_row) sprintf("r.mapcalc %s = row()", row),
     sprintf("r.stats %s input=%s", if (include_null) "-c" else "-cn", maps)
   )
-  lapply(run_own(script, sources), function(frame) {
+  lapply(run_script(script, sources), function(frame) {
     if (by_row) return(summed_over_rows(frame, area, sources[[1]]))
-    counted(frame$codes, frame$cells, frame$cells, area, sources[[1]])
+    counted(frame$codes, frame$cells, weights = frame$cells, area, sources[[1]])
   })
 }
 
-# Return a table of counts: its columns of codes, the cells, the areas if there is a unit, and the
-# weights for shares: areas in degrees, otherwise cells, whose sums are exact.
+# Return a table of counts: a list of columns of codes, the cells, the weights for shares, and the
+# areas if there is a unit. Weights are cells, whose sums are exact, or in degrees areas.
 counted <- function(codes, cells, weights, area, source) {
   list(
     codes = codes, cells = as.integer(cells), weights = as.numeric(weights),
@@ -151,17 +156,17 @@ counted <- function(codes, cells, weights, area, source) {
 
 # Add up the cells and areas of each combination in all rows. The last code is the row.
 summed_over_rows <- function(frame, area, source) {
-  count <- length(frame$codes)
-  codes <- frame$codes[-count]
-  group <- rleidv(codes)
+  last <- length(frame$codes)
+  codes <- frame$codes[-last]
+  group <- rleidv(codes) # the table is sorted, so equal combinations follow each other
   cells <- as.numeric(frame$cells)
-  sizes <- cell_sizes(source)[frame$codes[[count]]]
-  sums <- rowsum(cbind(cells, cells * sizes), group, reorder = FALSE)
+  sizes <- cell_sizes(source)[frame$codes[[last]]]
+  sums <- rowsum(cbind(cells, areas = cells * sizes), group, reorder = FALSE)
   codes <- lapply(codes, `[`, !duplicated(group))
-  counted(codes, sums[, 1], unname(sums[, 2]) / UNITS[[area]], area, source)
+  counted(codes, sums[, "cells"], unname(sums[, "areas"]) / UNITS[[area]], area, source)
 }
 
-# Add up the rows of a table that have the same code.
+# Add up the rows of a table that have the same code. `code` has an element for each row.
 summed_by <- function(table, code, area, source) {
   known <- sort(unique(code))
   sums <- lapply(table[c("cells", "weights")], summed, match(code, known), length(known))

@@ -11,8 +11,8 @@ USUAL_NODATA <- c(255L, -9999L, -32768L)
 each_block <- function(source, use) {
   border <- border_of(source)
   if (!is.null(source$cells)) {
-    cells <- whole_cells(source, source$cells, 1L)
-    border$add(cells, 1L)
+    cells <- whole_cells(source, source$cells, first_row = 1L)
+    border$add(cells, first_row = 1L)
     border$check()
     return(use(cells))
   }
@@ -29,7 +29,8 @@ each_block <- function(source, use) {
     cells <- read_block(source, row, min(count, rows - row + 1L))
     whole <- if (is_exact) as.integer(cells) else whole_cells(source, cells, row)
     if (is_float && any(abs(whole) > EXACT_FLOAT, na.rm = TRUE)) {
-      is_float <- warn_of_floats(source$name)
+      warn_of_floats(source$name)
+      is_float <- FALSE # warn only once
     }
     border$add(whole, row)
     use(whole)
@@ -37,7 +38,7 @@ each_block <- function(source, use) {
   border$check()
 }
 
-# Count values on a map's border that often mean no data.
+# Return functions that count values that often mean no data on a map's border, and warn about them.
 border_of <- function(source) {
   region <- source$region
   counts <- integer(length(USUAL_NODATA))
@@ -45,15 +46,15 @@ border_of <- function(source) {
     cols <- region$cols
     rows <- length(cells) %/% cols
     starts <- (seq_len(rows) - 1L) * cols
-    places <- c(starts + 1L, starts + cols)
+    places <- c(starts + 1L, starts + cols) # the western and eastern edge
     if (first_row == 1L) places <- c(places, seq_len(cols))
     if (first_row + rows - 1L == region$rows) places <- c(places, starts[[rows]] + seq_len(cols))
     border <- cells[unique(places)]
     counts <<- counts + vapply(USUAL_NODATA, function(value) sum(border == value, na.rm = TRUE), 1L)
   }
   check <- function() {
-    edge <- region$rows * region$cols - max(region$rows - 2, 0) * max(region$cols - 2, 0)
-    value <- USUAL_NODATA[counts > edge / 2]
+    inner <- max(region$rows - 2, 0) * max(region$cols - 2, 0)
+    value <- USUAL_NODATA[counts > (region$rows * region$cols - inner) / 2]
     if (!length(value) || isTRUE(source$state$is_warned)) return(invisible())
     if (!is.null(source$state)) source$state$is_warned <- TRUE
     text <- paste(
@@ -77,7 +78,6 @@ all_cells <- function(source) {
 warn_of_floats <- function(name) {
   text <- "%s: 32-bit floats are not exact beyond 16777216, but the map contains larger values"
   warn(text, name)
-  FALSE
 }
 
 # Return whether a raster is in a file whose data type contains only categories.
@@ -91,6 +91,7 @@ read_block <- function(source, row, count) {
   cells <- read_rows(source, source$raster, row, count)
   if (!is.null(source$alpha)) {
     alpha <- read_rows(source, source$alpha, row, count)
+    # If 0 is the nodata value of the file, terra reads an alpha of 0 as NA.
     cells[alpha %in% 0 | (is.na(alpha) & any(source$alpha_null %in% 0))] <- NA
   }
   cells
@@ -110,21 +111,22 @@ whole_cells <- function(source, cells, first_row) {
   if (is.integer(cells) && is.null(source$scale)) return(cells)
   exact <- if (is.null(source$scale)) cells else round(cells * source$scale)
   whole <- suppressWarnings(as.integer(exact))
-  is_equal <- whole == exact
-  if (all(is_equal, na.rm = TRUE) && sum(is.na(is_equal)) == sum(is.na(cells))) return(whole)
-  place <- which(!is_equal | (is.na(is_equal) & !is.na(cells)))[[1]]
+  # An infinite or large number became NA.
+  is_wrong <- is.na(whole) != is.na(cells) | (!is.na(whole) & whole != exact)
+  if (!any(is_wrong)) return(whole)
+  place <- which(is_wrong)[[1]]
   cols <- source$region$cols
   row <- first_row + (place - 1L) %/% cols
   column <- (place - 1L) %% cols + 1L
   value <- cells[[place]]
-  place <- sprintf("the cell at row %d, column %d is %.15g", row, column, value)
+  problem <- sprintf("the cell at row %d, column %d is %.15g", row, column, value)
   if (is.null(source$scale)) {
     beyond <- ", outside -2147483647 to 2147483647"
     reason <- if (abs(value) > CATEGORY_LIMIT) beyond else source$remedy
-    text <- paste0("not a map of whole numbers: ", place, reason)
+    text <- paste0("not a map of whole numbers: ", problem, reason)
   } else {
     text <- "scale= is too large: %s, and %.0f times that exceeds %.0f"
-    text <- sprintf(text, place, source$scale, CATEGORY_LIMIT)
+    text <- sprintf(text, problem, source$scale, CATEGORY_LIMIT)
   }
   bad_map(source$name, text, row = row, column = column, value = value)
 }

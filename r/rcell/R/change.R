@@ -13,7 +13,7 @@ rcell_change <- function(before, after = NULL, years = NULL, area, labels = NULL
   legends <- legends_of_years(sources, labels)
   combinations <- lapply(seq_len(length(maps) - 1L), function(first) names(maps)[first + 0:1])
   tables <- count_cells(sources, combinations, area)
-  check_legend(legends[[1]], unlist(lapply(tables, `[[`, "codes")))
+  check_legend(legends[[1]], unlist(lapply(tables, `[[`, "codes"))) # if labels= is given
   pairs <- Map(function(table, first) {
     list(table = table, legends = unname(legends[first + 0:1]), years = years[first + 0:1])
   }, tables, seq_along(tables))
@@ -40,10 +40,11 @@ check_years <- function(years, count) {
 # Return each map's labels: the legend, its own, or the labels of the first map that has some.
 legends_of_years <- function(sources, legend) {
   legend <- labels_from(legend, list(name = "the maps"))
-  own <- lapply(sources, function(source) if (is.null(legend)) source$labels else legend)
-  is_without <- is.null(legend) & !lengths(lapply(own, `[[`, "codes"))
-  own[is_without] <- own[!is_without][1]
-  own
+  if (!is.null(legend)) return(lapply(sources, function(source) legend))
+  legends <- lapply(sources, `[[`, "labels")
+  is_without <- !lengths(lapply(legends, `[[`, "codes"))
+  legends[is_without] <- legends[!is_without][1]
+  legends
 }
 
 # Stack the tables of several pairs of years.
@@ -61,7 +62,7 @@ years_of <- function(pair, count) {
 
 change_table <- function(pair, area) {
   codes <- pair$table$codes
-  label <- function(side) {
+  label <- function(side) { # a list for c(), or NULL
     if (has_labels(pair$legends)) list(labels_for(pair$legends[[side]], codes[[side]]))
   }
   columns <- c(
@@ -75,9 +76,10 @@ change_table <- function(pair, area) {
 change_matrix <- function(pairs) {
   after <- sort(unique(unlist(lapply(pairs, function(pair) pair$table$codes[[2]]))))
   before <- lapply(pairs, function(pair) sort(unique(pair$table$codes[[1]])))
-  head <- c(names(years_of(pairs[[1]], 0L)), "from")
+  first_titles <- c(names(years_of(pairs[[1]], count = 0L)), "from")
   legends <- c(lapply(pairs, function(pair) pair$legends[[1]]), list(legend_of_columns(pairs)))
-  titles <- class_titles(legends, c(before, list(after)), taken = head)
+  titles <- class_titles(legends, c(before, list(after)), taken = first_titles)
+  column_titles <- titles[[length(titles)]]
   is_labelled <- has_labels(legends)
   frames <- Map(function(pair, before, titles) {
     table <- pair$table
@@ -87,7 +89,7 @@ change_matrix <- function(pairs) {
     frame_of(c(years_of(pair, length(before)), list(from = from), columns))
   }, pairs, before, titles[seq_along(pairs)])
   frame <- stacked(frames)
-  names(frame) <- c(head, titles[[length(titles)]])
+  names(frame) <- c(first_titles, column_titles)
   frame
 }
 

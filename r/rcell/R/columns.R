@@ -23,8 +23,8 @@ labels_for <- function(labels, codes) {
   labels$labels[match(codes, labels$codes)]
 }
 
-# Return class titles for both sides of a matrix: labels, or class numbers. If another class has the
-# same label, or the label is taken, the class is appended.
+# Return class titles for each side of a matrix: labels, or class numbers. If another class has the
+# same label, or the label is taken, the class is appended. The arguments are lists by side.
 class_titles <- function(labels, codes, taken = character()) {
   labels <- Map(labels_for, labels, codes)
   titles <- Map(function(labels, codes) ifelse(is.na(labels), codes, labels), labels, codes)
@@ -39,10 +39,11 @@ class_titles <- function(labels, codes, taken = character()) {
 
 has_labels <- function(legends) any(lengths(lapply(legends, `[[`, "codes")) > 0L)
 
-# Return a matrix of values by two columns of codes, with a row and a column for each known code.
+# Return a matrix of values by two columns of codes. `known` are the codes of its rows and columns.
 crossed <- function(values, codes, known) {
   matrix <- array(if (is.integer(values)) 0L else 0, lengths(known))
-  matrix[do.call(cbind, Map(match, codes, known))] <- values
+  places <- do.call(cbind, Map(match, codes, known)) # the row and column of each value
+  matrix[places] <- values
   matrix
 }
 
@@ -61,8 +62,8 @@ cells_and_area <- function(table, area) {
   columns
 }
 
-# Return a table's cells, their area, and their percentage of the group's area with data (of its
-# cells, without areas). Rows with null get no percentage.
+# Return a table's cells, their area, and their percentage of the group's area that has data.
+# Without areas, percentages refer to cells. Rows with null get no percentage.
 sized <- function(table, area, group = rep(1L, length(table$cells))) {
   columns <- cells_and_area(table, area)
   share <- table$weights
@@ -71,8 +72,8 @@ sized <- function(table, area, group = rep(1L, length(table$cells))) {
   columns
 }
 
-# Return the position of the largest number of cells in each group, in the order of the groups. Ties
-# go to the smallest code.
+# Return the position of the largest number of cells in each group, in the order of the groups. In a
+# tie, the smallest code wins.
 most_frequent <- function(group, cells, code) {
   order <- order(group, -cells, code)
   order[!duplicated(group[order])]

@@ -6,12 +6,12 @@ rcell_composition <- function(x, zones = NULL, area, labels = NULL, zone_labels 
                               crs = NULL) {
   check_flag(include_null, "include_null")
   request <- zoned_request(x, zones, area, labels, zone_labels, zone_field, layer, each, crs)
-  maps <- list(rev(names(request$sources)))
-  table <- count_cells(request$sources, maps, request$area, include_null = include_null)[[1]]
-  is_in_zone <- is.null(zones) | !is.na(table$codes[[1]])
-  table <- rapply(table, function(column) column[is_in_zone], how = "replace")
+  maps <- rev(names(request$sources)) # the zones come first, if there are any
+  table <- count_cells(request$sources, list(maps), request$area, include_null = include_null)[[1]]
+  is_listed <- is.null(zones) | !is.na(table$codes[[1]]) # cells outside all zones are not listed
+  table <- rapply(table, function(column) column[is_listed], how = "replace")
   zone <- if (is.null(zones)) rep(1L, length(table$cells)) else table$codes[[1]]
-  columns <- coded("class", table$codes[[length(table$codes)]], request$labels, "label")
+  columns <- coded("class", table$codes[[length(maps)]], request$labels, label_title = "label")
   if (!is.null(zones)) columns <- c(coded("zone", zone, request$zone_labels), columns)
   frame_of(c(columns, sized(table, request$area, zone)))
 }
@@ -31,7 +31,7 @@ zoned_request <- function(x, zones, area, labels, zone_labels, zone_field, layer
   list(
     sources = sources, area = unit_of(area, sources[[1]]),
     labels = labels_from(labels, sources[[1]]),
-    zone_labels = labels_from(zone_labels, sources$zones, "zone_labels")
+    zone_labels = labels_from(zone_labels, sources$zones, name = "zone_labels")
   )
 }
 
@@ -41,10 +41,11 @@ rcell_cross <- function(..., area, labels = NULL, include_null = FALSE, crs = NU
   sources <- sources_of(named_maps(list(...), maps), crs)
   area <- unit_of(area, sources[[1]])
   by_row <- !is.null(area) && is_in_degrees(sources[[1]])
-  if (length(sources) > MAPS_LIMIT - by_row) {
+  limit <- if (by_row) MAPS_LIMIT - 1L else MAPS_LIMIT # the row numbers are a map
+  if (length(sources) > limit) {
     reason <- if (by_row) " with areas in degrees" else ""
     text <- "a cross table must have at most %d maps%s; got %d"
-    bad_argument(text, MAPS_LIMIT - by_row, reason, length(sources))
+    bad_argument(text, limit, reason, length(sources))
   }
   check_legends(labels, names(sources))
   legends <- lapply(sources, function(source) labels_from(labels[[source$name]], source))

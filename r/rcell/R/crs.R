@@ -19,7 +19,7 @@ stated_crs <- function(crs) {
 
 with_stated <- function(source, stated) {
   if (!nzchar(source$crs)) source$crs <- stated
-  source$state <- new.env(parent = emptyenv())
+  source$state <- new.env(parent = emptyenv()) # the warnings about the source
   source
 }
 
@@ -50,11 +50,11 @@ other_crs <- function(source, first, tool = "gdalwarp") {
     "its coordinate reference system is %s, but %s %s:",
     "reproject one of them first, for example with terra::project%s"
   )
-  names <- c(crs_name(source$crs), crs_name(first$crs))
-  bad_map(source$name, text, names[[1]], other, names[[2]], command, class = "rcell_other_crs")
+  name <- crs_name(source$crs)
+  bad_map(source$name, text, name, other, crs_name(first$crs), command, class = "rcell_other_crs")
 }
 
-# Return the name of a system, its code (or ""), and its PROJ string.
+# Return the name of a system, its code (or ""), its PROJ string, and a raster that has the system.
 crs_facts <- function(wkt) {
   raster <- rast(nrows = 1, ncols = 1, xmin = 0, xmax = 1, ymin = 0, ymax = 1)
   crs(raster, warn = FALSE) <- wkt
@@ -108,9 +108,9 @@ same_earth <- function(one, other) {
 # Return the datum name in a well-known text, normalised so that different spellings compare equal.
 datum_of <- function(wkt) {
   form <- "(DATUM|ENSEMBLE|TRF)\\[\"([^\"]*)\""
-  datum <- regmatches(wkt, regexec(form, wkt))[[1]]
-  if (length(datum) < 3L) return("")
-  tolower(gsub("^D_| ensemble$|[^A-Za-z0-9]", "", datum[[3]]))
+  match <- regmatches(wkt, regexec(form, wkt))[[1]] # [[3]] is the name
+  if (!length(match)) return("")
+  tolower(gsub("^D_| ensemble$|[^A-Za-z0-9]", "", match[[3]]))
 }
 
 same_places <- function(one, other) {
@@ -129,6 +129,7 @@ same_places <- function(one, other) {
 kind_of_crs <- function(wkt) {
   if (!nzchar(wkt)) return("none")
   flat <- gsub("[\r\n]+ *", "", wkt)
+  # A bound or compound system has the kind of its first system.
   inner <- sub("^(BOUNDCRS\\[SOURCECRS\\[|(COMPOUNDCRS|COMPD_CS)\\[\"[^\"]*\", *)", "", flat)
   if (inner != flat) return(kind_of_crs(inner))
   if (grepl("^(DERIVED)?PROJ(ECTED)?(CRS|CS)\\[", flat)) return("projected")

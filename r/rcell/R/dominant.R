@@ -14,8 +14,8 @@ rcell_dominant <- function(x, zones, area, labels = NULL, zone_labels = NULL, zo
   columns <- c(columns, cells_and_area(totals, request$area))
   columns$classes <- tabulate(match(zone, totals$codes[[1]]))
   for (title in c("majority", "minority")) {
-    rank <- if (title == "majority") table$cells else -table$cells
-    place <- most_frequent(zone, rank, class)
+    counts <- if (title == "majority") table$cells else -table$cells
+    place <- most_frequent(zone, counts, class)
     columns <- c(columns, coded(title, class[place], request$labels, is_checked = TRUE))
     columns[[paste0(title, "_percent")]] <- 100 * table$cells[place] / totals$cells
   }

@@ -17,8 +17,8 @@ print.rcell_error <- function(x, ...) {
   invisible(x)
 }
 
-# Reject a map, a script or a request. `content` is the line of the script, `bad` the wrong word
-# with its column, and `advice` a correction.
+# Reject a map, a script or a request. `content` is the text of the script's line, `bad` the wrong
+# word with its column, and `advice` a correction.
 refuse <- function(text, source = "arguments", line = 0L, status = 1L, content = NULL, class = NULL,
                    bad = NULL, advice = "") {
   column <- if (is.null(bad)) column_in(text) else bad$column
@@ -65,6 +65,7 @@ column_in <- function(text) {
 # Tabs before the mark stay tabs. Long lines are cut to the part around the column.
 lines_of_error <- function(content, column) {
   bytes <- charToRaw(content)
+  # A letter starts at each byte that is not a continuation byte of UTF-8.
   starts <- unique(c(1L, which(bitwAnd(as.integer(bytes), 0xC0L) != 0x80L)))
   from <- 1L
   if (length(bytes) > LONGEST_SHOWN) {
@@ -77,8 +78,8 @@ lines_of_error <- function(content, column) {
   }
   if (is.na(column)) return(content)
   before <- bytes[starts[starts >= from & starts < column]]
-  blanks <- paste(ifelse(before == as.raw(9L), "\t", " "), collapse = "")
-  c(content, paste0(if (from > 1L) "  ", blanks, "^"))
+  blanks <- paste(ifelse(before == charToRaw("\t"), "\t", " "), collapse = "")
+  c(content, paste0(if (from > 1L) "  ", blanks, "^")) # two blanks below the dots
 }
 
 # Reject a map that contains decimals or has no regular grid. `row` and `column` locate the first

@@ -52,6 +52,7 @@ features_of <- function(role, given, layer, field) {
     layer <- parts[[2]]
   }
   if (!is_address(path) && !file.exists(path)) no_such_file(role$name, path)
+  # Layers next to a raster are used only if the call names a layer or a field.
   is_named <- !is.null(layer) || !is.null(field)
   layers <- character()
   if (!is_grid_of_rcell(path) && (is_named || !is_raster(path))) layers <- layers_of(path)
@@ -95,37 +96,38 @@ chosen_layer <- function(role, path, layers, layer) {
 # Return the named field, or the only usual one, or NULL if features need no field.
 chosen_field <- function(role, field, known) {
   if (is.null(field)) {
-    usual <- intersect(role$usual_fields, known)
     if (is.null(role$usual_fields)) return(NULL)
+    usual <- intersect(role$usual_fields, known)
     if (length(usual) == 1L) return(usual)
     if (length(usual)) {
       text <- "has the fields %s: name one, for example field = \"%s\""
       bad_map(role$name, text, paste(usual, collapse = " and "), usual[[2]])
     }
-    field <- paste(role$usual_fields, collapse = " or ")
+    field <- paste(role$usual_fields, collapse = " or ") # for the error below
   }
   if (field %in% known) return(field)
   bad_map(role$name, "no field %s: %s", field, known_names("field", known), status = 2L)
 }
 
+# Read a layer with queries. `definition` has the field and the type of its virtual layer.
 features_of_layer <- function(role, path, layer, field) {
-  force(layer)
+  force(layer) # its errors are not errors of opening the file
   failed <- function(e) read_failed(role$name, "cannot open: %s: %s", path, told(e))
-  ask <- function(query, content = "", what = "attributes") {
+  ask <- function(query, definition = "", what = "attributes") {
     use <- function(file) vect(file, query = paste("SELECT", query), what = what)
-    tryCatch(suppressWarnings(with_layer(path, layer, content, use)), error = failed)
+    tryCatch(suppressWarnings(with_layer(path, layer, definition, use)), error = failed)
   }
   typed <- ask("* FROM features")
   field <- chosen_field(role, field, names(typed))
   # Without a field, keep any field, so that no field named FID hides the feature numbers.
-  left <- intersect(c(field, names(typed)), names(typed))
-  content <- if (length(left)) sprintf(FIELD_AS_TEXT, xml_text(left[[1]])) else ""
-  features <- ask("FID AS id, OGR_GEOMETRY AS kind, OGR_GEOM_AREA AS size FROM features", content)
+  kept_field <- if (is.null(field)) head(names(typed), 1L) else field
+  one_field <- if (length(kept_field)) sprintf(FIELD_AS_TEXT, xml_text(kept_field)) else ""
+  features <- ask("FID AS id, OGR_GEOMETRY AS kind, OGR_GEOM_AREA AS size FROM features", one_field)
   if (!nrow(features)) bad_map(role$name, "the layer %s has no features", layer)
   is_kept <- nzchar(features$kind) & !is.na(features$kind)
   values <- NULL
   if (!is.null(field)) {
-    known <- ask("FID AS id, content FROM features WHERE content IS NOT NULL", content)
+    known <- ask("FID AS id, content FROM features WHERE content IS NOT NULL", one_field)
     texts <- utf8_of(as.character(known$content))[match(features$id, known$id)]
     values <- field_values(typed[[field]], texts)
     is_kept <- is_kept & !is.na(values$texts)
@@ -133,15 +135,15 @@ features_of_layer <- function(role, path, layer, field) {
   check_kinds(role, features$id[is_kept], features$kind[is_kept])
   # terra crashes on empty geometries.
   if (any(is_kept & features$size == 0)) {
-    flat <- ask("FID AS id, OGR_GEOM_WKT AS shape FROM features WHERE OGR_GEOM_AREA = 0", content)
+    flat <- ask("FID AS id, OGR_GEOM_WKT AS shape FROM features WHERE OGR_GEOM_AREA = 0", one_field)
     is_kept <- is_kept & !(features$id %in% flat$id[grepl("EMPTY$", flat$shape)])
   }
   ids <- features$id[is_kept]
-  content <- paste0(content, sprintf(GEOMETRY_AS, role$type))
-  chosen <- lapply(ranges_of_ids(ids), function(where) {
-    ask(paste("FID AS id FROM features WHERE", where), content, what = "")
+  definition <- paste0(one_field, sprintf(GEOMETRY_AS, role$type))
+  parts <- lapply(ranges_of_ids(ids), function(where) {
+    ask(paste("FID AS id FROM features WHERE", where), definition, what = "")
   })
-  shapes <- if (length(chosen) == 1L) chosen[[1]] else do.call(rbind, unname(chosen))
+  shapes <- if (length(parts) == 1L) parts[[1]] else do.call(rbind, unname(parts))
   list(
     ids = ids, shapes = if (length(ids)) shapes[match(ids, shapes$id), ],
     values = picked(values, is_kept), count = nrow(features), crs = crs(shapes),
@@ -152,25 +154,25 @@ features_of_layer <- function(role, path, layer, field) {
 # Return SQL conditions that select features by number. Without numbers, they select nothing.
 ranges_of_ids <- function(ids) {
   if (!length(ids)) return("FID < -1")
-  ends <- which(c(diff(ids) != 1, TRUE))
+  ends <- which(c(diff(ids) != 1, TRUE)) # a range ends where the next number does not follow
   starts <- c(1L, ends[-length(ends)] + 1L)
   ranges <- sprintf("(FID >= %.0f AND FID <= %.0f)", ids[starts], ids[ends])
   vapply(chunks_of(ranges, RANGES_OF_A_QUERY), paste, "", collapse = " OR ")
 }
 
-with_layer <- function(path, layer, content, use) {
+with_layer <- function(path, layer, definition, use) {
   file <- tempfile("rcell-", fileext = ".vrt")
   on.exit(unlink(file))
   where <- if (is_address(path)) path else normalizePath(path)
-  lines <- sprintf(VIRTUAL_LAYER, xml_text(where), xml_text(layer), content)
+  lines <- sprintf(VIRTUAL_LAYER, xml_text(where), xml_text(layer), definition)
   writeLines(enc2utf8(lines), file, useBytes = TRUE)
   with_path(path, use(file))
 }
 
 xml_text <- function(text) {
-  for (pair in list(c("&", "&amp;"), c("<", "&lt;"), c(">", "&gt;"), c("\"", "&quot;"))) {
-    text <- gsub(pair[[1]], pair[[2]], text, fixed = TRUE)
-  }
+  # The ampersand must come first because the other entities contain it.
+  entities <- c("&" = "&amp;", "<" = "&lt;", ">" = "&gt;", "\"" = "&quot;")
+  for (letter in names(entities)) text <- gsub(letter, entities[[letter]], text, fixed = TRUE)
   text
 }
 
@@ -246,23 +248,24 @@ check_zeros <- function(role, vector, field, column) {
 # Count the features in a file that have no value in a field, or return NA if this is unknown.
 count_missing <- function(source, field) {
   if (length(source) != 1L || !nzchar(source)) return(NA_integer_)
-  parts <- strsplit(source, "::", fixed = TRUE)[[1]]
-  layer <- c(parts, layers_of(parts[[1]]))[[2]]
-  content <- sprintf(FIELD_AS_TEXT, xml_text(field))
+  parts <- strsplit(source, "::", fixed = TRUE)[[1]] # PATH::LAYER, or PATH
+  path <- parts[[1]]
+  layer <- if (length(parts) > 1L) parts[[2]] else layers_of(path)[[1]]
+  definition <- sprintf(FIELD_AS_TEXT, xml_text(field))
   query <- "SELECT FID AS id FROM features WHERE content IS NULL"
-  tryCatch(suppressWarnings(with_layer(parts[[1]], layer, content, function(file) {
+  tryCatch(suppressWarnings(with_layer(path, layer, definition, function(file) {
     nrow(vect(file, query = query, what = "attributes"))
   })), error = function(e) NA_integer_)
 }
 
 has_geometry <- function(vector) {
   if (!nrow(vector)) return(logical())
-  corners <- geom(vector)
+  corners <- geom(vector) # `geom` is the row of a corner's feature
   seq_len(nrow(vector)) %in% corners[!is.na(corners[, "x"]), "geom"]
 }
 
-# Return a field's values as numbers, if it contains numbers, and as texts. Null, NaN and empty
-# texts are missing (NA).
+# Return a field's values as numbers, if it contains numbers, and as texts, from a `column` of terra
+# and the `texts` of GDAL. Null, NaN and empty texts are missing (NA).
 field_values <- function(column, texts) {
   if (is.double(column) && !inherits(column, c("Date", "POSIXct"))) {
     column[is.na(texts)] <- NA
@@ -270,7 +273,7 @@ field_values <- function(column, texts) {
     texts[is.na(column)] <- NA
     return(list(numbers = column, texts = texts))
   }
-  if (is.integer(column) && !is.factor(column)) {
+  if (is.integer(column) && !is.factor(column)) { # exact only as text
     return(list(numbers = as.numeric(texts), texts = texts))
   }
   if (is.logical(column)) {
@@ -289,11 +292,11 @@ picked <- function(values, is_kept) {
 number_text <- function(numbers) {
   texts <- sprintf("%.15g", numbers)
   for (digits in 16:17) {
-    is_other <- is.finite(numbers) & suppressWarnings(as.numeric(texts)) != numbers
-    texts[is_other] <- sprintf("%.*g", digits, numbers[is_other])
+    is_inexact <- is.finite(numbers) & suppressWarnings(as.numeric(texts)) != numbers
+    texts[is_inexact] <- sprintf("%.*g", digits, numbers[is_inexact])
   }
-  is_plain <- grepl("^-?[0-9]+$", texts)
-  texts[is_plain] <- paste0(texts[is_plain], ".0")
+  has_only_digits <- grepl("^-?[0-9]+$", texts)
+  texts[has_only_digits] <- paste0(texts[has_only_digits], ".0")
   texts
 }
 
@@ -303,8 +306,8 @@ files_of_layer <- function(path) {
   if (dir.exists(path)) return(list.files(path, full.names = TRUE))
   folder <- dirname(path)
   name <- tools::file_path_sans_ext(basename(path))
-  beside <- list.files(folder, all.files = TRUE)
-  logs <- paste0(basename(path), c("-wal", "-shm", "-journal"))
-  known <- c(paste0(name, ".", SIDECARS_OF_A_LAYER), logs)
-  c(path, file.path(folder, beside[tolower(beside) %in% tolower(known)]))
+  present <- list.files(folder, all.files = TRUE)
+  logs_of_sqlite <- paste0(basename(path), c("-wal", "-shm", "-journal"))
+  known <- c(paste0(name, ".", SIDECARS_OF_A_LAYER), logs_of_sqlite)
+  c(path, file.path(folder, present[tolower(present) %in% tolower(known)]))
 }

@@ -57,7 +57,7 @@ write_file <- function(path, fill) {
   failed <- function(e) write_failed(path, conditionMessage(e))
   size <- 0
   to <- tryCatch(file(path, "wb"), error = failed, warning = failed)
-  is_open <- TRUE
+  is_open <- TRUE # so that an error below closes the file
   on.exit(if (is_open) close(to))
   fill(function(numbers) {
     # An error while evaluating the argument is not a write failure.
@@ -72,10 +72,10 @@ write_file <- function(path, fill) {
 
 # Check the size of a written file, because R does not report a full disk when it closes a file.
 check_size <- function(path, size) {
-  there <- file.size(path)
-  if (!identical(as.numeric(there), as.numeric(size))) {
+  size_on_disk <- file.size(path)
+  if (!identical(as.numeric(size_on_disk), as.numeric(size))) {
     text <- "only %.0f of its %.0f bytes were written: the disk may be full"
-    write_failed(path, text, if (is.na(there)) 0 else there, size)
+    write_failed(path, text, if (is.na(size_on_disk)) 0 else size_on_disk, size)
   }
 }
 
@@ -91,7 +91,7 @@ native_path <- function(path) {
 
 # Return the target of a path. Links are followed even if their target does not exist yet.
 linked_path <- function(path) {
-  for (step in seq_len(40L)) {
+  for (step in seq_len(40L)) { # the limit of Linux
     to <- Sys.readlink(path)
     if (is.na(to) || !nzchar(to) || is_of_system(path)) break
     path <- if (startsWith(to, "/")) to else file.path(dirname(path), to)
@@ -111,6 +111,7 @@ is_stream <- function(path) {
 }
 
 # Run a call in a UTF-8 locale, because terra changes non-ASCII letters of a path in the C locale.
+# R evaluates the argument `call` only at the end, in the changed locale.
 with_path <- function(path, call) {
   is_ascii <- !any(charToRaw(path) > as.raw(127L))
   if (!is_ascii && validUTF8(path) && !isTRUE(l10n_info()[["UTF-8"]])) {
@@ -121,9 +122,9 @@ with_path <- function(path, call) {
   call
 }
 
-# Write a raster and return it as read back from the file.
+# Write a raster, unless the filename is empty, and return it as read back from the file.
 written <- function(raster, filename, type = "INT4S") {
-  force(raster)
+  force(raster) # its errors are not write failures
   if (!nzchar(filename)) return(raster)
   filename <- native_path(filename)
   target <- linked_path(filename)
@@ -150,12 +151,12 @@ written <- function(raster, filename, type = "INT4S") {
 }
 
 # Create a folder that only this user can open. A guard process removes it if R is killed.
-private_folder <- function(beside, filename) {
-  path <- tempfile(".rcell-", tmpdir = beside)
+private_folder <- function(parent, filename) {
+  path <- tempfile(".rcell-", tmpdir = parent)
   if (!dir.create(path, showWarnings = FALSE, mode = "0700")) {
     write_failed(filename, "no file can be created in its folder")
   }
-  script <- "trap '' HUP INT TERM; cat > /dev/null; rm -rf -- \"$1\""
+  script <- "trap '' HUP INT TERM; cat > /dev/null; rm -rf -- \"$1\"" # `cat` ends when R does
   guard <- process$new("/bin/sh", c("-c", script, "sh", path), stdin = "|", cleanup = FALSE)
   remove <- function() {
     unlink(path, recursive = TRUE)
@@ -164,22 +165,22 @@ private_folder <- function(beside, filename) {
   list(path = path, remove = remove)
 }
 
-# Move the files of a folder next to the target, the target itself last. Old sidecar files are
-# removed, or restored if the target cannot be replaced.
+# Move the files of the folder `room` next to the target, the target itself last. Old sidecar files
+# are removed, or restored if the target cannot be replaced.
 replace_files <- function(room, target, filename) {
-  made <- list.files(room, all.files = TRUE, no.. = TRUE)
   main <- basename(target)
+  sidecars <- setdiff(list.files(room, all.files = TRUE, no.. = TRUE), main)
   if (file.exists(target)) {
     Sys.chmod(file.path(room, main), file.mode(target), use_umask = FALSE)
   }
-  old <- Filter(file.exists, paste0(target, SIDECARS))
-  aside <- file.path(room, sprintf("old%d", seq_along(old)))
-  is_moved <- suppressWarnings(file.rename(old, aside))
-  for (name in c(setdiff(made, main), main)) {
+  old_sidecars <- Filter(file.exists, paste0(target, SIDECARS))
+  backups <- file.path(room, sprintf("old%d", seq_along(old_sidecars)))
+  is_moved <- suppressWarnings(file.rename(old_sidecars, backups))
+  for (name in c(sidecars, main)) {
     place <- file.path(dirname(target), name)
     if (all(is_moved) && suppressWarnings(file.rename(file.path(room, name), place))) next
-    unlink(file.path(dirname(target), setdiff(made, main)))
-    suppressWarnings(file.rename(aside[is_moved], old[is_moved]))
+    unlink(file.path(dirname(target), sidecars))
+    suppressWarnings(file.rename(backups[is_moved], old_sidecars[is_moved]))
     write_failed(filename, "the new file cannot be renamed")
   }
 }
@@ -206,23 +207,23 @@ without_colours <- function(w) {
 # closing.
 check_whole <- function(raster, path, filename) {
   failed <- function(e) write_failed(filename, told(e))
-  again <- tryCatch(with_path(path, rast(path)), error = failed, warning = failed)
+  stored <- tryCatch(with_path(path, rast(path)), error = failed, warning = failed)
   readStart(raster)
-  readStart(again)
+  readStart(stored)
   on.exit({
     readStop(raster)
-    readStop(again)
+    readStop(stored)
   })
-  if (any(is.factor(raster)) && !any(is.factor(again))) {
+  if (any(is.factor(raster)) && !any(is.factor(stored))) {
     write_failed(filename, "its labels were not written")
   }
   count <- max(1L, BLOCK_CELLS %/% as.integer(ncol(raster)))
   for (row in seq(1L, as.integer(nrow(raster)), by = count)) {
     rows <- min(count, as.integer(nrow(raster)) - row + 1L)
     read <- function(raster) readValues(raster, row = row, nrows = rows)
-    cells <- tryCatch(lapply(list(raster, again), read), error = failed, warning = failed)
-    has_nulls <- identical(is.na(cells[[1]]), is.na(cells[[2]]))
-    if (!has_nulls || any(cells[[1]] != cells[[2]], na.rm = TRUE)) {
+    cells <- tryCatch(lapply(list(raster, stored), read), error = failed, warning = failed)
+    has_same_nulls <- identical(is.na(cells[[1]]), is.na(cells[[2]]))
+    if (!has_same_nulls || any(cells[[1]] != cells[[2]], na.rm = TRUE)) {
       write_failed(filename, "the cells in the file differ from the map")
     }
   }

@@ -41,8 +41,8 @@ json_text <- function(text) {
 list_of_json <- function(text, wrong) {
   tokens <- parts_of(text, JSON_TOKEN)
   if (tokens$end <= nchar(text, "bytes")) wrong()
-  words <- tokens$groups[[1]]
-  is_text <- startsWith(words, "\"")
+  words <- tokens$groups[[1]] # the only group of JSON_TOKEN is the token without blanks
+  is_text <- startsWith(words, "\"") # R does not accept the escape `\/`
   words[is_text] <- gsub("\\/", "/", words[is_text], fixed = TRUE)
   is_known <- words %in% names(TOKENS_OF_R)
   words[is_known] <- TOKENS_OF_R[words[is_known]]

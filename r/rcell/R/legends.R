@@ -29,7 +29,7 @@ legend_of <- function(legend, name) {
     bad_input(name, text, shown(legend), status = 2L)
   }
   if (is_path(legend)) {
-    for (colours in given$columns[-(1:2)]) {
+    for (colours in given$columns[names(given$columns) %in% c("colour", "color")]) {
       is_right <- !nzchar(colours) | grepl(COLOUR, colours)
       problems <- paste(colours, "is not a colour in the form #rrggbb")
       check_rows(is_right, given$places, problems, name)
@@ -46,7 +46,8 @@ legend_files <- function(...) {
   vapply(paths, native_path, "", USE.NAMES = FALSE)
 }
 
-# Check that each value is a whole number and occurs once. Messages begin with the place.
+# Return a legend. Check that each value is a whole number and occurs once. Messages begin with the
+# place of the row.
 checked_legend <- function(values, labels, name, places) {
   values <- trimmed(values)
   codes <- whole_numbers(values)

@@ -15,11 +15,12 @@ rcell_majority <- function(x, size = 3, fill = FALSE, filename = "", overwrite =
   if (size <= SIZE_OF_AN_EXPRESSION) {
     script <- window_lines(size)
   } else {
-    script <- class_lines(size, run_own("r.stats -n input=map", sources)[[1]]$codes[[1]])
+    table <- run_script("r.stats -n input=map", sources)[[1]]
+    script <- class_lines(size, classes = table$codes[[1]])
   }
   filled <- if (fill) "commonest" else "if(isnull(map), null(), commonest)"
   script <- c(script, paste("r.mapcalc majority =", filled), "r.out.ascii input=majority")
-  frame <- run_own(script, sources)[[1]]
+  frame <- run_script(script, sources)[[1]]
   written(raster_of(frame, sources$map, sources$map$labels, "majority"), filename)
 }
 
@@ -31,8 +32,8 @@ window_lines <- function(size) {
 }
 
 # Return lines for the most frequent class in windows that are too large for one expression. They
-# count the cells of each class along rows and then along columns, and take the largest count; the
-# first class wins ties. Classes are encoded by their position from the end.
+# count the cells of each class along rows and then along columns, and take the largest count. In a
+# tie, the first class wins, because a rank adds the class's position from the end to its count.
 class_lines <- function(size, classes) {
   if (!length(classes)) return("r.mapcalc commonest = map")
   steps <- seq_len(size) - (size + 1) / 2
@@ -45,7 +46,7 @@ class_lines <- function(size, classes) {
       sprintf("r.mapcalc count_%d = %s", place, across)
     )
   }, classes, seq_len(count)))
-  factor <- count + 1L
+  factor <- count + 1L # a rank is a count times this factor, plus `from_end`
   from_end <- count - seq_len(count)
   ranks <- sprintf("count_%d * %d + %d", seq_len(count), factor, from_end)
   largest <- combined_lines("best", "max(0, %s)", ranks, ", ", CLASSES_OF_AN_EXPRESSION)

@@ -77,7 +77,7 @@ source_of <- function(name, map) {
   bad_map(name, text, class(map)[[1]])
 }
 
-# Return a source with new cells on the grid of another source.
+# Return a source with new cells on the grid of another source. `...` are further fields.
 cells_source <- function(name, cells, source, crs, ...) {
   list(
     name = name, cells = cells, region = source$region, raster = template_of(source), crs = crs, ...
@@ -93,7 +93,7 @@ matrix_source <- function(name, map) {
     nrows = nrow(map), ncols = ncol(map), xmin = 0, xmax = ncol(map), ymin = 0, ymax = nrow(map),
     crs = ""
   )
-  values(raster) <- as.vector(t(map))
+  values(raster) <- as.vector(t(map)) # row by row
   raster_source(name, raster)
 }
 
@@ -133,22 +133,24 @@ grid_source <- function(name, path) {
   ran <- execute(rcell, folder, c("script", paste0(name, "=", normalizePath(path))))
   if (ran$status != 0L) grid_fault(ran)
   out <- file.path(folder, "out")
-  fields <- sub("^[a-z]+: ", "", readLines(out, length(EDGES) + 2L))
-  edges <- vapply(fields[seq_along(EDGES)], decimals_of, "", USE.NAMES = FALSE)
-  region <- list(edges = edges, rows = as.integer(fields[[5]]), cols = as.integer(fields[[6]]))
-  sides <- as.numeric(edges)
+  titles <- c(EDGES, "rows", "cols") # the header's lines are in this order
+  fields <- structure(sub("^[a-z]+: ", "", readLines(out, length(titles))), names = titles)
+  edges <- vapply(fields[EDGES], decimals_of, "", USE.NAMES = FALSE)
+  rows <- as.integer(fields[["rows"]])
+  cols <- as.integer(fields[["cols"]])
+  side <- structure(as.numeric(edges), names = EDGES)
   template <- rast(
-    nrows = region$rows, ncols = region$cols, xmin = sides[[4]], xmax = sides[[3]],
-    ymin = sides[[2]], ymax = sides[[1]], crs = ""
+    nrows = rows, ncols = cols, xmin = side[["west"]], xmax = side[["east"]],
+    ymin = side[["south"]], ymax = side[["north"]], crs = ""
   )
   cells <- as.integer(values(with_path(out, rast(out)), mat = FALSE))
   list(
     name = name, files = normalizePath(path), cells = cells,
-    region = region, crs = "", raster = template
+    region = list(edges = edges, rows = rows, cols = cols), crs = "", raster = template
   )
 }
 
-# Raise the error of the program `rcell` about a grid.
+# Raise the error of the program `rcell` about a grid: rcell: SOURCE:LINE: TEXT.
 grid_fault <- function(ran) {
   parts <- regmatches(ran$stderr, regexec("^rcell: ([^:]*):([0-9]+): ([^\n]*)", ran$stderr))[[1]]
   if (length(parts) != 4L) {
@@ -156,7 +158,7 @@ grid_fault <- function(ran) {
     wrong_program(text, ran$status, ran$stderr)
   }
   class <- if (ran$status == 3L) "rcell_out_of_memory"
-  refuse(parts[4], parts[2], as.integer(parts[3]), ran$status, class = class)
+  refuse(parts[[4]], source = parts[[2]], line = as.integer(parts[[3]]), ran$status, class = class)
 }
 
 # Return a coordinate with eight decimals, as text, because a double has too few digits.

@@ -34,31 +34,34 @@ warn_of_lengths <- function(source) {
   if (is_in_degrees(source)) warn("lengths are not computed for maps in degrees")
 }
 
-# Return the measures of patches, as counted by the program. If areas differ by row, cells are
-# counted by row as well. If polygons overlap, each patch's zone is found from a table.
+# Return the measures of patches as a list of columns. The program computes all measures except
+# areas, and the zones if polygons overlap.
 measured_patches <- function(request, connectivity, core_depth) {
   sources <- request$sources
   has_parts <- !is.null(sources$zones$parts)
   zones <- if (is.null(sources$zones) || has_parts) "" else "zones"
   question <- list(map = "map", connectivity = connectivity, depth = core_depth, zones = zones)
   maps <- if (has_parts) sources["map"] else sources
-  found <- run_own(character(), maps, list(question))[[1]]
+  patches <- run_script(character(), maps, list(question))[[1]]
+  numbers <- seq_along(patches$cells)
   if (has_parts) {
     table <- count_cells(sources, list(c("patch", "zones")), before = clump_line(connectivity))[[1]]
-    place <- most_frequent(table$codes[[1]], table$cells, table$codes[[2]])
-    found$zone <- table$codes[[2]][place][match(seq_along(found$cells), table$codes[[1]][place])]
+    patch <- table$codes[[1]]
+    zone <- table$codes[[2]]
+    best <- most_frequent(patch, table$cells, zone)
+    patches$zone <- zone[best][match(numbers, patch[best])]
   }
-  if (is.null(request$area)) return(found)
-  weights <- found[c("cells", "core")]
+  if (is.null(request$area)) return(patches)
+  weights <- patches[c("cells", "core")]
   if (is_in_degrees(sources$map)) {
     lines <- core_lines(connectivity, core_depth)
-    tables <- count_cells(sources["map"], list("patch", "core"), request$area, lines)
+    tables <- count_cells(sources["map"], list("patch", "core"), request$area, before = lines)
     weights <- lapply(tables, function(table) {
-      summed(table$weights, table$codes[[1]], length(found$cells))
+      summed(table$weights, table$codes[[1]], length(numbers))
     })
   }
-  found[c("area", "core_area")] <- lapply(weights, areas_of, sources$map, request$area)
-  found
+  patches[c("area", "core_area")] <- lapply(weights, areas_of, sources$map, request$area)
+  patches
 }
 
 clump_line <- function(connectivity, name = "map") {
@@ -67,37 +70,38 @@ clump_line <- function(connectivity, name = "map") {
 
 # Return lines that make maps of the patch numbers, and of the patch numbers of core cells.
 core_lines <- function(connectivity, core_depth) {
-  cores <- c("patch", sprintf("core_%d", seq_len(core_depth - 1)), "core")
+  maps <- c("patch", sprintf("core_%d", seq_len(core_depth - 1)), "core")
   steps <- c("0,0", "-1,0", "1,0", "0,-1", "0,1")
   inner <- vapply(seq_len(core_depth), function(depth) {
-    same <- paste(sprintf("patch == %s[%s]", cores[[depth]], steps), collapse = " && ")
-    sprintf("r.mapcalc %s = if(%s, patch, null())", cores[[depth + 1]], same)
+    is_inside <- paste(sprintf("patch == %s[%s]", maps[[depth]], steps), collapse = " && ")
+    sprintf("r.mapcalc %s = if(%s, patch, null())", maps[[depth + 1]], is_inside)
   }, "")
   c(clump_line(connectivity), inner)
 }
 
 # Return a row for each patch, in the order of patch numbers. Perimeters are in metres, or NA if the
 # length of the system's unit is unknown.
-patch_columns <- function(found, request) {
+patch_columns <- function(patches, request) {
   area <- request$area
   template <- template_of(request$sources$map)
   size <- res(template)
-  found$cells <- as.integer(found$cells)
+  patches$cells <- as.integer(patches$cells)
   columns <- c(
-    list(patch = seq_along(found$cells)), coded("class", found$class, request$labels, "label"),
-    cells_and_area(found, area)
+    list(patch = seq_along(patches$cells)),
+    coded("class", patches$class, request$labels, label_title = "label"),
+    cells_and_area(patches, area)
   )
-  columns$perimeter_m <- length_of(found, side_lengths(request$sources$map))
-  core <- if (is.null(area)) as.integer(found$core) else found$core_area
-  columns[[paste0("core_", c(area, "cells")[[1]])]] <- core
-  columns <- c(columns, list(
-    west = xmin(template) + found$left * size[[1]],
-    south = ymax(template) - (found$bottom + 1) * size[[2]],
-    east = xmin(template) + (found$right + 1) * size[[1]],
-    north = ymax(template) - found$top * size[[2]]
+  columns$perimeter_m <- length_of(patches, side_lengths(request$sources$map))
+  if (is.null(area)) columns$core_cells <- as.integer(patches$core)
+  if (!is.null(area)) columns[[paste0("core_", area)]] <- patches$core_area
+  columns <- c(columns, list( # rows and columns are from 0
+    west = xmin(template) + patches$left * size[[1]],
+    south = ymax(template) - (patches$bottom + 1) * size[[2]],
+    east = xmin(template) + (patches$right + 1) * size[[1]],
+    north = ymax(template) - patches$top * size[[2]]
   ))
-  if (!is.null(found$zone)) {
-    columns <- c(columns, coded("zone", found$zone, request$zone_labels, is_checked = TRUE))
+  if (!is.null(patches$zone)) {
+    columns <- c(columns, coded("zone", patches$zone, request$zone_labels, is_checked = TRUE))
   }
   frame_of(columns)
 }
@@ -107,21 +111,22 @@ rcell_clump <- function(x, connectivity = 4, classes = NULL, min_cells = NULL, f
   check_selection(connectivity, classes, min_cells)
   sources <- map_to_write(x, crs, filename, overwrite)
   script <- c(clump_line(connectivity), "r.stats -cn input=patch,map", "r.out.ascii input=patch")
-  frames <- run_own(script, sources)
-  patches <- list(class = frames[[1]]$codes[[2]], cells = frames[[1]]$cells)
+  frames <- run_script(script, sources)
+  table <- frames[[1]]
+  patches <- list(number = table$codes[[1]], class = table$codes[[2]], cells = table$cells)
   is_left_out <- !is_selected(patches, classes, min_cells)
-  new <- if (any(is_left_out)) replace(frames[[1]]$codes[[1]], is_left_out, NA)
-  written(raster_of(frames[[2]], sources$map, NULL, "patch", new), filename)
+  new <- if (any(is_left_out)) replace(patches$number, is_left_out, NA)
+  written(raster_of(frames[[2]], sources$map, labels = NULL, name = "patch", new), filename)
 }
 
 rcell_adjacency <- function(x, labels = NULL, crs = NULL) {
   sources <- sources_of(list(map = x), crs)
   labels <- labels_from(labels, sources$map)
   warn_of_lengths(sources$map)
-  pairs <- pairs_of(run_own(side_lines("map"), sources))
+  pairs <- pairs_of(run_script(side_lines("map"), sources))
   check_legend(labels, c(pairs$class, pairs$neighbour))
   frame_of(c(
-    coded("class", pairs$class, labels, "label", is_checked = TRUE),
+    coded("class", pairs$class, labels, label_title = "label", is_checked = TRUE),
     coded("neighbour", pairs$neighbour, labels, is_checked = TRUE),
     list(
       sides = as.integer(pairs$ends + pairs$flanks),
@@ -130,7 +135,7 @@ rcell_adjacency <- function(x, labels = NULL, crs = NULL) {
   ))
 }
 
-# Return lines that count pairs of cells next to each other and below each other.
+# Return lines for two tables: of pairs of cells next to each other, and below each other.
 side_lines <- function(name) {
   c(
     sprintf("r.mapcalc right = %s[0,1]", name), sprintf("r.mapcalc below = %s[1,0]", name),
@@ -150,6 +155,7 @@ pairs_of <- function(frames) {
   }, frames, c(TRUE, FALSE))
   sides <- do.call(rbind, sides)
   sides <- sides[order(sides$class, sides$neighbour), ]
-  group <- rleidv(sides[1:2])
-  cbind(sides[!duplicated(group), 1:2], rowsum(sides[3:4], group, reorder = FALSE))
+  pairs <- sides[c("class", "neighbour")]
+  group <- rleidv(pairs)
+  cbind(pairs[!duplicated(group), ], rowsum(sides[c("ends", "flanks")], group, reorder = FALSE))
 }

@@ -9,22 +9,23 @@ TYPE_I32 <- 6L
 HAS_NODATA <- 1L
 PATCHES <- 1L
 COMMANDS <- c("r.mapcalc", "r.reclass", "r.clump", "r.stats", "r.out.ascii")
+IS_OUTPUT <- 1L
 FLAGS <- c("c", "l", "1", "n", "N")
 BITS_OF_FLAGS <- c(1L, 2L, 4L, 8L, 16L)
-# The sizes of a plan's entries for a map that is read, a map that is needed, and a call such as
-# row().
+# The bytes after the name in a plan's entries for a map that is read and a map that is needed, and
+# the bytes of an entry for a call such as row().
 BYTES_OF_MARGINS <- c(32L, 33L)
 BYTES_OF_CALL <- 17L
 PATCH_MEASURES <- c("cells", "ends", "flanks", "core", "top", "bottom", "left", "right")
 # The class takes one word, each measure two.
 WORDS_OF_PATCH <- 1L + 2L * length(PATCH_MEASURES)
-# To fill in: columns, rows, north, type, null, file, first byte, bytes per cell, bytes per row.
-RAW_RASTER <- "<VRTDataset rasterXSize=\"%.0f\" rasterYSize=\"%.0f\">
-<GeoTransform>0, 1, 0, %.0f, 0, -1</GeoTransform>
-<VRTRasterBand dataType=\"%s\" band=\"1\" subClass=\"VRTRawRasterBand\">
-<NoDataValue>%s</NoDataValue><SourceFilename relativeToVRT=\"1\">%s</SourceFilename>
-<ImageOffset>%.0f</ImageOffset><PixelOffset>%.0f</PixelOffset>
-<LineOffset>%.0f</LineOffset><ByteOrder>LSB</ByteOrder></VRTRasterBand></VRTDataset>"
+# To fill in: columns, rows (and north), type, null, file, first byte, bytes per cell and per row.
+RAW_RASTER <- "<VRTDataset rasterXSize=\"%1$.0f\" rasterYSize=\"%2$.0f\">
+<GeoTransform>0, 1, 0, %2$.0f, 0, -1</GeoTransform>
+<VRTRasterBand dataType=\"%3$s\" band=\"1\" subClass=\"VRTRawRasterBand\">
+<NoDataValue>%4$s</NoDataValue><SourceFilename relativeToVRT=\"1\">%5$s</SourceFilename>
+<ImageOffset>%6$.0f</ImageOffset><PixelOffset>%7$.0f</PixelOffset>
+<LineOffset>%8$.0f</LineOffset><ByteOrder>LSB</ByteOrder></VRTRasterBand></VRTDataset>"
 
 bytes_of <- function(numbers) writeBin(as.integer(numbers), raw(), endian = "little")
 
@@ -33,13 +34,14 @@ short_text <- function(text) {
   c(as.raw(length(bytes)), bytes)
 }
 
-# Return the bytes that precede a map's cells. Cells are sent as 32-bit integers. R stores NA as
-# -2147483648, which is declared as the nodata value (a 64-bit integer). Labels are not sent,
-# because they may contain any text.
+# Return the bytes that precede a map's cells, which are sent as 32-bit integers.
 map_head <- function(name, region) {
+  # R stores NA as -2147483648. A nodata value has 64 bits; the upper half of this one is -1.
+  nodata <- bytes_of(c(NA, -1L))
+  count_of_labels <- bytes_of(0L) # labels are not sent, because they may contain any text
   c(
     short_text(name), unlist(lapply(region$edges, short_text)),
-    bytes_of(c(region$rows, region$cols)), as.raw(c(TYPE_I32, HAS_NODATA)), bytes_of(c(NA, -1L, 0L))
+    bytes_of(c(region$rows, region$cols)), as.raw(c(TYPE_I32, HAS_NODATA)), nodata, count_of_labels
   )
 }
 
@@ -91,9 +93,9 @@ reader_of <- function(from, path, wrong) {
     pass(count * width)
     readBin(from, kind, count, width, endian = "little")
   }
-  numbers <- function(count = 1) {
+  numbers <- function(count = 1) { # 64 bits: the lower half, the upper half
     halves <- matrix(as.numeric(take("integer", 2 * count, 4L)), 2L)
-    halves[is.na(halves)] <- -2^31
+    halves[is.na(halves)] <- -2^31 # R reads this integer as NA
     halves[2L, ] * 2^32 + halves[1L, ] %% 2^32
   }
   bytes <- function(count) take("raw", count, 1L)
@@ -102,9 +104,9 @@ reader_of <- function(from, path, wrong) {
     Encoding(text) <- "UTF-8"
     text
   }
-  raster <- function(rows, cols, is_small) {
+  raster <- function(rows, cols, is_small) { # of one byte per cell, or four
     begin <- pass(rows * cols * (if (is_small) 1 else 4))
-    seek(from, place)
+    seek(from, place) # continue after the cells
     raster_at(path, begin, rows, cols, is_small)
   }
   texts <- function(count) vapply(seq_len(count), function(place) text(), "")
@@ -114,63 +116,64 @@ reader_of <- function(from, path, wrong) {
   )
 }
 
-# Return a raster of cells in a file, with NA for null. GDAL reads the cells directly, because
-# passing them through R would double the cost.
+# Return a raster of the cells that begin at a byte of a file, with NA for null. GDAL reads the
+# cells directly, because passing them through R would double the cost.
 raster_at <- function(path, begin, rows, cols, is_small) {
   header <- paste0(path, ".vrt")
   on.exit(unlink(header))
-  type <- if (is_small) c("Byte", "255") else c("Int32", "-2147483648")
+  type <- if (is_small) "Byte" else "Int32"
+  null <- if (is_small) "255" else "-2147483648"
   bytes <- if (is_small) 1 else 4
-  lines <- sprintf(
-    RAW_RASTER, cols, rows, rows, type[[1]], type[[2]], basename(path), begin, bytes, bytes * cols
-  )
+  lines <- sprintf(RAW_RASTER, cols, rows, type, null, basename(path), begin, bytes, bytes * cols)
   writeLines(lines, header)
   raster <- with_path(header, rast(header))
   varnames(raster) <- ""
-  set.values(raster)
+  set.values(raster) # read the cells before the file is deleted
   setMinMax(raster)
   raster
 }
 
 # Read a table, or a list of cells.
 table_frame <- function(reader) {
-  head <- reader$numbers(3)
-  entries <- head[[2]]
-  width <- head[[3]]
-  has <- as.integer(reader$bytes(3))
-  reader$text()
+  line <- as.integer(reader$numbers())
+  entries <- reader$numbers()
+  width <- reader$numbers()
+  has_counts <- reader$bytes(1) == 1L
+  has_labels <- reader$bytes(1) == 1L
+  reader$bytes(1) # the separator
+  reader$text() # the text of null
   maps <- reader$texts(width)
-  counts <- if (has[[1]]) as.integer(reader$numbers(entries))
+  counts <- if (has_counts) as.integer(reader$numbers(entries))
   cells <- reader$integers(entries * width)
   dim(cells) <- c(width, entries)
   codes <- lapply(seq_len(width), function(map) cells[map, ])
-  labels <- if (has[[2]]) reader$texts(entries * width)
-  list(line = as.integer(head[[1]]), maps = maps, codes = codes, cells = counts, labels = labels)
+  labels <- if (has_labels) reader$texts(entries * width)
+  list(line = line, maps = maps, codes = codes, cells = counts, labels = labels)
 }
 
 grid_frame <- function(reader) {
   line <- as.integer(reader$numbers())
-  reader$text()
+  reader$text() # the text of null
   name <- reader$text()
   reader$texts(length(EDGES))
-  size <- reader$numbers(2)
-  is_small <- as.integer(reader$bytes(1)) == TYPE_U8
-  list(line = line, maps = name, raster = reader$raster(size[[1]], size[[2]], is_small))
+  rows <- reader$numbers()
+  cols <- reader$numbers()
+  is_small <- reader$bytes(1) == TYPE_U8
+  list(line = line, maps = name, raster = reader$raster(rows, cols, is_small))
 }
 
 # Read the measures of patches: the class, then counts, rows and columns (from 0) in 64 bits, and
 # the zones if the question names zones.
 patches_frame <- function(reader) {
-  reader$numbers()
-  has_zones <- reader$bytes(6L)[[6L]] == 1L
+  reader$numbers() # the number of the question
+  reader$bytes(5L) # its connectivity and core depth
+  has_zones <- reader$bytes(1L) == 1L
   count <- reader$numbers()
-  words <- reader$integers(count * (WORDS_OF_PATCH + has_zones))
+  words <- reader$integers(count * (WORDS_OF_PATCH + has_zones)) # a column for each patch
   dim(words) <- c(WORDS_OF_PATCH + has_zones, count)
   halves <- function(place) ifelse(is.na(words[place, ]), -2^31, words[place, ])
-  places <- seq_along(PATCH_MEASURES)
-  measures <- lapply(2 * places, function(low) {
-    halves(low + 1) * 2^32 + halves(low) %% 2^32
-  })
+  lower <- 2 * seq_along(PATCH_MEASURES) # after the class, in word 1
+  measures <- lapply(lower, function(place) halves(place + 1) * 2^32 + halves(place) %% 2^32)
   names(measures) <- PATCH_MEASURES
   c(list(class = words[1L, ]), measures, if (has_zones) list(zone = words[WORDS_OF_PATCH + 1L, ]))
 }
@@ -179,7 +182,8 @@ patches_frame <- function(reader) {
 # combination after which its table begins, and the labels of its rules.
 plan_frame <- function(reader) {
   line <- as.integer(reader$numbers())
-  head <- as.integer(reader$bytes(2))
+  command <- COMMANDS[[as.integer(reader$bytes(1))]]
+  is_output <- bitwAnd(as.integer(reader$bytes(1)), IS_OUTPUT) > 0L
   made <- reader$text()
   for (bytes in BYTES_OF_MARGINS) for (place in seq_len(reader$numbers())) {
     reader$text()
@@ -190,8 +194,8 @@ plan_frame <- function(reader) {
   after <- reader$integers(reader$numbers())
   reader$bytes(BYTES_OF_CALL * reader$numbers())
   list(
-    line = line, command = COMMANDS[[head[[1]]]], is_output = bitwAnd(head[[2]], 1L) > 0L,
-    made = made, flags = FLAGS[bitwAnd(options, BITS_OF_FLAGS) > 0L], maps = maps, after = after,
+    line = line, command = command, is_output = is_output, made = made,
+    flags = FLAGS[bitwAnd(options, BITS_OF_FLAGS) > 0L], maps = maps, after = after,
     labels = labels_in(reader)
   )
 }

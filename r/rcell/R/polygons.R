@@ -18,7 +18,7 @@ zones_source <- function(zones, field, layer, source, each = FALSE) {
   features <- seq_along(polygons$ids)
   parts <- if (each) apart(polygons, zones$of_feature) else list(features)
   state <- new.env(parent = emptyenv())
-  state$without <- features
+  state$without <- features # `winners_of` removes the features that contain a centre
   cells <- lapply(parts, function(part) {
     zones$of_feature[winners_of(polygons, zones$of_feature, part, template, state)]
   })
@@ -55,29 +55,32 @@ check_ids <- function(ids) {
 # Divide features into parts in which no two zones overlap, judged by their bounding boxes.
 apart <- function(polygons, zones) {
   if (!length(zones)) return(list(integer()))
+  known <- unique(zones)
+  features <- split(seq_along(zones), factor(zones, known))
   corners <- geom(polygons$shapes)
-  members <- split(seq_along(zones), factor(zones, unique(zones)))
-  group <- match(zones, unique(zones))[corners[, "geom"]]
-  sides <- lapply(c("x", "y"), function(axis) tapply(corners[, axis], group, range))
-  boxes <- do.call(rbind, Map(c, sides[[1]], sides[[2]]))
+  zone <- match(zones, known)[corners[, "geom"]] # of each corner, as a row of `boxes`
+  boxes <- cbind(
+    west = tapply(corners[, "x"], zone, min), east = tapply(corners[, "x"], zone, max),
+    south = tapply(corners[, "y"], zone, min), north = tapply(corners[, "y"], zone, max)
+  )
   parts <- list()
-  for (place in seq_along(members)) {
+  for (place in seq_along(known)) {
     box <- boxes[place, ]
     is_free <- vapply(parts, function(part) {
       others <- boxes[part, , drop = FALSE]
-      !any(others[, 1] <= box[[2]] & others[, 2] >= box[[1]] &
-        others[, 3] <= box[[4]] & others[, 4] >= box[[3]])
+      !any(others[, "west"] <= box[["east"]] & others[, "east"] >= box[["west"]] &
+        others[, "south"] <= box[["north"]] & others[, "north"] >= box[["south"]])
     }, NA)
-    part <- match(TRUE, is_free, nomatch = length(parts) + 1L)
+    part <- match(TRUE, is_free, nomatch = length(parts) + 1L) # the first free part, or a new part
     parts[[part]] <- c(if (part <= length(parts)) parts[[part]], place)
   }
-  lapply(parts, function(part) unlist(members[part], use.names = FALSE))
+  lapply(parts, function(part) unlist(features[part], use.names = FALSE))
 }
 
 # Return, for each cell, the last feature of a part that contains its centre, or NA. `state` keeps
 # the features that contain no centre so far.
 winners_of <- function(polygons, zones, part, template, state) {
-  draw <- function(order) {
+  draw <- function(order) { # the last feature wins
     if (!length(order)) return(NA_integer_)
     shapes <- polygons$shapes[order, ]
     values(shapes) <- data.frame(place = order)
@@ -90,19 +93,19 @@ winners_of <- function(polygons, zones, part, template, state) {
   winners <- draw(part)
   if (length(part) < 2L) return(winners)
   first <- draw(rev(part))
-  is_contested <- which(zones[winners] != zones[first])
-  losers <- unique(first[is_contested])
+  contested <- which(zones[winners] != zones[first])
+  losers <- unique(first[contested])
   # Find polygons hidden between the first and the last one.
   while (length(hidden <- intersect(part, state$without))) {
     drawn <- unique(as.vector(na.omit(draw(hidden))))
     if (!length(drawn)) break
     losers <- c(losers, drawn)
   }
-  if (length(is_contested)) warn_of_losers(polygons, sort(losers), is_contested, ncol(template))
+  if (length(contested)) warn_of_losers(polygons, sort(losers), contested, ncol(template))
   winners
 }
 
-# Warn about polygons that contain no cell centre. It is an error if no polygon contains one.
+# Warn about the polygons `without` a cell centre. It is an error if no polygon contains one.
 check_centres <- function(polygons, without) {
   if (length(without) == length(polygons$ids)) {
     bad_map("zones", "no polygon contains the centre of a cell")
@@ -113,16 +116,16 @@ check_centres <- function(polygons, without) {
   warn(text, length(without), length(polygons$ids), names)
 }
 
-warn_of_losers <- function(polygons, losers, is_contested, columns) {
+warn_of_losers <- function(polygons, losers, contested, columns) {
   text <- paste(
     "zones: %d cells are in more than one polygon, the first at row %d, column %d:",
     "they belong to the later polygon, and not to %s;",
     "each = TRUE processes overlapping polygons separately"
   )
-  row <- (is_contested[[1]] - 1L) %/% columns + 1L
-  column <- (is_contested[[1]] - 1L) %% columns + 1L
+  row <- (contested[[1]] - 1L) %/% columns + 1L
+  column <- (contested[[1]] - 1L) %% columns + 1L
   names <- feature_names(polygons, losers)
-  warn(text, length(is_contested), row, column, names)
+  warn(text, length(contested), row, column, names)
 }
 
 # Name features by their numbers, and by their values if there is a zone field.

@@ -1,7 +1,7 @@
 # SPDX-License-Identifier: Apache-2.0 OR GPL-2.0-or-later
 # Find the programs, and run them in temporary folders.
 
-known_programs <- new.env(parent = emptyenv())
+known_programs <- new.env(parent = emptyenv()) # size and time of each tested program, by path
 
 PROBE_SCRIPT <- c(
   "r.clump -d input=g output=k", "r.stats -c input=g,k after=7,1", "r.stats -1 input=k",
@@ -56,15 +56,15 @@ find_program <- function() {
   option <- getOption("rcell.program", "")
   if (!identical(option, "")) return(option)
   rcell <- Sys.getenv("RCELL")
-  beside <- ""
-  if (nzchar(rcell)) beside <- file.path(dirname(rcell), sub("^rcell", PIPE, basename(rcell)))
+  neighbour <- ""
+  if (nzchar(rcell)) neighbour <- file.path(dirname(rcell), sub("^rcell", PIPE, basename(rcell)))
   first_of(c(
-    Sys.getenv("RCELL_PIPE"), if (file.exists(beside)) beside, bundled_program(PIPE),
+    Sys.getenv("RCELL_PIPE"), if (file.exists(neighbour)) neighbour, bundled_program(PIPE),
     Sys.which(PIPE)[[1]]
   ))
 }
 
-# Return the path of the program `rcell`, which reads rcell grids.
+# Return the path of the program `rcell`, which reads rcell grids. `pipe` is the path of rcell-pipe.
 find_rcell <- function(pipe) {
   beside <- file.path(dirname(pipe), sub(PIPE, "rcell", basename(pipe), fixed = TRUE))
   is_beside <- beside != pipe && file.exists(beside)
@@ -95,17 +95,20 @@ probe <- function(path) {
     rcell_wrong_program = wrong, rcell_killed = wrong, rcell_refused = wrong
   )
   if (!identical(lapply(frames, `[[`, "kind"), list("TABL", "CELL", "GRID"))) wrong()
-  cells <- as.integer(values(frames[[3]]$raster, mat = FALSE))
-  is_right <- identical(frames[[1]]$codes, list(c(12L, NA), c(2L, NA))) &&
-    identical(frames[[1]]$cells, c(1L, 1L)) && identical(frames[[2]]$codes, list(c(1L, NA, 2L))) &&
-    identical(cells, c(1L, NA, 2L))
+  names(frames) <- c("table", "list", "grid")
+  patches <- c(1L, NA, 2L) # of the cells 7, null and 12
+  cells <- as.integer(values(frames$grid$raster, mat = FALSE))
+  is_right <- identical(frames$table$codes, list(c(12L, NA), c(2L, NA))) &&
+    identical(frames$table$cells, c(1L, 1L)) && identical(frames$list$codes, list(patches)) &&
+    identical(cells, patches)
   if (!is_right) wrong()
 }
 
 # Return a map with a single row of cells.
 small_map <- function(name, cells) {
   cols <- length(cells)
-  region <- list(edges = as.character(c(1L, 0L, cols, 0L)), rows = 1L, cols = cols)
+  edges <- as.character(c(north = 1L, south = 0L, east = cols, west = 0L))
+  region <- list(edges = edges, rows = 1L, cols = cols)
   list(name = name, cells = cells, region = region)
 }
 
@@ -121,17 +124,18 @@ new_folder <- function() {
 # Return the words to put before a command so that it ends with R, even if R is killed. If the
 # system has no such command, return none.
 guard_words <- function() {
-  if (is.null(known_programs[[" guard"]])) {
-    words <- c(Sys.which("setpriv")[["setpriv"]], "--pdeathsig", "KILL")
-    works <- function() run(words[[1]], c(words[-1], "true"), error_on_status = FALSE)$status == 0L
-    is_there <- nzchar(words[[1]]) && isTRUE(tryCatch(works(), error = function(e) FALSE))
-    assign(" guard", if (is_there) words else character(), envir = known_programs)
+  if (is.null(known_programs[[" guard"]])) { # a key that is not a path
+    setpriv <- Sys.which("setpriv")[["setpriv"]]
+    options <- c("--pdeathsig", "KILL")
+    works <- function() run(setpriv, c(options, "true"), error_on_status = FALSE)$status == 0L
+    is_there <- nzchar(setpriv) && isTRUE(tryCatch(works(), error = function(e) FALSE))
+    assign(" guard", if (is_there) c(setpriv, options) else character(), envir = known_programs)
   }
   known_programs[[" guard"]]
 }
 
-# Run a program in a folder. It reads a file there and writes the file `out`. An interrupt ends the
-# program and is passed on.
+# Run a program in a folder. It reads the file `input` there, if one is given, and writes the file
+# `out`. An interrupt ends the program and is passed on.
 execute <- function(path, folder, words = character(), input = NULL) {
   command <- c(guard_words(), path, words)
   failed <- function(text) {
@@ -147,7 +151,7 @@ execute <- function(path, folder, words = character(), input = NULL) {
   }
   child <- tryCatch(start(), rlib_error = function(e) failed(conditionMessage(e)))
   on.exit(child$kill())
-  # (processx::run would write error texts to a file, which fails on a full disk.)
+  # Read the error texts here. processx::run would write them to a file, which fails on a full disk.
   text <- ""
   while (child$is_incomplete_error()) {
     child$poll_io(-1L)
@@ -156,8 +160,8 @@ execute <- function(path, folder, words = character(), input = NULL) {
   child$wait()
   status <- child$get_exit_status()
   if (status != 0L && startsWith(text, "setpriv: ")) failed(sub("^setpriv: ", "", text))
-  if (status < 0L) killed(-status)
-  if (status > 128L) killed(status - 128L)
+  if (status < 0L) killed(-status) # as processx reports signals
+  if (status > 128L) killed(status - 128L) # as a shell reports signals
   list(status = status, stderr = trimws(text))
 }
 
@@ -187,7 +191,7 @@ ask_pipe <- function(path, request) {
 end_of <- function(frames) frames[[length(frames)]]
 
 # Run a script on maps and return its frames without the last. Errors of the script show the
-# caller's lines.
+# caller's `lines`.
 run_pipe <- function(path, sources, script, lines = script, questions = list()) {
   if (is.function(recorder$add)) recorder$add(sources, c(script, question_texts(questions)))
   request <- run_request(sources, script, questions)
@@ -209,13 +213,14 @@ frames_of <- function(frames, path, names, lines) {
   frames[-length(frames)]
 }
 
-# Raise the error that ended a run.
+# Raise the error that ended a run, as reported in the last frame.
 fault <- function(end, path, names, lines) {
   status <- as.integer(end$status)
   kind <- if (status == 3L) "rcell_out_of_memory"
-  line <- if (end$source == 1) 0L else as.integer(end$line)
-  is_of_map <- end$source == 1 && end$maps < length(names)
+  is_of_request <- end$source == 1
+  line <- if (is_of_request) 0L else as.integer(end$line)
   if (!(line %in% seq_along(lines))) {
+    is_of_map <- is_of_request && end$maps < length(names) # `maps` counts complete maps
     source <- if (is_of_map) names[[end$maps + 1]] else "script"
     refuse(end$text, source, status = status, class = kind)
   }
@@ -223,5 +228,5 @@ fault <- function(end, path, names, lines) {
   Encoding(content) <- "UTF-8"
   advice <- advice_on(path, lines, line, end$text, names)
   bad <- if (end$text == "bad option") advice$bad
-  refuse(end$text, "script", line, status, content, kind, bad, advice$text)
+  refuse(end$text, "script", line, status, content, kind, bad = bad, advice = advice$text)
 }

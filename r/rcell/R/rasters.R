@@ -11,18 +11,18 @@ ROTATED <- "its transform is rotated: warp the map to a north-up grid first (ter
 raster_source <- function(name, raster, is_opened_here = FALSE) {
   # S4 methods would wrap errors of their arguments in their own errors.
   force(raster)
-  chosen <- opaque_layer(name, raster)
+  chosen <- opaque_layer(name, raster) # with the alpha layer and the facts of its file
   raster <- chosen$raster
   # terra assumes degrees for a map without a system if its edges are within 180 by 90.
   if (is_opened_here && isFALSE(chosen$facts$has_crs)) crs(raster) <- ""
   if (!hasValues(raster)) bad_map(name, "the raster has no values")
-  scale <- scoff(raster)
-  if (any(scale != c(1, 0))) {
+  scale_and_offset <- scoff(raster) # the only layer's row has its scale and offset
+  if (any(scale_and_offset != c(1, 0))) {
     text <- paste(
       "its values are scaled: each cell times %g, plus %g;",
       "write them out as whole numbers first"
     )
-    bad_map(name, text, scale[[1]], scale[[2]])
+    bad_map(name, text, scale_and_offset[[1]], scale_and_offset[[2]])
   }
   check_file(name, raster, chosen$facts, chosen$band)
   list(
@@ -39,18 +39,19 @@ opaque_layer <- function(name, raster) {
   paths <- unique(bands$source[nzchar(bands$source)])
   facts <- if (length(paths) == 1L) file_facts(paths)
   is_alpha <- if (is.null(facts)) rep(FALSE, nlyr(raster)) else bands$bands %in% facts$alpha
-  layers <- if (nlyr(raster) > 1L && any(is_alpha)) which(!is_alpha) else seq_len(nlyr(raster))
-  if (length(layers) != 1L) {
-    bad_map(name, "has %d layers: choose one, for example x[[1]]", length(layers))
+  layer <- if (nlyr(raster) > 1L && any(is_alpha)) which(!is_alpha) else seq_len(nlyr(raster))
+  if (length(layer) != 1L) {
+    bad_map(name, "has %d layers: choose one, for example x[[1]]", length(layer))
   }
-  if (nlyr(raster) > 1L) raster <- raster[[layers]]
+  if (nlyr(raster) > 1L) raster <- raster[[layer]]
   opaque <- list(raster = raster, files = paths, facts = facts)
   if (is.null(facts)) return(opaque)
-  opaque$band <- bands$bands[[layers]]
+  opaque$band <- bands$bands[[layer]]
   if (!length(facts$alpha) || opaque$band %in% facts$alpha) return(opaque)
+  alpha_band <- facts$alpha[[1]]
+  alpha <- alpha_layer(raster, paths, alpha_band)
   # A TIFF has one nodata value for all bands, and terra treats an alpha of this value as NA.
-  null <- null_text(facts$bands[[facts$alpha[[1]]]])
-  alpha <- alpha_layer(raster, paths, facts$alpha[[1]])
+  null <- null_text(facts$bands[[alpha_band]])
   c(opaque, list(alpha = alpha, alpha_null = suppressWarnings(as.numeric(null))))
 }
 
@@ -66,9 +67,9 @@ description_of <- function(path) {
   tryCatch(suppressWarnings(with_path(path, describe(path))), error = function(e) character())
 }
 
-# Return facts about a file that GDAL reports but terra does not.
+# Return facts about a file that GDAL reports but terra does not, such as the lines about each band.
 file_facts <- function(path) {
-  loose_rows <- character()
+  loose_rows <- character() # GDAL's warning about rows of an attribute table that it does not read
   keep <- function(w) {
     if (startsWith(conditionMessage(w), "iRow")) loose_rows <<- conditionMessage(w)
     invokeRestart("muffleWarning")

@@ -14,11 +14,11 @@ rcell_reclass <- function(x, rules, other = NULL, filename = "", overwrite = FAL
   check_inputs(filename, c(inputs_of(sources), files))
   lines <- c(rule_lines(rules), if (identical(other, "keep")) "* = *")
   script <- c("r.reclass input=map output=new", lines, "end", "r.stats -n input=map")
-  frames <- run_own(c(script, "r.out.ascii input=new"), sources)
-  if (is.null(other)) check_covered(frames[[1]]$codes[[1]], rules)
+  frames <- run_script(c(script, "r.out.ascii input=new"), sources)
+  if (is.null(other)) check_covered(classes = frames[[1]]$codes[[1]], rules)
   labels <- new_labels(rules)
   if (!length(labels$codes) && identical(other, "keep")) labels <- sources$map$labels
-  written(raster_of(frames[[2]], sources$map, labels, "new"), filename)
+  written(raster_of(frames[[2]], sources$map, labels, name = "new"), filename)
 }
 
 # Return rules sorted by value: the first and last value, the new class (NA for null), and its
@@ -32,7 +32,7 @@ rules_of <- function(rules) {
     )
     bad_input("rules", text, shown(rules), status = 2L)
   }
-  values <- trimmed(given$columns$value)
+  values <- trimmed(given$columns$value) # a value is a class, or a range LOW-HIGH
   low <- suppressWarnings(as.numeric(sub(VALUES, "\\1", values, perl = TRUE)))
   high <- suppressWarnings(as.numeric(sub(VALUES, "\\2", values, perl = TRUE)))
   high[is.na(high)] <- low[is.na(high)]
@@ -46,16 +46,18 @@ rules_of <- function(rules) {
   is_class <- !nzchar(new) | (grepl(WHOLE, new) & abs(codes) <= CATEGORY_LIMIT)
   text <- "%s is not a class, and must be empty for null"
   check_rows(is_class, given$places, sprintf(text, quoted_if_empty(new)), "rules")
-  order <- order(low)
-  again <- which(low[order][-1] <= high[order][-length(low)])
-  if (length(again)) {
-    text <- "must have at most one rule for each class; got two for %.0f"
-    bad_input("rules", text, low[order][[again[[1]] + 1L]])
-  }
   labels <- given$columns$label
   labels <- if (is.null(labels)) rep("", length(low)) else trimmed(labels)
   labels[is.na(labels)] <- ""
-  list(low = low[order], high = high[order], new = codes[order], labels = labels[order])
+  order <- order(low)
+  rules <- list(low = low[order], high = high[order], new = codes[order], labels = labels[order])
+  # A rule overlaps the previous rule unless it begins after the end of that rule.
+  overlapping <- match(TRUE, rules$low[-1] <= rules$high[-length(low)])
+  if (!is.na(overlapping)) {
+    text <- "must have at most one rule for each class; got two for %.0f"
+    bad_input("rules", text, rules$low[[overlapping + 1L]])
+  }
+  rules
 }
 
 # Return lines for r.reclass. Consecutive values with the same new class share a line.
@@ -77,15 +79,15 @@ rule_lines <- function(rules) {
 
 # Check that each class of the map has a rule.
 check_covered <- function(classes, rules) {
-  rule <- findInterval(classes, rules$low)
-  is_covered <- rule > 0L & classes <= c(-Inf, rules$high)[rule + 1L]
+  rule <- findInterval(classes, rules$low) # the last rule that begins at a class or before it, or 0
+  is_covered <- classes <= c(-Inf, rules$high)[rule + 1L]
   if (all(is_covered)) return(invisible())
   text <- "no rule for the %s %s: add rules, or use other = \"keep\" or other = \"null\""
   noun <- if (sum(!is_covered) > 1L) "classes" else "class"
   bad_input("map", text, noun, shortened(classes[!is_covered]))
 }
 
-# Return the labels of new classes, in the order of the rules.
+# Return the labels of new classes, in the order of the rules. The last label of a class applies.
 new_labels <- function(rules) {
   is_kept <- nzchar(rules$labels) & !is.na(rules$new)
   codes <- as.integer(rules$new[is_kept])

@@ -16,7 +16,7 @@ rcell_record <- function(.path, .call, ..., .table = NULL) {
   check_text(.table, ".table")
   is_csv <- is_path(.path) && grepl("[.]csv$", .path, ignore.case = TRUE)
   check_argument(is_csv, .path, ".path= must be a path that ends in .csv")
-  check_filename(.path, TRUE)
+  check_filename(.path, overwrite = TRUE)
   folder <- normalizePath(dirname(native_path(.path)))
   arguments <- list(...)
   keys <- names(arguments)
@@ -28,40 +28,40 @@ rcell_record <- function(.path, .call, ..., .table = NULL) {
     name = name_of_call(.call), words = plain[!nzchar(keys)],
     named = named[order(names(named))], part = .table
   )
-  made <- recorded_call(call, arguments, .table)
-  check_inputs(.path, c(made$files, legend_files_in(arguments)))
+  outcome <- recorded_call(call, arguments, part = .table)
+  check_inputs(.path, c(outcome$files, legend_files_in(arguments)))
   record <- list(
-    rcell_record = RECORD_FORM, call = call, runs = made$runs, program = sum_of(program_path()),
+    rcell_record = RECORD_FORM, call = call, runs = outcome$runs, program = sum_of(program_path()),
     versions = list(
       R = as.character(getRversion()), rcell = as.character(packageVersion("rcell")),
       terra = as.character(packageVersion("terra"))
     )
   )
-  write_record(.path, made$text, record)
-  invisible(made$result)
+  write_record(.path, outcome$text, record)
+  invisible(outcome$result)
 }
 
 rcell_verify <- function(path) {
-  kept <- utf8_text(native_path(path), "record")
+  kept_text <- utf8_text(native_path(path), "record")
   record <- record_of(path)
   call <- record$call
   folder <- normalizePath(dirname(native_path(path)))
   is_changed <- sum_of(native_path(path)) != record$table$sha256
-  told <- c(
+  changes <- c(
     character(), if (is_changed) "the table has changed since it was written",
     other_files(list(call$words, call$named), folder)
   )
   if (sum_of(program_path()) != record$program) {
     text <- "the program has changed: it was rcell %s, and is now rcell %s"
-    told <- c(told, sprintf(text, record$versions$rcell, packageVersion("rcell")))
+    changes <- c(changes, sprintf(text, record$versions$rcell, packageVersion("rcell")))
   }
   arguments <- lapply(c(call$words, call$named), placed_argument, folder)
-  made <- tryCatch(recorded_call(call, arguments, call$part), rcell_error = function(e) e)
-  if (inherits(made, "rcell_error")) {
-    reason <- strsplit(conditionMessage(made), "\n", fixed = TRUE)[[1]][[1]]
-    return(c(told, paste("the call fails:", reason)))
+  outcome <- tryCatch(recorded_call(call, arguments, call$part), rcell_error = function(e) e)
+  if (inherits(outcome, "rcell_error")) {
+    reason <- strsplit(conditionMessage(outcome), "\n", fixed = TRUE)[[1]][[1]] # the first line
+    return(c(changes, paste("the call fails:", reason)))
   }
-  c(told, other_runs(made$runs, record$runs), other_lines(kept, made$text))
+  c(changes, other_runs(outcome$runs, record$runs), other_lines(kept_text, outcome$text))
 }
 
 # Return the record of a table that was recorded in R.
@@ -98,7 +98,7 @@ name_of_call <- function(call) {
   if (is.function(call)) {
     is_it <- vapply(names, function(name) identical(call, getExportedValue("rcell", name)), NA)
     names <- names[is_it]
-    call <- "a function"
+    call <- "a function" # for the message
   } else if (is_path(call)) {
     names <- intersect(call, names)
   }
@@ -109,7 +109,7 @@ name_of_call <- function(call) {
 
 # Run a call. Return its result, the text of its table, the runs of the program, and the files read.
 recorded_call <- function(call, arguments, part) {
-  program_path()
+  program_path() # tests the program before runs are recorded
   runs <- list()
   files <- character()
   recorder$add <- function(sources, script) {
@@ -123,6 +123,7 @@ recorded_call <- function(call, arguments, part) {
   list(result = result, text = csv_of(table_in(result, part)), runs = runs, files = files)
 }
 
+# Return the table of a result that `part` names, or the first one.
 table_in <- function(result, part) {
   tables <- if (is.data.frame(result)) list(table = result)
   if (is.list(result) && is.null(tables)) tables <- Filter(is.data.frame, result)
@@ -130,7 +131,7 @@ table_in <- function(result, part) {
     bad_argument("the call must return a table; got a %s", class(result)[[1]])
   }
   if (identical(part, "summary") && is.null(tables$summary) && "kappa" %in% names(result)) {
-    return(as.data.frame(result[-(1:2)]))
+    return(as.data.frame(result[setdiff(names(result), names(tables))])) # the single numbers
   }
   if (is.null(part)) return(tables[[1]])
   check_one_of(part, ".table", names(tables))
@@ -141,8 +142,8 @@ table_in <- function(result, part) {
 # values are empty.
 csv_of <- function(table) {
   quoted <- function(texts) {
-    is_odd <- grepl("[\",\r\n]", texts)
-    texts[is_odd] <- sprintf("\"%s\"", gsub("\"", "\"\"", texts[is_odd], fixed = TRUE))
+    needs_quotes <- grepl("[\",\r\n]", texts)
+    texts[needs_quotes] <- sprintf("\"%s\"", gsub("\"", "\"\"", texts[needs_quotes], fixed = TRUE))
     texts
   }
   columns <- lapply(table, function(column) {
@@ -206,33 +207,35 @@ plain_argument <- function(name, value, folder) {
   if (is.null(names(value)) && !is.list(value) && length(value) == 1L) return(value)
   parts <- unname(lapply(as.list(value), function(part) plain_argument(name, part, folder)))
   if (is.null(names(value))) return(parts)
-  list(items = unname(Map(list, names(value), parts)))
+  list(items = unname(Map(list, names(value), parts))) # pairs, because JSON would sort the names
 }
 
 plain_text <- function(name, text, folder) {
-  file <- sub("[|].*$", "", native_path(text))
+  file <- sub("[|].*$", "", native_path(text)) # without |layername=
   if (name %in% WORDS || !file.exists(file) || dir.exists(file)) return(text)
   rest <- substring(native_path(text), nchar(file) + 1L)
-  told <- list(path = paste0(relative_path(normalizePath(file), folder), rest))
-  if (grepl(TEXT_FILES, file, ignore.case = TRUE)) told$sha256 <- sum_of(file)
-  told
+  argument <- list(path = paste0(relative_path(normalizePath(file), folder), rest))
+  if (grepl(TEXT_FILES, file, ignore.case = TRUE)) argument$sha256 <- sum_of(file)
+  argument
 }
 
 relative_path <- function(path, folder) {
-  parts <- lapply(c(path, folder), function(path) strsplit(path, "/", fixed = TRUE)[[1]])
-  count <- min(lengths(parts))
-  shared <- sum(cumprod(parts[[1]][seq_len(count)] == parts[[2]][seq_len(count)]))
-  up <- rep("..", length(parts[[2]]) - shared)
-  paste(c(up, parts[[1]][-seq_len(shared)]), collapse = "/")
+  parts <- strsplit(path, "/", fixed = TRUE)[[1]]
+  folders <- strsplit(folder, "/", fixed = TRUE)[[1]]
+  common <- seq_len(min(length(parts), length(folders)))
+  shared <- sum(cumprod(parts[common] == folders[common])) # before the first difference
+  up <- rep("..", length(folders) - shared)
+  paste(c(up, parts[-seq_len(shared)]), collapse = "/")
 }
 
-# Return an argument from its form in a record.
-placed_argument <- function(told, folder) {
-  if (!is.list(told)) return(told)
-  if (!is.null(told$path)) return(file.path(folder, told$path))
-  items <- if (is.null(told$items)) told else lapply(told$items, `[[`, 2L)
+# Return an argument from its form in a record (see `plain_argument`).
+placed_argument <- function(argument, folder) {
+  if (!is.list(argument)) return(argument)
+  if (!is.null(argument$path)) return(file.path(folder, argument$path))
+  pairs <- argument$items # of a name and a value
+  items <- if (is.null(pairs)) argument else lapply(pairs, `[[`, 2L)
   values <- lapply(items, placed_argument, folder)
-  if (!is.null(told$items)) names(values) <- vapply(told$items, `[[`, "", 1L)
+  if (!is.null(pairs)) names(values) <- vapply(pairs, `[[`, "", 1L)
   # Paths are lists in a record, so several paths form a list of maps.
   is_plain <- !vapply(items, is.list, NA)
   kinds <- unique(vapply(values, typeof, ""))
@@ -246,43 +249,46 @@ legend_files_in <- function(arguments) {
 
 # Differences
 
-# Return texts for the legends and other text files of a call that have changed.
-other_files <- function(told, folder) {
-  if (!is.list(told)) return(NULL)
-  if (is.null(told$sha256)) return(unlist(lapply(unname(told), other_files, folder)))
-  path <- file.path(folder, told$path)
-  if (file.exists(path) && sum_of(path) != told$sha256) sprintf("%s has changed", told$path)
+# Return texts for the text files that have changed, in a stored argument or a list of arguments.
+other_files <- function(argument, folder) {
+  if (!is.list(argument)) return(NULL)
+  if (is.null(argument$sha256)) return(unlist(lapply(unname(argument), other_files, folder)))
+  path <- file.path(folder, argument$path)
+  if (file.exists(path) && sum_of(path) != argument$sha256) sprintf("%s has changed", argument$path)
 }
 
-other_runs <- function(now, then) {
-  pairs <- seq_len(min(length(now), length(then)))
-  maps <- unlist(lapply(pairs, function(place) {
-    sums <- then[[place]]$maps
-    names(sums)[!vapply(names(sums), function(name) {
-      identical(now[[place]]$maps[[name]], sums[[name]])
-    }, NA)]
+other_runs <- function(runs, recorded_runs) {
+  places <- seq_len(min(length(runs), length(recorded_runs)))
+  maps <- unlist(lapply(places, function(place) {
+    sums <- runs[[place]]$maps
+    recorded_sums <- recorded_runs[[place]]$maps
+    names <- names(recorded_sums)
+    is_same <- vapply(names, function(name) identical(sums[[name]], recorded_sums[[name]]), NA)
+    names[!is_same]
   }))
-  scripts <- lapply(list(now, then), function(runs) lapply(runs, `[[`, "script"))
+  scripts <- lapply(runs, `[[`, "script")
+  recorded_scripts <- lapply(recorded_runs, `[[`, "script")
   c(
     if (length(maps)) sprintf("the cells of %s differ", unique(maps)),
-    if (!identical(scripts[[1]], scripts[[2]])) "the scripts differ: the call ran different lines"
+    if (!identical(scripts, recorded_scripts)) "the scripts differ: the call ran different lines"
   )
 }
 
 # Return a text about the first line in which a table differs from its call's current result, and
 # the number of other lines that differ.
-other_lines <- function(kept, now) {
-  if (identical(kept, now)) return(NULL)
-  lines <- lapply(c(kept, now), function(text) strsplit(text, "\n", fixed = TRUE)[[1]])
-  count <- min(lengths(lines))
-  different <- which(lines[[1]][seq_len(count)] != lines[[2]][seq_len(count)])
+other_lines <- function(kept_text, current_text) {
+  if (identical(kept_text, current_text)) return(NULL)
+  kept <- strsplit(kept_text, "\n", fixed = TRUE)[[1]]
+  current <- strsplit(current_text, "\n", fixed = TRUE)[[1]]
+  common <- seq_len(min(length(kept), length(current)))
+  different <- which(kept[common] != current[common])
   if (!length(different)) {
     text <- "the table has %d lines, but the call returns %d"
-    return(sprintf(text, length(lines[[1]]), length(lines[[2]])))
+    return(sprintf(text, length(kept), length(current)))
   }
   first <- different[[1]]
   rest <- length(different) - 1L
   more <- if (rest) sprintf(" and in %d more %s", rest, if (rest == 1L) "line" else "lines") else ""
   text <- "the table differs in line %d%s: `%s`, but the call returns `%s`"
-  sprintf(text, first, more, lines[[1]][[first]], lines[[2]][[first]])
+  sprintf(text, first, more, kept[[first]], current[[first]])
 }

@@ -14,11 +14,12 @@ edge_text <- function(edge) sub("^-(0\\.0+)$", "\\1", sprintf("%.8f", edge))
 
 region_of <- function(name, raster) {
   edges <- as.vector(ext(raster))[c("ymax", "ymin", "xmax", "xmin")]
+  names(edges) <- EDGES
   spelled <- paste(EDGES, format(edges, digits = 15, trim = TRUE), collapse = ", ")
   if (any(!is.finite(edges))) {
     bad_map(name, "its transform must have finite numbers; its edges are %s", spelled)
   }
-  if (edges[[3]] < edges[[4]]) {
+  if (edges[["east"]] < edges[["west"]]) {
     bad_map(name, "its transform must have columns from west to east; its edges are %s", spelled)
   }
   if (any(abs(edges) >= EDGE_LIMIT)) {
@@ -39,11 +40,11 @@ check_region <- function(name, region) {
     bad_map(name, text, SIDE_LIMIT, SIDE_LIMIT, CELL_LIMIT, region$rows, region$cols)
   }
   numbers <- as.numeric(region$edges)
-  is_flat <- c(numbers[[1]] <= numbers[[2]], numbers[[3]] <= numbers[[4]])
-  if (any(is_flat)) {
-    sides <- if (is_flat[[1]]) c("north", "south") else c("east", "west")
+  names(numbers) <- EDGES
+  for (pair in list(c(high = "north", low = "south"), c(high = "east", low = "west"))) {
+    if (numbers[[pair[["high"]]]] > numbers[[pair[["low"]]]]) next
     text <- "%s must exceed %s after rounding to %d decimals; got %s"
-    bad_map(name, text, sides[[1]], sides[[2]], DECIMALS, region_text(region))
+    bad_map(name, text, pair[["high"]], pair[["low"]], DECIMALS, region_text(region))
   }
 }
 
@@ -67,18 +68,19 @@ region_text <- function(region) {
 
 # Return texts that describe how a region differs from the first map's region.
 differences <- function(first, other) {
-  more <- function(by) if (by > 0) "more" else "less"
-  by <- as.numeric(other$edges) - as.numeric(first$edges)
+  more <- function(difference) if (difference > 0) "more" else "less"
   texts <- vapply(which(first$edges != other$edges), function(edge) {
-    size <- short_edge(edge_text(abs(by[[edge]])))
-    ends <- short_edge(c(other$edges[[edge]], first$edges[[edge]]))
-    sprintf("%s is %s, not %s (%s %s)", EDGES[[edge]], ends[[1]], ends[[2]], size, more(by[[edge]]))
+    difference <- as.numeric(other$edges[[edge]]) - as.numeric(first$edges[[edge]])
+    size <- short_edge(edge_text(abs(difference)))
+    end <- short_edge(other$edges[[edge]])
+    first_end <- short_edge(first$edges[[edge]])
+    sprintf("%s is %s, not %s (%s %s)", EDGES[[edge]], end, first_end, size, more(difference))
   }, "")
   for (side in c("rows", "cols")) {
-    by <- other[[side]] - first[[side]]
-    if (by == 0L) next
+    difference <- other[[side]] - first[[side]]
+    if (difference == 0L) next
     text <- "%s is %d, not %d (%d %s)"
-    text <- sprintf(text, side, other[[side]], first[[side]], abs(by), more(by))
+    text <- sprintf(text, side, other[[side]], first[[side]], abs(difference), more(difference))
     texts <- c(texts, text)
   }
   texts
@@ -89,11 +91,11 @@ check_regions <- function(sources) {
   first <- sources[[1]]
   for (source in sources[-1]) {
     if (identical(source$region, first$region)) next
-    by <- paste(differences(first$region, source$region), collapse = "; ")
+    listed <- paste(differences(first$region, source$region), collapse = "; ")
     text <- "its grid differs from `%s`, and rcell does not resample: %s"
     text <- paste0(text, "\n  %s: %s\n  %s: %s\n  try: %s")
     text <- sprintf(
-      text, first$name, by, first$name, region_text(first$region), source$name,
+      text, first$name, listed, first$name, region_text(first$region), source$name,
       region_text(source$region), align_call(first, source)
     )
     bad_map(source$name, text, class = "rcell_other_region")

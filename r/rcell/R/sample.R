@@ -13,21 +13,22 @@ rcell_sample <- function(x, n, seed, allocation = "equal", labels = NULL, crs = 
   check_numbers(n, allocation)
   sources <- sources_of(list(map = x), crs)
   labels <- labels_from(labels, sources$map)
-  frame <- run_own(c("r.mapcalc row = row()", "r.stats -cn input=map,row"), sources)[[1]]
-  class <- unique(frame$codes[[1]])
-  sizes <- summed(frame$cells, match(frame$codes[[1]], class), length(class))
-  wanted <- divided(n, allocation, class, sizes)
-  warn_of_few(class, sizes, wanted)
+  frame <- run_script(c("r.mapcalc row = row()", "r.stats -cn input=map,row"), sources)[[1]]
+  classes <- unique(frame$codes[[1]])
+  sizes <- summed(frame$cells, match(frame$codes[[1]], classes), length(classes))
+  counts <- divided(n, allocation, classes, sizes)
+  warn_of_few(classes, sizes, counts)
   seed <- if (is.character(seed)) enc2utf8(seed) else sprintf("%.0f", seed)
-  # The positions of the drawn cells among all cells, in the order of classes and rows.
+  # The positions (from 0) of the drawn cells among all cells, in the order of classes and rows.
   places <- unlist(Map(function(class, size, count, before) {
     before + drawn(paste(seed, class, sep = ":"), size, count)
-  }, class, sizes, wanted, cumsum(sizes) - sizes))
-  until <- cumsum(as.numeric(frame$cells))
-  entry <- findInterval(places, until) + 1L
+  }, classes, sizes, counts, cumsum(sizes) - sizes))
+  ends <- cumsum(as.numeric(frame$cells))
+  starts <- ends - frame$cells
+  entry <- findInterval(places, ends) + 1L
   class <- frame$codes[[1]][entry]
   row <- frame$codes[[2]][entry]
-  col <- columns_of(sources$map, class, row, places - (until - frame$cells)[entry])
+  col <- columns_of(sources$map, class, row, places - starts[entry])
   template <- template_of(sources$map)
   frame_of(c(list(point = seq_along(row)), coded("class", class, labels, "label"), list(
     row = row, col = col, x = xFromCol(template, col), y = yFromRow(template, row)
@@ -37,8 +38,8 @@ rcell_sample <- function(x, n, seed, allocation = "equal", labels = NULL, crs = 
 check_numbers <- function(n, allocation) {
   check_one_of(allocation, "allocation", ALLOCATIONS)
   by_class <- !is.null(names(n))
-  is_right <- length(n) && are_whole(n, if (by_class) 0 else 1, POINTS_LIMIT) &&
-    if (by_class) all(grepl(WHOLE, names(n))) else length(n) == 1L
+  has_classes <- if (by_class) all(grepl(WHOLE, names(n))) else length(n) == 1L
+  is_right <- length(n) && are_whole(n, if (by_class) 0 else 1, POINTS_LIMIT) && has_classes
   rule <- paste(
     "n= must be a whole number from 1 to %.0f, or one for each class, for example",
     "c(\"11\" = 50, \"31\" = 100)"
@@ -48,29 +49,30 @@ check_numbers <- function(n, allocation) {
   check_argument(!by_class || allocation == ALLOCATIONS[[1]], allocation, rule)
 }
 
-# Return how many cells to draw from each class. The remainder goes to the largest fractions.
-divided <- function(n, allocation, class, sizes) {
+# Return how many cells to draw from each class. `n` is a total, or a number for each class.
+divided <- function(n, allocation, classes, sizes) {
   if (!is.null(names(n))) {
     codes <- as.numeric(names(n))
-    lacking <- sort(setdiff(codes, class))
+    lacking <- sort(setdiff(codes, classes))
     if (length(lacking)) {
       bad_argument("n= must name classes that occur in the map; got %.0f", lacking[[1]])
     }
-    wanted <- unname(n[match(class, codes)])
-    return(replace(wanted, is.na(wanted), 0))
+    counts <- unname(n[match(classes, codes)])
+    return(replace(counts, is.na(counts), 0))
   }
   parts <- if (allocation == "proportional") sizes else rep(1, length(sizes))
   whole <- max(sum(parts), 1)
   counts <- (n * parts) %/% whole
-  more <- head(order(-((n * parts) %% whole)), n - sum(counts))
+  fractions <- (n * parts) %% whole # the classes with the largest fractions get the rest
+  more <- head(order(-fractions), n - sum(counts))
   counts[more] <- counts[more] + 1
   counts
 }
 
-warn_of_few <- function(class, sizes, wanted) {
-  few <- which(sizes < wanted)
+warn_of_few <- function(classes, sizes, counts) {
+  few <- which(sizes < counts)
   if (!length(few)) return(invisible())
-  listed <- sprintf("%d (%.0f of %.0f)", class[few], sizes[few], wanted[few])
+  listed <- sprintf("%d (%.0f of %.0f)", classes[few], sizes[few], counts[few])
   warn("some classes have fewer cells than requested: %s", shortened(listed))
 }
 
@@ -79,14 +81,15 @@ warn_of_few <- function(class, sizes, wanted) {
 columns_of <- function(source, class, row, place) {
   col <- integer(length(row))
   width <- source$region$cols
-  before <- 0
+  rows_before <- 0
   each_block(source, function(cells) {
-    until <- before + length(cells) %/% width
-    for (point in which(row > before & row <= until)) {
-      in_row <- cells[(row[[point]] - before - 1) * width + seq_len(width)]
-      col[[point]] <<- which(in_row == class[[point]])[[place[[point]] + 1]]
+    last_row <- rows_before + length(cells) %/% width
+    for (point in which(row > rows_before & row <= last_row)) {
+      cells_of_row <- cells[(row[[point]] - rows_before - 1) * width + seq_len(width)]
+      cols_of_class <- which(cells_of_row == class[[point]])
+      col[[point]] <<- cols_of_class[[place[[point]] + 1]]
     }
-    before <<- until
+    rows_before <<- last_row
   })
   col
 }
@@ -96,22 +99,22 @@ columns_of <- function(source, class, row, place) {
 drawn <- function(key, size, count) {
   count <- min(count, size)
   if (count == 0) return(numeric())
-  limits <- size - count + seq_len(count)
-  last <- count
-  values <- numbers_of(sprintf("%s:%d", key, seq_len(last)))
-  # Skip numbers that would make some positions more likely than others.
+  limits <- size - count + seq_len(count) # each draw is below its limit
+  counter <- count
+  values <- numbers_of(sprintf("%s:%d", key, seq_len(counter)))
+  # Skip numbers from the largest multiple of the limit on, which would make some draws more likely.
   while (!all(is_fair <- values < NUMBERS_OF_A_HASH %/% limits * limits)) {
-    last <- last + 1L
-    values <- c(values[-match(FALSE, is_fair)], numbers_of(sprintf("%s:%d", key, last)))
+    counter <- counter + 1L
+    values <- c(values[-match(FALSE, is_fair)], numbers_of(sprintf("%s:%d", key, counter)))
   }
-  found <- new.env(size = count)
+  numbers <- new.env(size = count) # an environment finds a number by its name in constant time
   for (place in seq_len(count)) {
     number <- values[[place]] %% limits[[place]]
-    name <- sprintf("%.0f", number)
-    if (exists(name, found, inherits = FALSE)) number <- limits[[place]] - 1
-    assign(sprintf("%.0f", number), number, found)
+    is_drawn <- exists(sprintf("%.0f", number), numbers, inherits = FALSE)
+    if (is_drawn) number <- limits[[place]] - 1
+    assign(sprintf("%.0f", number), number, numbers)
   }
-  sort(unlist(as.list(found), use.names = FALSE))
+  sort(unlist(as.list(numbers), use.names = FALSE))
 }
 
 # Return the first 48 bits of each text's SHA-256 as a number, computed from two halves of 24 bits.

@@ -25,8 +25,8 @@ lines_of <- function(script) {
   if (length(lines)) lines else ""
 }
 
-# Return a script that the program accepts for maps with these names: its lines, outputs, the maps
-# that it makes, and their labels.
+# Return a script that the program accepts for maps with these names: its lines, outputs, the names
+# of the maps that it makes (`made`), and their labels.
 accepted <- function(script, names) {
   lines <- lines_of(script)
   path <- program_path()
@@ -65,7 +65,7 @@ statement_of <- function(output) {
 chunks_of <- function(items, size) split(items, (seq_along(items) - 1L) %/% size)
 
 # Return lines that make a map from terms, joined with a separator and inserted into a form. If an
-# expression cannot contain all terms, they are first combined in parts.
+# expression cannot contain all terms, parts of them are combined first.
 combined_lines <- function(map, form, terms, separator, limit) {
   if (length(terms) <= limit) {
     return(sprintf("r.mapcalc %s = %s", map, sprintf(form, paste(terms, collapse = separator))))

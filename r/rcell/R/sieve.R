@@ -9,27 +9,28 @@ DIGITS_OF_CELLS <- 9
 
 rcell_sieve <- function(x, min_cells = NULL, min_ha = NULL, connectivity = 4, drop = FALSE,
                         filename = "", overwrite = FALSE, crs = NULL) {
-  check_selection(connectivity, NULL, NULL)
+  check_selection(connectivity, classes = NULL, min_cells = NULL)
   check_flag(drop, "drop")
   sources <- map_to_write(x, crs, filename, overwrite)
   fewest <- fewest_cells(min_cells, min_ha, sources$map)
   steps <- if (!drop) c(SIDES, if (connectivity == 8) CORNERS)
   lines <- touching_lines("map", connectivity, "patch,map", steps)
-  frames <- run_own(c(lines, "r.out.ascii input=patch"), sources)
+  frames <- run_script(c(lines, "r.out.ascii input=patch"), sources) # patches, pairs, the map
   class <- frames[[1]]$codes[[2]]
-  is_small <- frames[[1]]$cells < fewest
+  cells <- frames[[1]]$cells
+  is_small <- cells < fewest
   new <- replace(class, is_small, NA)
   if (!drop) {
-    touching <- touching_of(frames[seq_along(steps) + 1L], is_small)
-    new <- merged_classes(class, frames[[1]]$cells, touching, fewest)
+    touching <- touching_of(pairs = frames[seq_along(steps) + 1L], is_small)
+    new <- merged_classes(class, cells, touching, fewest)
   }
   raster <- raster_of(frames[[length(frames)]], sources$map, sources$map$labels, "sieved", new)
-  sources$new <- sources$map
+  sources$new <- sources$map # to count the patches and the changed cells of the result
   sources$new[c("name", "raster", "alpha")] <- list("new", raster, NULL)
   lines <- touching_lines("new", connectivity, c("patch", "changed"), if (!drop) SIDES)
-  frames <- run_own(c(CHANGED, lines), sources)
+  frames <- run_script(c(CHANGED, lines), sources)
   raster <- written(raster, filename)
-  attr(raster, "sieved") <- account_of(frames, fewest, length(class))
+  attr(raster, "sieved") <- account_of(frames, fewest, patches_before = length(class))
   raster
 }
 
@@ -49,24 +50,25 @@ fewest_cells <- function(min_cells, min_ha, source) {
   max(1, ceiling(round(min_ha * UNITS[["ha"]] / cell_sizes(source), DIGITS_OF_CELLS)))
 }
 
-# Return lines for tables of patches, and of pairs of patches that are one step apart.
+# Return lines for tables of patches with other maps, and of pairs of patches that are a step apart.
 touching_lines <- function(name, connectivity, tables, steps) {
   other <- "r.mapcalc %1$s = if(patch != patch[%2$s], patch[%2$s], null())"
   pairs <- sprintf("r.stats -cn input=patch,%s", names(steps))
   c(
     clump_line(connectivity, name), sprintf("r.stats -cn input=%s", tables),
-    if (length(steps)) rbind(sprintf(other, names(steps), steps), pairs)
+    if (length(steps)) rbind(sprintf(other, names(steps), steps), pairs) # each map, then its table
   )
 }
 
 # Return the patches that each small patch touches, and how many sides they share (0 at a corner).
-# `starts` and `counts` locate a patch's entries in `near` and `sides`.
-touching_of <- function(frames, is_small) {
-  one <- unlist(lapply(frames, function(frame) frame$codes[[1]]))
-  other <- unlist(lapply(frames, function(frame) frame$codes[[2]]))
-  has_sides <- rep(seq_along(frames) <= length(SIDES), lengths(lapply(frames, `[[`, "cells")))
-  sides <- unlist(lapply(frames, `[[`, "cells")) * has_sides
-  from <- as.integer(c(one, other))
+# `pairs` are tables for SIDES, then CORNERS. `starts` and `counts` locate a patch's entries.
+touching_of <- function(pairs, is_small) {
+  one <- unlist(lapply(pairs, function(table) table$codes[[1]]))
+  other <- unlist(lapply(pairs, function(table) table$codes[[2]]))
+  cells <- lapply(pairs, `[[`, "cells")
+  has_sides <- rep(seq_along(pairs) <= length(SIDES), lengths(cells))
+  sides <- unlist(cells) * has_sides
+  from <- as.integer(c(one, other)) # each pair is an entry of both of its patches
   order <- order(from)
   order <- order[is_small[from[order]]]
   counts <- tabulate(from[order], length(is_small))
@@ -82,23 +84,24 @@ touching_of <- function(frames, is_small) {
 # merged patch keeps the smallest number of its parts, which follow the order of first cells.
 merged_classes <- function(class, cells, touching, fewest) {
   fewest <- min(fewest, sum(as.numeric(cells)) + 1)
-  into <- seq_along(class)
-  parts <- as.list(into)
+  into <- seq_along(class) # the patch into which a patch was merged, or the patch itself
+  parts <- as.list(into) # the original patches in a merged patch
   # Process patches by size, since a patch that grows is larger than all patches processed so far.
-  waiting <- vector("list", fewest - 1)
+  waiting <- vector("list", fewest - 1) # the patches of each size
   small <- which(cells < fewest)
   by_size <- split(small, cells[small])
   waiting[as.integer(names(by_size))] <- by_size
   for (size in seq_along(waiting)) {
     for (patch in sort(waiting[[size]])) {
       if (into[[patch]] != patch || cells[[patch]] != size) next
-      own <- parts[[patch]]
-      from <- sequence(touching$counts[own], touching$starts[own])
-      near <- touching$near[from]
-      while (any((up <- into[near]) != near)) near <- up
-      into[touching$near[from]] <- near
+      own_parts <- parts[[patch]]
+      entries <- sequence(touching$counts[own_parts], touching$starts[own_parts])
+      near <- touching$near[entries]
+      while (any((merged <- into[near]) != near)) near <- merged # follow earlier mergers
+      into[touching$near[entries]] <- near
       touched <- setdiff(near, patch)
-      shared <- tabulate(rep.int(match(near, touched, 0L), touching$sides[from]), length(touched))
+      place <- match(near, touched, nomatch = 0L)
+      shared <- tabulate(rep.int(place, touching$sides[entries]), length(touched)) # sums of sides
       if (!any(shared > 0L)) next
       code <- class[[min(touched[shared == max(shared)])]]
       joined <- c(patch, touched[class[touched] == code])
@@ -113,21 +116,21 @@ merged_classes <- function(class, cells, touching, fewest) {
       cells[[grown]] <- count
     }
   }
-  while (any((up <- into[into]) != into)) into <- up
+  while (any((merged <- into[into]) != into)) into <- merged
   class[into]
 }
 
 # Return the counts of the result, and check that no remaining small patch shares a side with
-# another class.
-account_of <- function(frames, fewest, before) {
+# another class. The frames are tables of patches, of changed cells (0 or 1), and of touching pairs.
+account_of <- function(frames, fewest, patches_before) {
   cells <- frames[[1]]$cells
+  changed <- frames[[2]]
   small <- which(cells < fewest)
   if (any(small %in% unlist(lapply(frames[-(1:2)], `[[`, "codes")))) {
     stop("a small patch still has a neighbour: this is a bug in rcell")
   }
   data.frame(
-    patches_before = before, patches_after = length(cells),
-    cells_changed = sum(frames[[2]]$cells[frames[[2]]$codes[[1]] == 1L]),
-    patches_below = length(small)
+    patches_before = patches_before, patches_after = length(cells),
+    cells_changed = sum(changed$cells[changed$codes[[1]] == 1L]), patches_below = length(small)
   )
 }

@@ -49,30 +49,30 @@ tags_of <- function(text, wrong) {
   places <- tokens$places[is_tag]
   names <- sub(sprintf("(?s)^</?(%s).*$", XML_NAME), "\\1", tags, perl = TRUE)
   is_end <- startsWith(tags, "</")
-  is_open <- !is_end & !endsWith(tags, "/>")
+  is_start <- !is_end & !endsWith(tags, "/>")
   parents <- character(length(tags))
-  around <- ""
+  open <- "" # the open elements, the innermost first; the document has no name
   for (place in seq_along(tags)) {
     if (is_end[[place]]) {
-      if (around[[1]] != names[[place]]) {
-        reason <- sprintf("found </%s>, expected the end of <%s>", names[[place]], around[[1]])
+      if (open[[1]] != names[[place]]) {
+        reason <- sprintf("found </%s>, expected the end of <%s>", names[[place]], open[[1]])
         wrong(places[[place]], reason)
       }
-      around <- around[-1]
+      open <- open[-1]
     }
-    parents[[place]] <- around[[1]]
-    if (is_open[[place]]) around <- c(names[[place]], around)
+    parents[[place]] <- open[[1]]
+    if (is_start[[place]]) open <- c(names[[place]], open)
   }
-  if (length(around) > 1L) wrong(nchar(text, "bytes"), sprintf("<%s> is not closed", around[[1]]))
+  if (length(open) > 1L) wrong(nchar(text, "bytes"), sprintf("<%s> is not closed", open[[1]]))
   list(
     text = tags[!is_end], place = places[!is_end], name = names[!is_end], parent = parents[!is_end]
   )
 }
 
 attributes_of <- function(tag, place, wrong) {
-  found <- regmatches(tag, gregexpr(XML_ATTRIBUTE, tag, perl = TRUE))[[1]]
-  keys <- sub(XML_ATTRIBUTE, "\\1", found, perl = TRUE)
-  texts <- sub(XML_ATTRIBUTE, "\\2\\3", found, perl = TRUE)
+  attributes <- regmatches(tag, gregexpr(XML_ATTRIBUTE, tag, perl = TRUE))[[1]]
+  keys <- sub(XML_ATTRIBUTE, "\\1", attributes, perl = TRUE)
+  texts <- sub(XML_ATTRIBUTE, "\\2\\3", attributes, perl = TRUE) # one of the groups is empty
   if (anyDuplicated(keys)) wrong(place, sprintf("%s occurs twice", keys[duplicated(keys)][[1]]))
   texts <- vapply(texts, resolved, "", place, wrong, USE.NAMES = FALSE)
   names(texts) <- keys
@@ -81,15 +81,15 @@ attributes_of <- function(tag, place, wrong) {
 
 # Replace a text's character references.
 resolved <- function(text, place, wrong) {
-  text <- gsub("[\t\r\n]", " ", text)
-  others <- gsub(XML_REFERENCE, "", text, perl = TRUE)
-  if (grepl("&", others, fixed = TRUE)) {
-    entity <- regmatches(others, regexpr("&[^; ]*;?", others))
+  text <- gsub("[\t\r\n]", " ", text) # as XML requires in attributes
+  rest <- gsub(XML_REFERENCE, "", text, perl = TRUE)
+  if (grepl("&", rest, fixed = TRUE)) {
+    entity <- regmatches(rest, regexpr("&[^; ]*;?", rest))
     wrong(place, sprintf("%s is not one of XML's own entities", entity))
   }
-  references <- gregexpr(XML_REFERENCE, text, perl = TRUE)
-  regmatches(text, references) <- lapply(regmatches(text, references), function(found) {
-    vapply(found, letter_of, "", place, wrong, USE.NAMES = FALSE)
+  places <- gregexpr(XML_REFERENCE, text, perl = TRUE)
+  regmatches(text, places) <- lapply(regmatches(text, places), function(references) {
+    vapply(references, letter_of, "", place, wrong, USE.NAMES = FALSE)
   })
   text
 }

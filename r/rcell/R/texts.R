@@ -43,17 +43,17 @@ parts_of <- function(text, form) {
   # Treat the text as bytes, because R would count letters from its beginning for each match.
   Encoding(text) <- "latin1"
   places <- gregexpr(form, text, perl = TRUE, useBytes = TRUE)[[1]]
-  cut <- function(starts, sizes) {
-    parts <- substring(text, starts, starts + sizes - 1L)
+  cut <- function(starts, ends) {
+    parts <- substring(text, starts, ends - 1L)
     Encoding(parts) <- "UTF-8"
     parts
   }
-  groups <- attr(places, "capture.start")
-  sizes <- attr(places, "capture.length")
+  starts <- attr(places, "capture.start") # a matrix of matches by groups
+  ends <- starts + attr(places, "capture.length")
+  groups <- lapply(seq_len(NCOL(starts)), function(group) cut(starts[, group], ends[, group]))
+  ends <- places + attr(places, "match.length")
   list(
-    places = as.integer(places), texts = cut(places, attr(places, "match.length")),
-    groups = lapply(seq_len(NCOL(groups)), function(group) cut(groups[, group], sizes[, group])),
-    end = max(places + attr(places, "match.length"), 1L)
+    places = as.integer(places), texts = cut(places, ends), groups = groups, end = max(ends, 1L)
   )
 }
 
@@ -74,10 +74,12 @@ separated_values <- function(path, name) {
     line <- lines_at(text, fields$end)
     bad_input(name, "%s, line %d: a quotation mark is not closed", path, line)
   }
-  quoted <- gsub("\"\"", "\"", fields$groups[[1]], fixed = TRUE)
-  content <- paste0(quoted, fields$groups[[2]])
-  ends <- fields$groups[[3]]
-  row <- cumsum(c(TRUE, ends[-length(ends)] != separator))
+  # The groups of a field are its text with quotation marks, or without, and the separator or end.
+  names(fields$groups) <- c("quoted", "plain", "end")
+  quoted <- gsub("\"\"", "\"", fields$groups$quoted, fixed = TRUE)
+  content <- paste0(quoted, fields$groups$plain)
+  ends <- fields$groups$end
+  row <- cumsum(c(TRUE, ends[-length(ends)] != separator)) # after the end of a line
   rows <- unname(split(content, row))
   is_blank <- vapply(rows, function(row) !any(nzchar(trimmed(row))), NA)
   lines <- lines_at(text, fields$places[!duplicated(row)])
@@ -85,7 +87,7 @@ separated_values <- function(path, name) {
 }
 
 # Return columns of a CSV or TSV file or a data frame, as texts. Titles may be in any case and
-# order. `places` names the rows for messages.
+# order. `name` is the argument that names the table, for messages, and `places` names its rows.
 table_of_columns <- function(given, name, needed, optional = character()) {
   columns_of <- if (is.data.frame(given)) frame_columns else file_columns
   table <- columns_of(given, name, needed)
@@ -154,7 +156,7 @@ frame_columns <- function(frame, name, needed) {
   list(titles = titles, column = column, places = sprintf("row %d: ", seq_len(nrow(frame))))
 }
 
-# Check that no label was split at a comma.
+# Check that no label was split at a comma, which makes a row wider than the header.
 check_widths <- function(rows, width, places, name) {
   is_right <- vapply(rows, function(row) {
     length(row) <= width || !any(nzchar(trimmed(row[-seq_len(width)])))

@@ -10,19 +10,20 @@ rcell_zonal <- function(values, zones, quantiles = 0.5, scale = NULL, zone_label
   check_argument(!is.null(zones), zones, "zones= must be a map or polygons")
   if (!is.null(scale)) check_whole_number(scale, "scale", 1, CATEGORY_LIMIT)
   request <- zoned_request(
-    values, zones, NULL, NULL, zone_labels, zone_field, layer, each, crs, "values"
+    values, zones, area = NULL, labels = NULL, zone_labels, zone_field, layer, each, crs,
+    name = "values"
   )
   sources <- request$sources
   sources$values$scale <- scale
   sources$values$remedy <- "; scale = 100 rounds to 1/100"
   table <- count_cells(sources, list(c("zones", "values")))[[1]]
   if (!is.null(scale)) warn("values: rounded to 1/%.0f", scale)
-  zone <- unique(table$codes[[1]])
-  zone_columns <- coded("zone", zone, request$zone_labels)
-  rows <- split(seq_along(table$cells), match(table$codes[[1]], zone))
+  zones <- unique(table$codes[[1]])
+  zone_columns <- coded("zone", zones, request$zone_labels)
+  rows_of_zones <- split(seq_along(table$cells), match(table$codes[[1]], zones))
   numbers <- as.numeric(table$codes[[2]])
-  statistics <- vapply(unname(rows), function(row) {
-    statistics_of(numbers[row], as.numeric(table$cells[row]), quantiles)
+  statistics <- vapply(unname(rows_of_zones), function(rows) { # a column for each zone
+    statistics_of(numbers[rows], as.numeric(table$cells[rows]), quantiles)
   }, numeric(length(MEASURES) + length(quantiles)))
   columns <- lapply(seq_len(nrow(statistics)), function(measure) statistics[measure, ])
   names(columns) <- unique_titles(c(MEASURES, quantile_titles(quantiles)))
@@ -34,19 +35,19 @@ rcell_zonal <- function(values, zones, quantiles = 0.5, scale = NULL, zone_label
   frame_of(c(zone_columns, columns))
 }
 
-# Return the statistics of values in ascending order with their numbers of cells.
+# Return MEASURES and quantiles of values in ascending order with their numbers of cells.
 statistics_of <- function(values, cells, quantiles) {
   count <- sum(cells)
   sum <- sum(values * cells)
   mean <- sum / count
   variance <- sum(cells * (values - mean)^2) / count
-  last <- cumsum(cells)
+  last <- cumsum(cells) # the last position of each value in the sorted list of all cells
   value_at <- function(place) values[findInterval(place, last, left.open = TRUE) + 1L]
-  places <- (count - 1) * quantiles
+  places <- (count - 1) * quantiles # positions from 0, between which values are interpolated
   low <- value_at(floor(places) + 1)
   high <- value_at(pmin(floor(places) + 2, count))
-  between <- low + (high - low) * (places - floor(places))
-  c(count, sum, mean, values[[1]], values[[length(values)]], variance, between)
+  interpolated <- low + (high - low) * (places - floor(places))
+  c(count, sum, mean, values[[1]], values[[length(values)]], variance, interpolated)
 }
 
 # Return column titles, for example q50, or q2_5 for 0.025.

@@ -23,7 +23,7 @@ reference system. For areas, state a system with \code{crs}.
 }
 Cells are whole numbers from -2147483647 to 2147483647. Floating-point cells are accepted if they are whole numbers.
 \code{NA} and \code{NaN} are null, and so are transparent cells (with an alpha of 0). Files that terra misreads are
-errors: rotated rasters, complex cells, rasters with a mask, signed bytes, and 64-bit cells with a nodata value beyond
+rejected: rotated rasters, complex cells, rasters with a mask, signed bytes, and 64-bit cells with a nodata value beyond
 2^53.
 
 All maps of a call must have the same coordinate reference system, and the same rows, columns and edges (to 8 decimals)
@@ -51,7 +51,7 @@ message is a call of \code{\link{rcell_align}} that you can paste. Inherits from
 \code{rcell_killed} \tab A signal killed the program. Field: \code{signal}. \cr
 \code{rcell_missing} \tab The program was not found. \cr
 \code{rcell_wrong_program} \tab The program is not a version of rcell-pipe that this package supports. \cr
-\code{rcell_write_failed} \tab A file could not be written; no part of it is left. Field: \code{path}. \cr
+\code{rcell_write_failed} \tab A file could not be written; no partial file is left. Field: \code{path}. \cr
 }
 An interrupt ends the program and is passed on. No call leaves a process or a temporary file. If R itself is killed,
 unfinished files are removed, and only R's own temporary folder remains. The program then ends with R if the system has
