@@ -53,7 +53,7 @@ def host_of(setting: str, feedback: Any) -> Host:
             feedback.pushWarning(text)
 
     def progress(share: float) -> None:
-        feedback.setProgress(50 * share)
+        feedback.setProgress(50 * share)  # writing the results is the other half
 
     def started(script: str, maps: Mapping[str, Source]) -> None:
         words = [f"{name}={shlex.quote(_path_of(source))}" for name, source in maps.items()]
@@ -108,13 +108,14 @@ def find_program(setting: str = "", name: str = "rcell-pipe") -> str:
         The program does not work as this plugin requires.
     """
     own = os.path.join(_FOLDER, name)
-    variable, known = _PROGRAMS[name]
+    variable, tested = _PROGRAMS[name]
     path = setting if os.path.basename(setting) != "rcell" else _beside(setting, name)
     if setting and name != "rcell-pipe":
         path = _beside(setting, name) if os.path.isfile(_beside(setting, name)) else ""
     path = path or os.environ.get(variable, "")
-    beside = _beside(os.environ["RCELL"], name) if os.environ.get("RCELL") else ""
-    path = path or next(filter(os.path.isfile, [beside, own]), "") or found_on_path(name) or ""
+    beside_rcell = _beside(os.environ["RCELL"], name) if os.environ.get("RCELL") else ""
+    path = path or next(filter(os.path.isfile, [beside_rcell, own]), "")
+    path = path or found_on_path(name) or ""
     if not path:
         raise MissingProgram(
             f"the program {name} was not found: install the plugin from its zip, which contains "
@@ -127,7 +128,7 @@ def find_program(setting: str = "", name: str = "rcell-pipe") -> str:
             f"the program {path} does not exist or is not executable: correct the path under "
             f"{_SETTINGS}, or clear it to use the program in the plugin"
         )
-    return known(path)
+    return tested(path)
 
 
 def _beside(path: str, name: str) -> str:

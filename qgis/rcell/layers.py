@@ -4,6 +4,7 @@
 from __future__ import annotations
 
 import datetime
+import math
 import re
 from collections.abc import Iterator, Sequence
 from dataclasses import dataclass, replace
@@ -37,7 +38,6 @@ from .engine.readers import gdal, ogr
 # The cell counts that this plugin's legends append to labels.
 _COUNT = re.compile(r" \(\d+ cells(, [\d.e+]+ (ha|km2))?\)$")
 _NAME = re.compile(r"[A-Za-z_][A-Za-z0-9_.]{0,63}")
-_LEAST, _GREATEST = float("-inf"), float("inf")
 
 
 def raster_of(layer: QgsRasterLayer, name: str, band: int | None = None) -> Source:
@@ -56,8 +56,8 @@ def raster_of(layer: QgsRasterLayer, name: str, band: int | None = None) -> Sour
     if is_grid(layer.source()):
         raster: Any = open_path(name, layer.source())
     else:
-        nulls, is_used = null_ranges_of(layer, band or 1), _uses_nodata(layer, band or 1)
-        raster = gdal.open_raster(name, layer.source(), band, nulls, is_used, uses_style=False)
+        nulls, uses_nodata = null_ranges_of(layer, band or 1), _uses_nodata(layer, band or 1)
+        raster = gdal.open_raster(name, layer.source(), band, nulls, uses_nodata, uses_style=False)
     crs = wkt_of(layer.crs())
     # QGIS may have another name for the file's reference system, so the layer's system is used only
     # if the user chose it.
@@ -91,6 +91,7 @@ def reference_of(layer: Any) -> Any:
     if layer.geometryType() != QgsWkbTypes.NullGeometry:
         return features
     rows = [tuple(map(plain, attributes)) for _, attributes, _ in features.rows]
+    # These are the parts of a DataFrame that the core uses.
     return SimpleNamespace(
         columns=features.fields, itertuples=lambda **_: rows, files=features.files
     )
@@ -137,9 +138,9 @@ class FeatureLayer:
 
     def features(self, field: Optional[str]) -> Iterator[Feature]:
         """Yield the features in order, with their values of a field."""
-        place = -1 if field is None else self.fields.index(field)
+        place = None if field is None else self.fields.index(field)
         for number, attributes, wkb in self.rows:
-            value = None if field is None else plain(attributes[place])
+            value = None if place is None else plain(attributes[place])
             yield ogr.feature_of(self.name, number, value, wkb)
 
     def burn(
@@ -155,9 +156,9 @@ class FeatureLayer:
 
 def plain(value: Any) -> Any:
     """Convert an attribute to a Python object, or return None if the attribute is missing."""
-    if value is None or value == NO_VALUE or value != value:
+    if value is None or value == NO_VALUE or value != value:  # the last is NaN
         return None
-    for method in ("toPyDateTime", "toPyDate", "toPyTime"):
+    for method in ("toPyDateTime", "toPyDate", "toPyTime"):  # of QDateTime, QDate and QTime
         if hasattr(value, method):
             moment: datetime.date | datetime.time = getattr(value, method)()
             return moment
@@ -229,13 +230,14 @@ def null_ranges_of(layer: QgsRasterLayer, band: int) -> list[tuple[float, float]
 
 
 def _bounds(span: QgsRasterRange) -> tuple[float, float]:
-    least, greatest = span.min(), span.max()
+    low, high = span.min(), span.max()
     # Categories are whole numbers, so an exclusive limit is moved by 1.
     if span.bounds() in (QgsRasterRange.IncludeMax, QgsRasterRange.Exclusive):
-        least = float(int(least // 1) + 1)
+        low = float(math.floor(low) + 1)
     if span.bounds() in (QgsRasterRange.IncludeMin, QgsRasterRange.Exclusive):
-        greatest = float(-int(-greatest // 1) - 1)
-    return (_LEAST if least != least else least), (_GREATEST if greatest != greatest else greatest)
+        high = float(math.ceil(high) - 1)
+    # A missing limit is NaN in QGIS.
+    return (-math.inf if math.isnan(low) else low), (math.inf if math.isnan(high) else high)
 
 
 def names_of(layers: Sequence[QgsRasterLayer], text: str) -> list[str]:
@@ -269,8 +271,8 @@ def made_names(titles: Sequence[str]) -> list[str]:
     """Make script names from titles, with `_` in place of invalid characters."""
     names: list[str] = []
     for title in titles:
-        plain = re.sub(r"[^A-Za-z0-9_.]", "_", title)[:60] or "_"
-        base = plain if _NAME.fullmatch(plain) else f"_{plain}"
+        valid = re.sub(r"[^A-Za-z0-9_.]", "_", title)[:60] or "_"  # with room for a number
+        base = valid if _NAME.fullmatch(valid) else f"_{valid}"
         number, name = 2, base
         while name in names:
             number, name = number + 1, f"{base}_{number}"

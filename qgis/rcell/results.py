@@ -94,9 +94,9 @@ def put_legend(
     style = os.path.splitext(path)[0] + ".qml"
     if not os.path.isfile(path):
         return True
-    if not 0 < len(classes) <= MOST_CLASSES:
+    if not classes or len(classes) > MOST_CLASSES:
         with contextlib.suppress(OSError):
-            os.unlink(style)
+            os.unlink(style)  # of an earlier raster
         return not classes
     # With the default style, QGIS would compute the map's statistics and write them to a file.
     options = QgsRasterLayer.LayerOptions(loadDefaultStyle=False)
@@ -109,7 +109,8 @@ def put_legend(
     ]
     layer.setRenderer(QgsPalettedRasterRenderer(layer.dataProvider(), 1, entries))
     with partly(style) as part:
-        if not layer.saveNamedStyle(part)[1]:
+        _message, is_saved = layer.saveNamedStyle(part)
+        if not is_saved:
             raise WriteFailed(f"{style} cannot be written: the style could not be saved")
     if context.willLoadLayerOnCompletion(path):
         _styles.append(_Style(style))

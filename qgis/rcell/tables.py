@@ -30,11 +30,12 @@ _CHECKED_ROWS = 1 << 14
 # The ending of the file that GDAL writes next to a raster.
 _BESIDE = ".aux.xml"
 _ENDING = (signal.SIGHUP, signal.SIGQUIT, signal.SIGTERM)
-_TYPES = {
-    "class": ("Integer64", ogr.OFTInteger64),
-    "count": ("Integer64", ogr.OFTInteger64),
-    "measure": ("Real", ogr.OFTReal),
-    "label": ("String", ogr.OFTString),
+_CSV_TYPES = {"class": "Integer64", "count": "Integer64", "measure": "Real", "label": "String"}
+_OGR_TYPES = {
+    "class": ogr.OFTInteger64,
+    "count": ogr.OFTInteger64,
+    "measure": ogr.OFTReal,
+    "label": ogr.OFTString,
 }
 
 Check = Callable[[], None]
@@ -67,8 +68,8 @@ def check_target(path: str, inputs: Sequence[str] = ()) -> None:
         raise _failed(path, f"the folder {folder} is not writable")
 
 
-def _failed(path: str, text: str) -> WriteFailed:
-    return WriteFailed(f"{path} cannot be written: {text}")
+def _failed(path: str, reason: str) -> WriteFailed:
+    return WriteFailed(f"{path} cannot be written: {reason}")
 
 
 # Tables
@@ -126,8 +127,9 @@ def _write_csv(part: str, types: str, columns: list[Column], check: Check) -> No
     text = table_text("csv", [column.name for column in columns], list(rows))
     with open(part, "w", encoding="utf-8", newline="") as file:
         file.write(text)
+    csv_types = [f'"{_CSV_TYPES[column.kind]}"' for column in columns]
     with open(types, "w", encoding="utf-8") as file:
-        file.write(",".join(f'"{_TYPES[column.kind][0]}"' for column in columns) + "\n")
+        file.write(",".join(csv_types) + "\n")
 
 
 def _write_geopackage(part: str, name: str, columns: list[Column], check: Check) -> None:
@@ -136,12 +138,13 @@ def _write_geopackage(part: str, name: str, columns: list[Column], check: Check)
     count = len(values[0])
     with quiet():
         gdal.ErrorReset()
-        identifier = _make_geopackage(part, name, columns)
-        if not identifier:
+        listed = _make_geopackage(part, name, columns)
+        if not listed:
             raise OSError(gdal.GetLastErrorMsg() or "the disk may be full")
-        rows = _checked(zip(range(1, count + 1), *values), check)
+        row_ids = range(1, count + 1)
+        rows = _checked(zip(row_ids, *values), check)
         try:
-            _insert(part, name, identifier, rows, count)
+            _insert(part, name, listed, rows, count)
         except sqlite3.Error as error:
             raise OSError(str(error)) from None
         written = ogr.Open(part)
@@ -149,23 +152,21 @@ def _write_geopackage(part: str, name: str, columns: list[Column], check: Check)
             raise OSError(gdal.GetLastErrorMsg() or "the disk may be full")
 
 
-def _insert(part: str, name: str, identifier: str, rows: Iterable[Any], count: int) -> None:
-    """Insert rows without the table's triggers, which would count each row."""
+def _insert(part: str, name: str, listed: str, rows: Iterable[Any], count: int) -> None:
+    """Insert rows into the listed columns without the table's triggers, which would count rows."""
     with contextlib.closing(sqlite3.connect(part)) as connection, connection:
         triggers = connection.execute(
             "SELECT name, sql FROM sqlite_master WHERE type = 'trigger' AND tbl_name = ?", [name]
         ).fetchall()
         for trigger, _ in triggers:
             connection.execute(f"DROP TRIGGER {_quoted(trigger)}")
-        places = ",".join("?" * (identifier.count(", ") + 1))
-        connection.executemany(
-            f"INSERT INTO {_quoted(name)} ({identifier}) VALUES ({places})", rows
-        )
+        places = ",".join("?" * (listed.count(", ") + 1))
+        connection.executemany(f"INSERT INTO {_quoted(name)} ({listed}) VALUES ({places})", rows)
         connection.execute(
             "UPDATE gpkg_ogr_contents SET feature_count = ? WHERE table_name = ?", [count, name]
         )
-        for _, text in triggers:
-            connection.execute(text)
+        for _, create_trigger in triggers:
+            connection.execute(create_trigger)
 
 
 def _make_geopackage(part: str, name: str, columns: list[Column]) -> str:
@@ -179,7 +180,7 @@ def _make_geopackage(part: str, name: str, columns: list[Column]) -> str:
     if layer is None:
         return ""
     for column in columns:
-        layer.CreateField(ogr.FieldDefn(column.name, _TYPES[column.kind][1]))
+        layer.CreateField(ogr.FieldDefn(column.name, _OGR_TYPES[column.kind]))
     names = [layer.GetFIDColumn(), *(column.name for column in columns)]
     return ", ".join(map(_quoted, names)) if _flushed(source) else ""
 
@@ -261,14 +262,14 @@ def _write_tiff(
     names: Sequence[str],
 ) -> bool:
     """Write a GeoTIFF with a band for each layer of cells and return whether that succeeded."""
-    layers = cells if cells.ndim == 3 else cells[None]
+    layers = cells if cells.ndim == 3 else cells[None]  # with the dimension of bands
     count, rows, cols = layers.shape
     kind = gdal.GDT_Float64 if cells.dtype.kind == "f" else gdal.GDT_Int32
     dataset = gdal.GetDriverByName("GTiff").Create(path, cols, rows, count, kind, _OPTIONS)
     if dataset is None:
         return False
-    width, b, west, d, height, north = like.transform
-    dataset.SetGeoTransform((west, width, b, north, d, height))
+    width, row_skew, west, column_skew, height, north = like.transform
+    dataset.SetGeoTransform((west, width, row_skew, north, column_skew, height))
     if like.crs:
         dataset.SetProjection(like.crs)
     step = max(1, BLOCK_CELLS // cols)
@@ -343,15 +344,15 @@ def _removed_on_signals() -> Iterator[None]:
         raise SystemExit(128 + number)
 
     is_main = threading.current_thread() is threading.main_thread()
-    ending = [
+    handled = [
         number for number in _ENDING if is_main and signal.getsignal(number) == signal.SIG_DFL
     ]
-    for number in ending:
+    for number in handled:
         signal.signal(number, end)
     try:
         yield
     finally:
-        for number in ending:
+        for number in handled:
             signal.signal(number, signal.SIG_DFL)
         if caught:
             os.kill(os.getpid(), caught[0])

@@ -37,7 +37,7 @@ class AccuracyAlgorithm(RcellAlgorithm):
         ),
         noop(
             "<p>If the sample was drawn class by class, the accuracies depend on the class areas, "
-            "which are counted in the map or read from a CSV with value,area. The equations are "
+            "which are counted in the map or read from a CSV file with value,area. The equations are "
             "in Olofsson et al. (2014).</p>"
         ),
         noop(
@@ -51,7 +51,7 @@ class AccuracyAlgorithm(RcellAlgorithm):
         self.add_raster()
         kinds = [QgsProcessing.TypeRaster, QgsProcessing.TypeVector]
         title = tr("Reference: a raster, points or a table")
-        self.addParameter(QgsProcessingParameterMapLayer("REFERENCE", title, None, False, kinds))
+        self.addParameter(QgsProcessingParameterMapLayer("REFERENCE", title, types=kinds))
         self.add_text("FIELD", tr("Field with the class of each point"))
         self.add_choice("AREAS", tr("Class areas"), SIZES)
         self.add_file("AREAS_FILE", tr("Class areas: a CSV with value,area"))
@@ -59,8 +59,8 @@ class AccuracyAlgorithm(RcellAlgorithm):
         self.add_labels()
         self.add_crs()
         self.add_table()
-        self.add_table(tr("Matrix"), "MATRIX", True)
-        self.add_table(tr("Summary"), "SUMMARY", True)
+        self.add_table(tr("Matrix"), "MATRIX", is_optional=True)
+        self.add_table(tr("Summary"), "SUMMARY", is_optional=True)
 
     def read(self) -> None:
         """Read the raster and the reference."""
@@ -72,13 +72,13 @@ class AccuracyAlgorithm(RcellAlgorithm):
 
     def answer(self) -> dict[str, Any]:
         """Write the table and, if requested, the matrix and the summary."""
-        sizes = self.word("AREAS")
+        counted_areas = "map" if self.word("AREAS") == "map" else None
         result = self.called(
             accuracy,
             self.rasters[0],
             self.reference,
             part="classes",
-            areas=self.path("AREAS_FILE") or (None if sizes == SIZES[0] else sizes),
+            areas=self.path("AREAS_FILE") or counted_areas,
             area=self.area(),
             field=self.text("FIELD") or None,
             labels=self.labels(),
@@ -92,7 +92,7 @@ class AccuracyAlgorithm(RcellAlgorithm):
 
     def inputs(self) -> list[str]:
         """Return the input files."""
-        return [*super().inputs(), *getattr(self.reference, "files", ())]
+        return [*super().inputs(), *self.reference.files]
 
 
 class SampleAlgorithm(RcellAlgorithm):

@@ -64,16 +64,16 @@ class AlignAlgorithm(RcellAlgorithm):
         to = self.parameterAsRasterLayer(self.parameter_values, "TO", self.context)
         if to is None or not to.isValid():
             raise_unreadable(self.parameter_values.get("TO"))
-        self.rasters = [self.raster(), raster_of(to, to.name(), 1)]
+        self.rasters = [self.raster(), raster_of(to, to.name(), band=1)]  # any band has the grid
 
     def answer(self) -> dict[str, Any]:
         """Write the map and return the numbers of cells that were used, repeated and lost."""
-        resample = self.word("RESAMPLE")
-        way = None if resample == RESAMPLINGS[0] else resample
-        raster, aligned = align(self.rasters[0], self.rasters[1], way, crs=self.crs())
+        map, to = self.rasters
+        resample = "nearest" if self.word("RESAMPLE") == "nearest" else None
+        raster, aligned = align(map, to, resample, crs=self.crs())
         facts = aligned._asdict()
         self.feedback.pushInfo(
             ", ".join(f"{name}: {value:.15g}" for name, value in facts.items() if value is not None)
         )
-        path = self.put_map(raster, named_classes(raster), like=self.rasters[1])
+        path = self.put_map(raster, named_classes(raster), like=to)
         return {"OUTPUT": path, **{name.upper(): value for name, value in facts.items()}}

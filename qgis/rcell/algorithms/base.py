@@ -164,7 +164,8 @@ class RcellAlgorithm(QgsProcessingAlgorithm):
                 self.read()
             if self.IS_OF_ONE_RASTER:
                 layer = self.parameterAsRasterLayer(parameters, "INPUT", context)
-                self.colours = colours_of(layer, getattr(self.rasters[0], "band", 1))
+                band = getattr(self.rasters[0], "band", 1)  # a text grid has only one band
+                self.colours = colours_of(layer, band)
         except RcellError as error:
             raise QgsProcessingException(str(error)) from None
         return True
@@ -234,7 +235,8 @@ class RcellAlgorithm(QgsProcessingAlgorithm):
     def add_band(self) -> None:
         """Add the parameter for the band of `INPUT`."""
         title = tr("Band (required if the raster has several)")
-        self.addParameter(QgsProcessingParameterBand("BAND", title, None, "INPUT", True))
+        of_input = {"parentLayerParameterName": "INPUT", "optional": True}
+        self.addParameter(QgsProcessingParameterBand("BAND", title, **of_input))
 
     def add_crs(self) -> None:
         """Add the parameter for the reference system of rasters that have none."""
@@ -252,19 +254,17 @@ class RcellAlgorithm(QgsProcessingAlgorithm):
     def add_count(self, name: str, title: str, most: int = 2**31 - 1, default: int = 1) -> None:
         """Add a parameter for a positive number."""
         kind = QgsProcessingParameterNumber.Integer
-        parameter = QgsProcessingParameterNumber(name, title, kind, default, False, 1, most)
-        self.addParameter(parameter)
+        limits = {"minValue": 1, "maxValue": most}
+        self.addParameter(QgsProcessingParameterNumber(name, title, kind, default, **limits))
 
     def add_area(self) -> None:
         """Add the parameter for the unit of areas."""
         self.add_choice("AREA", tr("Unit of areas"), AREAS)
 
-    def add_labels(self, name: str = "LABELS", of: str = "") -> None:
+    def add_labels(self) -> None:
         """Add the parameter for a legend in a file."""
-        title = of or tr(
-            "Class labels: a CSV with value,label or a style (empty: the layer's labels)"
-        )
-        self.add_file(name, title)
+        title = tr("Class labels: a CSV with value,label or a style (empty: the layer's labels)")
+        self.add_file("LABELS", title)
 
     def add_file(self, name: str, title: str) -> None:
         """Add a parameter for a legend or a crosswalk in a file."""
@@ -275,41 +275,40 @@ class RcellAlgorithm(QgsProcessingAlgorithm):
         """Add the parameters for zones and their labels."""
         kinds = [QgsProcessing.TypeRaster, QgsProcessing.TypeVectorPolygon]
         title = tr("Zones: a raster or polygons")
-        self.addParameter(QgsProcessingParameterMapLayer("ZONES", title, None, is_optional, kinds))
+        self.addParameter(
+            QgsProcessingParameterMapLayer("ZONES", title, optional=is_optional, types=kinds)
+        )
         self.add_text("ZONE_FIELD", tr("Polygon field with the ids or names of the zones"))
         title = tr("Zone labels: a CSV with value,label or a style (empty: the layer's labels)")
-        self.add_labels("ZONE_LABELS", title)
+        self.add_file("ZONE_LABELS", title)
 
     def add_text(self, name: str, title: str, default: Optional[str] = None) -> None:
         """Add a parameter for an optional text."""
-        self.addParameter(QgsProcessingParameterString(name, title, default, False, True))
+        self.addParameter(QgsProcessingParameterString(name, title, default, optional=True))
 
     def add_lines(self, name: str, title: str, default: Optional[str] = None) -> None:
         """Add a parameter for lines of text."""
-        self.addParameter(QgsProcessingParameterString(name, title, default, True))
+        self.addParameter(QgsProcessingParameterString(name, title, default, multiLine=True))
 
     def add_choice(self, name: str, title: str, words: Sequence[str]) -> None:
         """Add a parameter for a choice of words, the first of which is the default."""
-        self.addParameter(
-            QgsProcessingParameterEnum(name, title, words, False, words[0], False, True)
-        )
+        options = {"options": words, "defaultValue": words[0], "usesStaticStrings": True}
+        self.addParameter(QgsProcessingParameterEnum(name, title, **options))
 
     def add_flag(self, name: str, title: str) -> None:
         """Add a yes-or-no parameter, with no as the default."""
-        self.addParameter(QgsProcessingParameterBoolean(name, title, False))
+        self.addParameter(QgsProcessingParameterBoolean(name, title, defaultValue=False))
 
     def add_map(self, title: str, name: str = "OUTPUT", is_optional: bool = False) -> None:
         """Add the parameter for an output map."""
-        self.addParameter(QgsProcessingParameterRasterDestination(name, title, None, is_optional))
+        parameter = QgsProcessingParameterRasterDestination(name, title, optional=is_optional)
+        self.addParameter(parameter)
 
     def add_table(self, title: str = "", name: str = "OUTPUT", is_optional: bool = False) -> None:
         """Add the parameter for an output table."""
-        kind = QgsProcessing.TypeVector
-        self.addParameter(
-            QgsProcessingParameterFeatureSink(
-                name, title or tr("Table"), kind, None, is_optional, not is_optional
-            )
-        )
+        kind, title = QgsProcessing.TypeVector, title or tr("Table")
+        presence = {"optional": is_optional, "createByDefault": not is_optional}
+        self.addParameter(QgsProcessingParameterFeatureSink(name, title, kind, **presence))
         if name == "OUTPUT":
             self.add_flag("RECORD", tr("Write a record, which Verify can check (CSV tables only)"))
 
@@ -362,7 +361,7 @@ class RcellAlgorithm(QgsProcessingAlgorithm):
     def called(
         self, call: Callable[..., Any], *words: Any, part: Optional[str] = None, **named: Any
     ) -> Any:
-        """Run a call that returns a table, and record the call on request.
+        """Run a call and record it on request, with the table `part` if it returns several tables.
 
         Raises
         ------
@@ -371,9 +370,9 @@ class RcellAlgorithm(QgsProcessingAlgorithm):
         """
         result, path = call(*words, **named), self.record_path()
         if path:
-            files = [self.file_of(word) for word in words]
-            options = {name: self.file_of(value) for name, value in named.items()}
-            self.recorded = make(path, call, files, options, part)
+            file_words = [self.file_of(word) for word in words]
+            file_named = {name: self.file_of(value) for name, value in named.items()}
+            self.recorded = make(path, call, file_words, file_named, part)
             if csv_of(self.recorded.table) != csv_of(table_of(result, part)):
                 raise Refused(
                     "RECORD describes files, but these layers have values, labels or features that "
@@ -394,7 +393,7 @@ class RcellAlgorithm(QgsProcessingAlgorithm):
         return files[0] if files else argument
 
     def has_band(self) -> bool:
-        """Return whether a band is chosen."""
+        """Return whether a band is chosen. For no band, QGIS may also pass -1 or 0."""
         return self.parameter_values.get("BAND") not in (None, "", -1, 0)
 
     def raster(self) -> Source:
@@ -441,7 +440,8 @@ class RcellAlgorithm(QgsProcessingAlgorithm):
         if not values:
             raise Refused("INPUT must have at least one raster; got none", status=2)
         layers = self.parameterAsLayerList(self.parameter_values, "INPUT", self.context)
-        for place, value in enumerate(values if len(layers) < len(values) else []):
+        is_lacking = len(layers) < len(values)  # QGIS leaves out layers that it cannot read
+        for place, value in enumerate(values if is_lacking else []):
             if not self.parameterAsLayerList({"INPUT": [value]}, "INPUT", self.context):
                 raise_unreadable(value, names[place] if place < len(names) else "")
         if len(layers) > most:
@@ -466,9 +466,10 @@ class RcellAlgorithm(QgsProcessingAlgorithm):
     def targets(self) -> list[str]:
         """Return the output files, after checking that they can be written."""
         destinations = self.destinationParameterDefinitions()
-        files = [each.name() for each in destinations if each.type() != "folderDestination"]
-        paths = list(filter(None, (plain_path(self.parameter_values.get(name)) for name in files)))
-        paths += filter(None, [self.record_path() and f"{self.record_path()}.json"])
+        names = [each.name() for each in destinations if each.type() != "folderDestination"]
+        paths = list(filter(None, (plain_path(self.parameter_values.get(name)) for name in names)))
+        if self.record_path():
+            paths.append(f"{self.record_path()}.json")
         for path in paths:
             check_target(path, self.inputs())
         return paths
@@ -512,14 +513,9 @@ class RcellAlgorithm(QgsProcessingAlgorithm):
                 self.recorded.write(target, version())
             return target
         self.check()
-        nowhere = QgsCoordinateReferenceSystem()
+        fields, no_crs = fields_of(table), QgsCoordinateReferenceSystem()
         sink, target = self.parameterAsSink(
-            self.parameter_values,
-            name,
-            self.context,
-            fields_of(table),
-            QgsWkbTypes.NoGeometry,
-            nowhere,
+            self.parameter_values, name, self.context, fields, QgsWkbTypes.NoGeometry, no_crs
         )
         if sink is None:
             raise QgsProcessingException(self.invalidSinkError(self.parameter_values, name))
@@ -592,7 +588,7 @@ def plain_path(value: Any) -> str:
 
 
 def raise_unreadable(value: Any, name: str = "") -> None:
-    """Raise an error that explains why a raster cannot be read.
+    """Raise an error that explains why a raster, given as a path or a layer, cannot be read.
 
     For a path, the error contains GDAL's message.
 
@@ -600,7 +596,8 @@ def raise_unreadable(value: Any, name: str = "") -> None:
     ------
     ReadFailed
     """
-    text = value if isinstance(value, str) else getattr(value, "name", lambda: "raster")()
+    name_of = getattr(value, "name", lambda: "raster")  # a method of layers
+    text = value if isinstance(value, str) else name_of()
     title = name or os.path.splitext(os.path.basename(text))[0] or "raster"
-    open_dataset(title, text)
+    open_dataset(title, text)  # raises GDAL's error
     raise ReadFailed(title, f"cannot open: {text} is not a raster")

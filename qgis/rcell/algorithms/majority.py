@@ -79,17 +79,17 @@ class WithinAlgorithm(RcellAlgorithm):
 
     def check_words(self) -> None:
         """Check the lists of numbers."""
-        self.lists()
+        self.classes_and_distances()
 
-    def lists(self) -> list[list[float]]:
+    def classes_and_distances(self) -> list[list[float]]:
         """Return the classes and the distances."""
         return [numbers_of(self.text(name.upper()), name) for name in ("classes", "distances")]
 
     def answer(self) -> dict[str, Any]:
         """Write the map and return its path."""
-        classes, distances = self.lists()
+        classes, distances = self.classes_and_distances()
         raster = within(self.rasters[0], map(int, classes), distances, crs=self.crs())
-        self.colours = {}
+        self.colours = {}  # the classes are new
         return {"OUTPUT": self.put_map(raster, named_classes(raster))}
 
 
@@ -117,17 +117,16 @@ class AggregateAlgorithm(RcellAlgorithm):
         self.add_count("FACTOR", tr("Rows and columns per block"), default=10)
         kind = QgsProcessingParameterNumber.Double
         title = tr("Minimum percentage of a block's cells that must have data")
-        self.addParameter(
-            QgsProcessingParameterNumber("MIN_PERCENT", title, kind, 0, False, 0, 100)
-        )
+        limits = {"defaultValue": 0, "minValue": 0, "maxValue": 100}
+        self.addParameter(QgsProcessingParameterNumber("MIN_PERCENT", title, kind, **limits))
         self.add_crs()
         self.add_map(tr("Most frequent class"))
-        self.add_map(tr("Shares of classes"), "SHARES", True)
+        self.add_map(tr("Shares of classes"), "SHARES", is_optional=True)
 
     def answer(self) -> dict[str, Any]:
         """Write the map and, if requested, the shares."""
-        least = self.parameterAsDouble(self.parameter_values, "MIN_PERCENT", self.context)
-        result = aggregate(self.rasters[0], self.number("FACTOR"), least, crs=self.crs())
+        min_percent = self.parameterAsDouble(self.parameter_values, "MIN_PERCENT", self.context)
+        result = aggregate(self.rasters[0], self.number("FACTOR"), min_percent, crs=self.crs())
         raster = result.majority
         results = {"OUTPUT": self.put_map(raster, named_classes(raster), like=raster)}
         if self.parameter_values.get("SHARES"):

@@ -62,7 +62,7 @@ class ClumpAlgorithm(_OfPatches):
         """Write the map and return its path."""
         connectivity, fewest = int(self.word("CONNECTIVITY")), self.number("MIN_CELLS")
         raster = clump(self.rasters[0], connectivity, self.classes(), fewest, crs=self.crs())
-        self.colours = {}
+        self.colours = {}  # patches have other numbers than classes
         return {"OUTPUT": self.put_map(raster, named_classes(raster), null=0)}
 
 
@@ -103,13 +103,13 @@ class PatchesAlgorithm(_OfPatches):
         self.add_raster()
         self.add_patches()
         self.add_area()
-        self.add_count("CORE_DEPTH", tr("Core depth in cells"), MOST_CORE_DEPTH)
+        self.add_count("CORE_DEPTH", tr("Core depth in cells"), most=MOST_CORE_DEPTH)
         self.add_zones()
         self.add_flag("EACH", tr("Process overlapping polygons separately"))
         self.add_labels()
         self.add_crs()
         self.add_table()
-        self.add_map(tr("Map of patches"), "MAP", True)
+        self.add_map(tr("Map of patches"), "MAP", is_optional=True)
         self.addOutput(QgsProcessingOutputNumber("PATCHES", tr("Number of patches")))
 
     def read(self) -> None:
@@ -136,11 +136,8 @@ class PatchesAlgorithm(_OfPatches):
             each=self.flag("EACH"),
             **zoning,
         )
-        self.colours = {}
-        results = {
-            "PATCHES": len(table),
-            "OUTPUT": self.put_table("OUTPUT", table),
-        }
+        self.colours = {}  # patches have other numbers than classes
+        results = {"PATCHES": len(table), "OUTPUT": self.put_table("OUTPUT", table)}
         if self.parameter_values.get("MAP"):
             clumps = clump(raster, connectivity, classes, min_cells, crs=zoning["crs"])
             legend = _legend(table, raster, zoning["crs"])
@@ -177,9 +174,9 @@ class SieveAlgorithm(RcellAlgorithm):
         self.add_raster()
         number = QgsProcessingParameterNumber
         title = tr("Minimum number of cells in a patch")
-        self.addParameter(number("MIN_CELLS", title, number.Integer, None, True, 1))
+        self.addParameter(number("MIN_CELLS", title, number.Integer, optional=True, minValue=1))
         title = tr("Minimum area of a patch in hectares (instead of cells)")
-        self.addParameter(number("MIN_HA", title, number.Double, None, True, 0))
+        self.addParameter(number("MIN_HA", title, number.Double, optional=True, minValue=0))
         self.add_choice("CONNECTIVITY", tr("Connectivity"), CONNECTIVITIES)
         self.add_flag("DROP", tr("Remove small patches instead of merging them"))
         self.add_crs()
@@ -193,14 +190,13 @@ class SieveAlgorithm(RcellAlgorithm):
             name: self.parameter_values.get(name) not in (None, "")
             for name in ("MIN_CELLS", "MIN_HA")
         }
-        fewest = self.number("MIN_CELLS") if has_limit["MIN_CELLS"] else None
-        area = self.parameterAsDouble(self.parameter_values, "MIN_HA", self.context)
+        hectares = self.parameterAsDouble(self.parameter_values, "MIN_HA", self.context)
         sieved, facts = sieve(
             self.rasters[0],
-            fewest,
-            area if has_limit["MIN_HA"] else None,
-            int(self.word("CONNECTIVITY")),
-            self.flag("DROP"),
+            min_cells=self.number("MIN_CELLS") if has_limit["MIN_CELLS"] else None,
+            min_ha=hectares if has_limit["MIN_HA"] else None,
+            connectivity=int(self.word("CONNECTIVITY")),
+            drop=self.flag("DROP"),
             crs=self.crs(),
         )
         path = self.put_map(sieved, named_classes(sieved))

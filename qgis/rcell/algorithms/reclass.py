@@ -65,9 +65,9 @@ class ReclassAlgorithm(RcellAlgorithm):
         if crosswalk is None:
             reclassified = _reclassed(raster, self.text("RULES"))
         else:
-            reclassified = reclass(raster, crosswalk, None if other == OTHERS[0] else other)
-        self.colours = {}
-        classes = counted_classes(reclassified, raster, None)
+            reclassified = reclass(raster, crosswalk, None if other == "error" else other)
+        self.colours = {}  # the classes are new
+        classes = counted_classes(reclassified, raster, crs=None)
         return {"OUTPUT": self.put_map(reclassified, classes)}
 
 
@@ -86,8 +86,8 @@ def _reclassed(raster: Source, rules: str) -> ArrayMap:
     except Refused:  # the rules lack a line `end`, or contain an error, which the run reports
         script += "\nend"
     try:
-        return Run(script, {"map": raster}, {}).maps(["classes"])[0]
-    except Refused as refusal:
+        return Run(script, {"map": raster}, named={}).maps(["classes"])[0]
+    except Refused as refusal:  # the rules begin in line 2 of the script
         if refusal.source == "script" and 2 <= refusal.line <= len(lines) + 1:
             refusal.source, refusal.line = "rules", refusal.line - 1
         raise

@@ -76,13 +76,13 @@ class ScriptAlgorithm(RcellAlgorithm):
         self.add_text("MAP", tr("Name of the output map (empty: the only map of the script)"))
         self.add_choice("AREA", tr("Unit of areas in the table"), AREAS)
         self.add_flag("PERCENT", tr("Add percentages to the table"))
-        table = QgsProcessing.TypeVector
-        for kind, words in (
+        any_table = QgsProcessing.TypeVector
+        for parameter, arguments in (
             (QgsProcessingParameterRasterDestination, ("OUTPUT", tr("Map"))),
-            (QgsProcessingParameterFeatureSink, ("TABLE", tr("Table"), table)),
+            (QgsProcessingParameterFeatureSink, ("TABLE", tr("Table"), any_table)),
             (QgsProcessingParameterFolderDestination, ("FOLDER", tr("Folder for all outputs"))),
         ):
-            self.addParameter(kind(*words, optional=True, createByDefault=False))
+            self.addParameter(parameter(*arguments, optional=True, createByDefault=False))
         self.add_crs()
 
     def check_words(self) -> None:
@@ -93,7 +93,7 @@ class ScriptAlgorithm(RcellAlgorithm):
         try:
             plan = self._plan()
         except Refused as error:
-            if error.content is not None:
+            if error.content is not None:  # a line of the script
                 return
             raise
         self._wanted(plan)
@@ -115,11 +115,11 @@ class ScriptAlgorithm(RcellAlgorithm):
         """Write the requested outputs of the script."""
         wanted = self._wanted(self._plan())
         maps = {raster.name: raster for raster in self.rasters}
-        run = Run(self._script(), maps, {}, self.crs())
+        run = Run(self._script(), maps, named={}, crs=self.crs())
         outputs = self._measured(run, [wanted] if wanted else [])
         results: dict[str, Any] = {}
         if wanted:
-            raster_map = outputs.pop()
+            raster_map = outputs.pop()  # the requested map is the last output
             classes = counted_classes(raster_map, run.first, run.crs)
             results["OUTPUT"] = self.put_map(raster_map, classes)
         tables = [output for _, output in outputs if isinstance(output, Table)]
@@ -134,23 +134,22 @@ class ScriptAlgorithm(RcellAlgorithm):
         return results
 
     def _measured(self, run: Run, wanted: list[str]) -> list[Any]:
-        """Run the script and return each output with its line number.
+        """Run the script and return each output with its line number, then the requested map.
 
-        Tables contain areas and percentages if they are requested. Maps have line 0, and the
-        requested map is the last output.
+        Tables contain areas and percentages if they are requested. Maps have line 0.
         """
         unit = self.word("AREA")
-        measure = None if unit == AREAS[0] else flat_measure(unit, run.first.transform, run.crs)
+        measure = None if unit == "none" else flat_measure(unit, run.first.transform, run.crs)
         percent = self.flag("PERCENT")
         outputs = run.outputs(wanted)
         count = len(outputs) - len(wanted)
-        written: list[Any] = []
+        numbered: list[Any] = []
         for output in outputs[:count]:
             if isinstance(output, Stats):
-                written.append((output.line, output.table(measure, percent)))
+                numbered.append((output.line, output.table(measure, percent)))
             else:
-                written.append((0, output))
-        return written + outputs[count:]
+                numbered.append((0, output))
+        return numbered + outputs[count:]
 
     def _named_layers(self) -> list[tuple[str, Any]]:
         names = self.text("NAMES")
@@ -196,7 +195,8 @@ class ScriptAlgorithm(RcellAlgorithm):
                 write_raster(
                     path, "GTiff", cells_of(output), NULL, run.first, output.labels, self.check
                 )
-                put_legend(path, counted_classes(output, run.first, run.crs), {}, self.context)
+                classes = counted_classes(output, run.first, run.crs)
+                put_legend(path, classes, colours={}, context=self.context)
             else:
                 write_table(os.path.join(folder, f"table_{line}.csv"), output, self.check)
         return folder

@@ -39,7 +39,8 @@ class CompositionAlgorithm(RcellAlgorithm):
     NAME = "composition"
     TITLE = noop("Composition")
     SHORT = noop(
-        "Lists the classes of a raster with cells, areas and percentages, in total or by zone."
+        "Lists the classes of a raster with their cell counts, areas and percentages, "
+        "in total or by zone."
     )
     TAGS = (
         "area, land cover, unique values, count, percent, zonal histogram, tabulate area, "
@@ -171,8 +172,8 @@ class ChangeAlgorithm(RcellAlgorithm):
         self.add_labels()
         self.add_crs()
         self.add_table()
-        self.add_table(tr("Matrix"), "MATRIX", True)
-        self.add_table(tr("Summary"), "SUMMARY", True)
+        self.add_table(tr("Matrix"), "MATRIX", is_optional=True)
+        self.add_table(tr("Summary"), "SUMMARY", is_optional=True)
 
     def read(self) -> None:
         """Read the rasters and check that they have the same grid."""
@@ -231,11 +232,11 @@ class TrajectoriesAlgorithm(RcellAlgorithm):
         self.add_labels()
         self.add_crs()
         self.add_table()
-        self.add_table(tr("By number of changes"), "CHANGES", True)
-        self.add_table(tr("By interval"), "INTERVALS", True)
-        self.add_map(tr("Map of the number of changes"), "CHANGES_MAP", True)
-        self.add_map(tr("Map of the year of the first change"), "FIRST_CHANGE", True)
-        self.add_map(tr("Map of the year of the last change"), "LAST_CHANGE", True)
+        self.add_table(tr("By number of changes"), "CHANGES", is_optional=True)
+        self.add_table(tr("By interval"), "INTERVALS", is_optional=True)
+        self.add_map(tr("Map of the number of changes"), "CHANGES_MAP", is_optional=True)
+        self.add_map(tr("Map of the year of the first change"), "FIRST_CHANGE", is_optional=True)
+        self.add_map(tr("Map of the year of the last change"), "LAST_CHANGE", is_optional=True)
 
     def read(self) -> None:
         """Read the rasters and check that they have the same grid."""
@@ -246,7 +247,7 @@ class TrajectoriesAlgorithm(RcellAlgorithm):
     def answer(self) -> dict[str, Any]:
         """Write the table and, if requested, the other tables and the maps."""
         wanted = {
-            name: title for name, title in self._MAPS.items() if self.parameter_values.get(title)
+            name: output for name, output in self._MAPS.items() if self.parameter_values.get(output)
         }
         result = self.called(
             trajectories,
@@ -261,9 +262,9 @@ class TrajectoriesAlgorithm(RcellAlgorithm):
         for name, part in (("CHANGES", result.changes), ("INTERVALS", result.intervals)):
             if self.parameter_values.get(name):
                 results[name] = self.put_table(name, part)
-        for name, title in wanted.items():
+        for name, output in wanted.items():
             raster = result.maps[name]
-            results[title] = self.put_map(raster, named_classes(raster), title)
+            results[output] = self.put_map(raster, named_classes(raster), output)
         return results
 
 
@@ -292,12 +293,13 @@ class ZonalAlgorithm(RcellAlgorithm):
         """Declare the parameters."""
         self.addParameter(QgsProcessingParameterRasterLayer("INPUT", tr("Raster of values")))
         self.add_band()
-        self.add_zones(False)
+        self.add_zones(is_optional=False)
         self.add_flag("EACH", tr("Process overlapping polygons separately"))
         self.add_text("QUANTILES", tr("Quantiles from 0 to 1, separated by commas"), "0.5")
         title = tr("Scale of decimals: 100 rounds to 1/100 (empty: whole numbers only)")
         kind = QgsProcessingParameterNumber.Integer
-        self.addParameter(QgsProcessingParameterNumber("SCALE", title, kind, None, True, 1))
+        options = {"optional": True, "minValue": 1}
+        self.addParameter(QgsProcessingParameterNumber("SCALE", title, kind, **options))
         self.add_crs()
         self.add_table()
 
@@ -349,7 +351,7 @@ class DominantAlgorithm(RcellAlgorithm):
     def initAlgorithm(self, configuration: Any = None) -> None:
         """Declare the parameters."""
         self.add_raster()
-        self.add_zones(False)
+        self.add_zones(is_optional=False)
         self.add_flag("EACH", tr("Process overlapping polygons separately"))
         self.add_area()
         self.add_labels()
