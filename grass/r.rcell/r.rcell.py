@@ -146,7 +146,7 @@ def stopped(end, script, names):
         head, tail = line[: fault.column - 1], line[fault.column - 1 :]
         beneath += "    %s^\n" % (" " * len(printable(head)))
         if fault.text == "bad option":
-            message += ": " + tail.split()[0].decode(errors="replace")
+            message += ": " + tail.split()[0].decode(errors="replace")  # the first word
     if fault.advice:
         beneath += "    try: %s\n" % fault.advice
     return Stopped(message, beneath)
@@ -172,13 +172,13 @@ def source_of(raster, labels, region, progress):
 
     rows, cols = region["rows"], region["cols"]
     return Map(
-        raster.name,
-        edge_texts(region),
-        rows,
-        cols,
-        "i32",
-        blocks_of(raster.map, rows, cols, progress),
-        NULL,
+        name=raster.name,
+        edges=edge_texts(region),
+        rows=rows,
+        cols=cols,
+        type="i32",
+        blocks=blocks_of(raster.map, rows, cols, progress),
+        nodata=NULL,
         labels=labels,
     )
 
@@ -190,11 +190,11 @@ def blocks_of(raster, rows, cols, progress):
     module = gs.pipe_command(
         "r.out.bin", flags="i", input=raster, output="-", bytes=4, null=NULL, quiet=True
     )
-    at_once = max(1, BLOCK_CELLS // cols)
-    for first in range(0, rows, at_once):
-        count = min(at_once, rows - first)
+    rows_of_block = max(1, BLOCK_CELLS // cols)
+    for first in range(0, rows, rows_of_block):
+        count = min(rows_of_block, rows - first)
         cells = module.stdout.read(4 * cols * count)
-        if len(cells) < 4 * cols * count:
+        if len(cells) < 4 * cols * count:  # the module failed, which end_of reports
             break
         yield Block(cells)
         progress.add(count)
@@ -230,43 +230,44 @@ class Imports:
     """Imports raster maps under temporary names, which are kept until all maps are complete."""
 
     def __init__(self, region):
-        self.region, self.names, self.room = (
-            region,
-            {},
-            tempfile.mkdtemp(dir=os.path.dirname(gs.tempfile(False))),
-        )
+        self.region = region
+        self.outputs = {}  # by temporary name
+        self.folder = tempfile.mkdtemp(dir=os.path.dirname(gs.tempfile(create=False)))
         atexit.register(self.remove)
 
     def remove(self):
         """Remove the maps that still have temporary names."""
-        shutil.rmtree(self.room, ignore_errors=True)
-        if self.names:
-            quiet = dict(quiet=True, stderr=subprocess.DEVNULL, errors="ignore")
-            gs.run_command("g.remove", flags="f", type="raster", name=list(self.names), **quiet)
+        shutil.rmtree(self.folder, ignore_errors=True)
+        if self.outputs:
+            names = list(self.outputs)
+            silence = dict(quiet=True, stderr=subprocess.DEVNULL, errors="ignore")
+            gs.run_command("g.remove", flags="f", type="raster", name=names, **silence)
 
     def edges(self):
+        """Return the edges of the region, whose keys are n, s, e and w, as options of r.in.bin."""
         return {key: "%.15g" % self.region[key[0]] for key in ("north", "south", "east", "west")}
 
     def add(self, output, frame, progress):
         """Import a map with r.in.bin from a file, because r.in.bin cannot read from a pipe."""
-        name = "rcell_%d_%d" % (os.getpid(), len(self.names))
-        self.names[name] = output
-        path = os.path.join(self.room, "cells")
+        name = "rcell_%d_%d" % (os.getpid(), len(self.outputs))
+        self.outputs[name] = output
+        path = os.path.join(self.folder, "cells")
         with open(path, "wb") as file:
             file.write(frame.cells)
-        sides, flags = {"rows": frame.rows, "cols": frame.cols}, "s" if frame.null == NULL else ""
         gs.run_command(
             "r.in.bin",
-            flags=flags,
+            flags="s" if frame.null == NULL else "",  # signed
             input=path,
             output=name,
             bytes=BYTES[frame.type],
             anull=frame.null,
             quiet=True,
-            **sides,
+            rows=frame.rows,
+            cols=frame.cols,
             **self.edges(),
         )
         os.remove(path)
+        # Set the exact edges of the current region.
         gs.run_command("r.region", flags="c", map=name, quiet=True)
         progress.add(frame.rows)
         return name
@@ -277,38 +278,39 @@ class Imports:
         module.stdin.write(b"".join(lines))
         module.stdin.close()
         if module.wait():
-            raise Stopped(_("The labels of <{}> could not be written").format(self.names[name].map))
+            raster = self.outputs[name].map
+            raise Stopped(_("The labels of <{}> could not be written").format(raster))
 
-    def finish(self, areas):
+    def finish(self, patch_maps):
         """Rename all maps at once, and give patches random colours, as r.clump does."""
-        for name, output in self.names.items():
-            if output.name in areas:
+        renamed = []  # the old and the new name of each map in turn
+        for name, output in self.outputs.items():
+            if output.name in patch_maps:
                 gs.run_command("r.colors", map=name, color="random", quiet=True)
-        if self.names:
-            pairs = [
-                map_name for name, output in self.names.items() for map_name in (name, output.map)
-            ]
-            gs.run_command("g.rename", raster=pairs, overwrite=gs.overwrite(), quiet=True)
-        maps, self.names = [output.map for output in self.names.values()], {}
-        for raster in maps:
-            gs.raster_history(raster, overwrite=True)
+            renamed += [name, output.map]
+        if renamed:
+            gs.run_command("g.rename", raster=renamed, overwrite=gs.overwrite(), quiet=True)
+        outputs, self.outputs = self.outputs, {}  # no temporary names are left
+        for output in outputs.values():
+            gs.raster_history(output.map, overwrite=True)
 
 
 class Progress:
     """Shows the progress over all rows in a few steps, because each step runs g.message."""
 
     def __init__(self, rows):
-        self.done, self.rows, self.shown, self.is_shown = 0, rows, time.monotonic(), False
+        self.done, self.rows, self.time_shown, self.is_shown = 0, rows, time.monotonic(), False
 
     def add(self, rows):
+        """Count rows as done, and show the progress if the last step was long enough ago."""
         self.done += rows
-        if time.monotonic() - self.shown > SECONDS_OF_A_STEP and self.done < self.rows:
+        if time.monotonic() - self.time_shown > SECONDS_OF_A_STEP and self.done < self.rows:
             gs.percent(self.done, self.rows, 1)
-            self.shown, self.is_shown = time.monotonic(), True
+            self.time_shown, self.is_shown = time.monotonic(), True
 
     def end(self):
         if self.is_shown:
-            gs.percent(1, 1, 1)
+            gs.percent(1, 1, 1)  # 100 %
 
 
 # Running rcell
@@ -360,7 +362,7 @@ def tables_of(script, statements, sources):
     """Run a script over the maps from `sources()`, and yield its text output piece by piece."""
     from rcell.core import protocol
 
-    if all(statement.made for statement in statements):
+    if all(statement.made for statement in statements):  # each makes a map, and none writes text
         return
     maps = sources()
     with stopping_on_faults(script, [source.name for source in maps]):
@@ -368,7 +370,10 @@ def tables_of(script, statements, sources):
 
 
 def maps_of(script, statements, sources, outputs, labels):
-    """Run a script and return the cells of its outputs, in order, and labels by map name."""
+    """Run a script and return the cells of its outputs, in order, and labels by map name.
+
+    `labels` are the labels of input maps. Other labels are from r.reclass.
+    """
     from rcell.core import protocol
 
     if not outputs:
@@ -381,21 +386,22 @@ def maps_of(script, statements, sources, outputs, labels):
     lines = [without_tables(script, statements)]
     lines += ["r.out.ascii input=%s" % output.name for output in outputs]
     lines += ["r.stats -l -n input=%s" % name for name in labelled]
-    words = "\n".join(lines).encode("utf-8", "surrogateescape")
+    new_script = "\n".join(lines).encode("utf-8", "surrogateescape")
     with stopping_on_faults(script, [source.name for source in maps]):
-        frames = protocol.run(program(), maps, words)
-    return frames[: len(outputs)], dict(zip(labelled, frames[len(outputs) :]))
+        frames = protocol.run(program(), maps, new_script)
+    cells, tables = frames[: len(outputs)], frames[len(outputs) :]
+    return cells, dict(zip(labelled, tables))
 
 
 def labels_of(raster):
     """Return the labels of a raster map by category."""
     module = gs.pipe_command("r.category", map=raster, separator="tab", quiet=True)
-    pairs = [line.rstrip(b"\n").partition(b"\t")[::2] for line in module.stdout]
+    lines = list(module.stdout)
     end_of(module, raster)
-    labels = {
-        int(category): label.strip(BLANKS).decode("utf-8", "surrogateescape")
-        for category, label in pairs
-    }
+    labels = {}
+    for line in lines:
+        category, _tab, label = line.rstrip(b"\n").partition(b"\t")
+        labels[int(category)] = label.strip(BLANKS).decode("utf-8", "surrogateescape")
     return {category: label for category, label in labels.items() if label}
 
 
@@ -403,11 +409,11 @@ def labels_of(raster):
 
 
 def pairs_of(text, kind):
-    """Parse the items of an option, each of which is NAME or NAME=MAP."""
+    """Parse the items of an option, each of which is NAME or NAME=MAP, as Inputs or Outputs."""
     pairs = []
     for item in text.split(",") if text else []:
         name, sign, raster = item.partition("=")
-        if not sign:
+        if not sign:  # MAP or MAP@MAPSET
             name, raster = item.partition("@")[0], item
         if not NAME.fullmatch(name):
             raise Stopped(
@@ -439,7 +445,7 @@ def look_up_inputs(inputs):
 def look_up_outputs(outputs, commands, inputs):
     """Check that the script contains the map of each output, and that the output's name is free.
 
-    Returns the outputs with their names in this mapset.
+    Returns the outputs with their names in this mapset. `commands` contains the script's maps.
     """
     known = [*commands, *(source.name for source in inputs)]
     current, checked = gs.gisenv()["MAPSET"], []
@@ -522,11 +528,11 @@ def open_standard_streams():
 
     Writing to a closed output still fails.
     """
-    descriptor = os.open(os.devnull, os.O_RDWR)
+    descriptor = os.open(os.devnull, os.O_RDWR)  # gets the smallest closed descriptor
     while descriptor <= 2:
         if descriptor == 1:
             os.close(1)
-            os.open(os.devnull, os.O_RDONLY)
+            os.open(os.devnull, os.O_RDONLY)  # rejects writing
         os.set_inheritable(descriptor, True)
         descriptor = os.open(os.devnull, os.O_RDWR)
     os.close(descriptor)
@@ -559,18 +565,18 @@ def done(options, flags):
     inputs, requested = pairs_of(options["maps"], Input), pairs_of(options["output"], Output)
     look_up_inputs(inputs)
     script, names = read_script(options["script"]), [raster.name for raster in inputs]
-    statements = judged(script, names)
+    statements = judged(script, names)  # the plan
     if flags["l"]:
         script = with_labels(script, statements)
         statements = judged(script, names)
     commands = made_by(statements)
     outputs = look_up_outputs(requested, commands, inputs)
     region = look_up_region()
-    if not outputs and all(statement.made for statement in statements):
+    runs = any(not statement.made for statement in statements) + bool(outputs)  # tables, maps
+    if not runs:
         gs.warning(_("The script writes no table, and output= requests no map"))
     wanted = labelled_maps(statements) | {output.name for output in outputs}
     labels = {raster.name: labels_of(raster.map) for raster in inputs if raster.name in wanted}
-    runs = bool(outputs) + any(not statement.made for statement in statements)
     progress = Progress(region["rows"] * (runs * len(inputs) + len(outputs)))
 
     def sources():
@@ -583,7 +589,7 @@ def done(options, flags):
             file.writelines(tables_of(script, statements, sources))
         imports = imported(script, statements, sources, outputs, labels, region, progress)
         progress.end()
-        if table.is_special:  # may fail, and then no map is renamed
+        if table.is_special:  # writing may fail, and then no map is renamed
             table.keep()
         imports.finish({name for name, command in commands.items() if command == "r.clump"})
 

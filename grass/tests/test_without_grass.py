@@ -80,19 +80,17 @@ class Session(unittest.TestCase):
         return rcell.judged(script, list(names))
 
     def run_(self, script, outputs=(), labels=None):
-        inputs, wanted = [rcell.Input("a", f"{self.room}/a")], [
-            rcell.Output(name, name) for name in outputs
-        ]
+        """Run a script on the map `a`, and return its text, the cells of its outputs, and labels."""
+        labels = labels or {}
+        wanted = [rcell.Output(name, name) for name in outputs]
         statements = self.statements(script)
 
         def sources():
-            return [
-                rcell.source_of(raster, labels or {}, REGION, rcell.Progress(1))
-                for raster in inputs
-            ]
+            raster = rcell.Input("a", f"{self.room}/a")
+            return [rcell.source_of(raster, labels, REGION, rcell.Progress(1))]
 
         text = b"".join(rcell.tables_of(script, statements, sources)).decode()
-        return text, *rcell.maps_of(script, statements, sources, wanted, {"a": labels or {}})
+        return text, *rcell.maps_of(script, statements, sources, wanted, {"a": labels})
 
     def refused(self, script, names=("a",)):
         with self.assertRaises(rcell.Stopped) as caught:
@@ -221,12 +219,12 @@ class Late(unittest.TestCase):
         os.dup2(writes, 1)
         os.close(writes)
         text, read = b"1 2\n" * 50000, bytearray()
-        thread = self.later(
-            lambda: [
+
+        def read_all():
+            while len(read) < len(text):
                 read.extend(os.read(reads, 1 << 16))
-                for _ in iter(lambda: len(read) < len(text), False)
-            ]
-        )
+
+        thread = self.later(read_all)
         with rcell.table_file("", "script") as table:
             with open(table.path(), "wb") as file:
                 file.write(text)
