@@ -36,6 +36,7 @@ SKIPPED = "skipped  "
 NOTE = re.compile(r"rt: ok; |ran: ")
 PYTHON = [sys.executable]
 CLANG = "CLANG"  # stands for the kit's clang in a command
+LINES_OF_A_FAILURE = 60  # repeated at the end, since logs of a gate are cut to their last lines
 
 
 @dataclass
@@ -53,7 +54,8 @@ class Part:
 
 @dataclass
 class Result:
-    """The counts of a part, its processor seconds, and what its proofs reported as run or kept."""
+    """The counts of a part, its processor seconds, what its proofs reported as run or kept, and the
+    end of what it printed."""
 
     name: str
     passed: int = 0
@@ -61,6 +63,7 @@ class Result:
     skipped: int = 0
     seconds: float = 0
     note: str = ""
+    ending: str = ""
 
     def add(self, passed, failed, skipped):
         self.passed, self.failed, self.skipped = (
@@ -121,14 +124,15 @@ PROOFS = Part(
     needs_programs=False,
     needs_proofs=True,
 )
+EDITS = Part(
+    "edits",
+    "wrong bodies and turned definitions that the proofs must refuse",
+    [tool("build/edits.py", "--evidence", *EDITED)],
+    needs_programs=False,
+    needs_proofs=True,
+)
 LATE = [
-    Part(
-        "edits",
-        "wrong bodies and turned definitions that the proofs must refuse",
-        [tool("build/edits.py", "--evidence", *EDITED)],
-        needs_programs=False,
-        needs_proofs=True,
-    ),
+    EDITS,
     Part(
         "cases",
         "rcell on each case, with each growth refused in turn",
@@ -221,6 +225,8 @@ def run(part, show=print):
             ran.returncode = os.waitstatus_to_exitcode(status)
         result.seconds += used.ru_utime + used.ru_stime
         result.add(*counts_of(lines, ran.returncode, part.has_counts))
+        if result.failed:
+            result.ending = result.ending or "".join(lines[-LINES_OF_A_FAILURE:])
         result.note = next(
             (NOTE.sub("", it).strip() for it in reversed(lines) if NOTE.match(it)), result.note
         )
@@ -237,18 +243,32 @@ def has_programs():
 
 
 def run_all(parts):
-    """Run parts in order. If a part fails that the others need, stop there."""
+    """Run parts in order. The parts after the proofs that need none run beside the edits, the
+    others after them. If a part fails that the others need, stop there."""
     results = []
-    for part in parts:
-        if part.needs_programs and not has_programs():
-            print(f"{part.name}: a program is missing in {programs()}: run make first")
-            return [*results, Result(part.name, failed=1)]
-        results.append(run(part, functools.partial(print, flush=True)))
-        if part in [*EARLY, PROOFS] and results[-1].failed:
+    for part in (it for it in parts if it not in LATE):
+        results.append(run_shown(part))
+        if results[-1].failed:
             return results
         if part is PROOFS:
             take_proved()
-    return results
+    late = [part for part in parts if part in LATE and part is not EDITS]
+    with ThreadPoolExecutor(1) as beside:
+        shown = beside.submit(list, map(run_shown, (it for it in late if not it.needs_proofs)))
+        lines = []
+        results += [run(part, lines.append) for part in parts if part is EDITS]
+        results += shown.result()
+    print(*lines, sep="\n", flush=True)
+    return results + [run_shown(part) for part in late if part.needs_proofs]
+
+
+def run_shown(part):
+    """Run a part, and print its output line by line. Without the programs that it needs, it
+    fails."""
+    if part.needs_programs and not has_programs():
+        print(f"{part.name}: a program is missing in {programs()}: run make first")
+        return Result(part.name, failed=1)
+    return run(part, functools.partial(print, flush=True))
 
 
 def take_proved():
@@ -381,6 +401,9 @@ def main():
         sum(getattr(it, key) for it in results) for key in ("passed", "failed", "skipped")
     )
     closing = f"{passed} passed, {failed} failed, {skipped} skipped"
+    for result in results:
+        if result.ending:
+            print(f"== {result.name}: the end of its output, since it failed\n{result.ending}")
     print(table(results, time.monotonic() - begun))
     if len(results) == len(PARTS) and not given.unproved:
         keep_closing(results, closing)
