@@ -1,8 +1,8 @@
 """Lay out a crate of laws with an altered definition, so that the proofs of its laws can be tried.
 
 If the definition belongs to another crate, its module is copied into the crate of laws, with all
-modules of its crate between it and the lemmas of the laws. The other crates do not change, so only
-the laws are proved again.
+modules of other crates between it and the lemmas of the laws. The other crates do not change, so
+only the laws are proved again. Here a module is a pair of a crate and a path below it.
 """
 import functools
 import pathlib
@@ -21,21 +21,15 @@ def module_path(crate, module):
 
 
 @functools.cache
-def imports_of(path, crate):
-    """Return the modules of a crate from which a file imports."""
-    return {
-        module
-        for name, module in IMPORTED.findall(text_of(path))
-        if name == crate and module_path(crate, module).exists()
-    }
+def imports_of(path):
+    """Return the modules from which a file imports."""
+    return {it for it in IMPORTED.findall(text_of(path)) if module_path(*it).exists()}
 
 
 @functools.cache
-def stands_on(crate, module, other):
+def stands_on(module, other):
     """Return whether a module is another module, or imports from it, directly or through others."""
-    return module == other or any(
-        stands_on(crate, it, other) for it in imports_of(module_path(crate, module), crate)
-    )
+    return module == other or any(stands_on(it, other) for it in imports_of(module_path(*module)))
 
 
 def antt_files(folder):
@@ -50,67 +44,57 @@ def home_of(law, edit):
     return crate, ".".join(parts)
 
 
-def between(law, crate, module):
-    """Return the modules of a crate that the laws reach and that use the definition's module."""
+def between(law, home):
+    """Return the modules of other crates that the laws reach and that use the definition's
+    module."""
     found, waiting = set(), set()
     for path in antt_files(ROOT / "crates" / law):
-        waiting |= imports_of(path, crate)
+        waiting |= imports_of(path)
     while waiting:
         it = waiting.pop()
-        if it not in found and stands_on(crate, it, module):
+        if it[0] != law and it not in found and stands_on(it, home):
             found.add(it)
-            waiting |= imports_of(module_path(crate, it), crate)
+            waiting |= imports_of(module_path(*it))
     return sorted(found)
 
 
-def copied(module):
-    """Return the name of a copied module in the crate of laws. No folder has a name that the crate
-    already has, in any case."""
-    return re.sub(r"^(specs|proofs)\.(?=\w+\.)", r"\1.turned_", module)
-
-
-def declare(folder, path):
-    """Add a new module to the file that lists the modules of its folder."""
-    listing = path.parent / "Lib.antt"
-    if path.parent.parent != folder:
-        listing = path.parent.with_suffix(".antt")
-        if not listing.exists():
-            with open(path.parent.parent / "Lib.antt", "a", encoding="utf-8") as file:
-                file.write(f"pub mod {path.parent.name}\n")
-    with open(listing, "a", encoding="utf-8") as file:
-        file.write(f"pub mod {path.stem}\n")
+def copied(crate, module):
+    """Return the path of a copied module in the crate of laws."""
+    part, _, rest = module.partition(".")
+    return f"{part}.turned_{crate}_{rest.replace('.', '_')}"
 
 
 def lay_out(law, home, pairs, room):
     """Copy the crate of laws to `room`, with the definition's module, in which the pairs are
     replaced."""
-    crate, module = home
     for part in build.PROVED:
         if (ROOT / "crates" / law / part).is_dir():
             shutil.copytree(ROOT / "crates" / law / part, room / part)
-    modules = [module] if crate == law else between(law, crate, module)
-    places = {it: it if crate == law else copied(it) for it in modules}
+    places = {it: copied(*it) for it in between(law, home)}
+    if home[0] == law:
+        places = {home: home[1]}
 
     def own(text):
-        for it, place in places.items():
-            text = text.replace(f"Rattle.{crate}.{it}.{{", f"Rattle.{law}.{place}.{{")
+        for (crate, module), place in places.items():
+            text = text.replace(f"Rattle.{crate}.{module}.{{", f"Rattle.{law}.{place}.{{")
         return text
 
     for path in antt_files(room):
         path.write_text(own(text_of(path)), encoding="utf-8")
     for it, place in places.items():
-        text = own(text_of(module_path(crate, it)))
-        for _, old, new in pairs if it == module else ():
+        text = own(text_of(module_path(*it)))
+        for _, old, new in pairs if it == home else ():
             text = text.replace(old, new, 1)
         path = room / (place.replace(".", "/") + ".antt")
-        path.parent.mkdir(parents=True, exist_ok=True)
         path.write_text(text, encoding="utf-8")
-        if crate != law:
-            declare(room, path)
+        if it[0] != law:
+            with open(path.parent / "Lib.antt", "a", encoding="utf-8") as file:
+                file.write(f"pub mod {path.stem}\n")
 
 
 def crate_with(law, home, root):
-    """Return the crate of laws with the libraries of both crates, which the copied modules name."""
-    crates = {it.name: it for it in build.crates_of([law, home[0]], root)}
-    used = dict.fromkeys(it for name in (law, home[0]) for it in build.uses()[name] if it != law)
+    """Return the crate of laws with the libraries that it and the copied modules name."""
+    names = list(dict.fromkeys([law, home[0], *(crate for crate, _ in between(law, home))]))
+    crates = {it.name: it for it in build.crates_of(names, root)}
+    used = dict.fromkeys(it for name in names for it in build.uses()[name] if it != law)
     return build.Crate(law, list(used), crates, root)
