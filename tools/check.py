@@ -243,8 +243,8 @@ def has_programs():
 
 
 def run_all(parts):
-    """Run parts in order. The parts after the proofs that need none run beside the edits, the
-    others after them. If a part fails that the others need, stop there."""
+    """Run parts in order. While the edits are tried, the parts run that need no proofs; then those
+    that do. If a part fails that the others need, stop there."""
     results = []
     for part in (it for it in parts if it not in LATE):
         results.append(run_shown(part))
@@ -253,8 +253,8 @@ def run_all(parts):
         if part is PROOFS:
             take_proved()
     late = [part for part in parts if part in LATE and part is not EDITS]
-    with ThreadPoolExecutor(1) as beside:
-        shown = beside.submit(list, map(run_shown, (it for it in late if not it.needs_proofs)))
+    with ThreadPoolExecutor(1) as pool:
+        shown = pool.submit(list, map(run_shown, (it for it in late if not it.needs_proofs)))
         lines = []
         results += [run(part, lines.append) for part in parts if part is EDITS]
         results += shown.result()
