@@ -2,6 +2,5 @@
 pub mod BufferedCells
 pub mod TableWords
 pub mod GridReaders
-pub mod KnownSources
 pub mod Reader
 pub mod parts

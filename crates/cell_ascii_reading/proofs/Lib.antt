@@ -6,4 +6,3 @@ pub mod NumberLemmas
 pub mod KindLemmas
 pub mod OpeningLemmas
 pub mod KeyLemmas
-pub mod LeadLemmas

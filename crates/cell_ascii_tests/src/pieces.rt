@@ -36,7 +36,7 @@ fn read_behind<R: AllocGlobal>(
 {
     let mut bytes = vec![in rt.alloc(); b' '; spaces]?;
     bytes.extend_from_slice(text)?;
-    Ok(read_map(rt.alloc(), MemorySource::new(bytes, piece, false)).map)
+    Ok(read_map(rt.alloc(), MemorySource::new(bytes, piece, false)))
 }
 
 // Returns the cells of a map, row by row.

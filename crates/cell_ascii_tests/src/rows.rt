@@ -8,7 +8,7 @@ use cell_ascii::grid_reader::GridReader;
 use cell_core::cell::Cell;
 use cell_core::device::DeviceFault;
 use cell_core::source::{Asked, MemorySource, Source};
-use std::alloc::{AllocGlobal, Global};
+use std::alloc::AllocGlobal;
 use std::cell;
 use std::process::Abort;
 use std::test::Fail;
@@ -18,16 +18,9 @@ const FAILED: GridFault = GridFault {
     line: 0,
 };
 
-fn reader_of<S: Source + Drop>(alloc: Global, source: S) -> Result<GridReader<S>, GridFault> {
-    match GridReader::open(alloc, source) {
-        Ok(reader) => Ok(reader),
-        Err(unopened) => Err(unopened.fault),
-    }
-}
-
 fn open<R: AllocGlobal>(rt: &R, text: &[u8]) -> Result<GridReader<MemorySource>, Fail> {
     let bytes = text.to_vec(rt.alloc())?;
-    Ok(reader_of(rt.alloc(), MemorySource::new(bytes, 7, false))?)
+    Ok(GridReader::open(rt.alloc(), MemorySource::new(bytes, 7, false))?)
 }
 
 fn expect_cells<R: Abort>(rt: &R, row: &[Cell], categories: &[i32]) {
@@ -58,7 +51,7 @@ fn stops_at_a_bad_cell(rt: HostRuntime) -> Result<(), Fail> {
     };
     assert_same!(rt; again, FAILED);
     expect_cells(&rt, row, &[3, 3, 2, 2]);
-    assert_same!(rt; reader.finish().result, Err(FAILED));
+    assert_same!(rt; reader.finish(), Err(FAILED));
     Ok(())
 }
 
@@ -83,7 +76,7 @@ fn reads_rows_to_the_end(rt: HostRuntime) -> Result<(), Fail> {
         panic!(rt; "a row behind the last");
     };
     let kind = GridKind::TooMany;
-    assert_same!(rt; reader.finish().result, Err(GridFault { kind, line: 8 }));
+    assert_same!(rt; reader.finish(), Err(GridFault { kind, line: 8 }));
     Ok(())
 }
 
@@ -115,17 +108,10 @@ impl<'a> Counting<'a> {
 
 impl<'a> Source for Counting<'a> {
     ghost use Rattle.std.specs.Prelude.{None};
-    ghost use Rattle.cell_core_devices.specs.Supposed.{Lost};
 
     ghost coming = { λ _. None };
 
     ghost asked = { λ s. s.asked };
-
-    ghost supposed = { λ _. Lost };
-
-    ghost known = { λ _ _. tt };
-
-    ghost steady = { λ _ _ none. none };
 
     fn take(&mut self, buf: &mut [u8]) -> Result<usize, DeviceFault> {
         let answer = self.give(buf);
@@ -145,7 +131,7 @@ fn a_source_is_not_asked_after_it_failed(rt: HostRuntime) -> Result<(), Fail> {
         calls: &calls,
         asked: Asked::Going,
     };
-    let mut reader = reader_of(rt.alloc(), source)?;
+    let mut reader = GridReader::open(rt.alloc(), source)?;
     let mut cells = vec![in rt.alloc(); Cell::null(); reader.region().cols() as usize]?;
     let row = cells.as_mut_slice();
     assert_same!(rt; reader.next_row(row), Ok(true));
@@ -155,24 +141,6 @@ fn a_source_is_not_asked_after_it_failed(rt: HostRuntime) -> Result<(), Fail> {
     let Err(again) = reader.next_row(row) else {
         panic!(rt; "a reader that failed goes on");
     };
-    assert_same!(rt; (again, reader.finish().result, calls.get()), (FAILED, Err(FAILED), 61));
-    Ok(())
-}
-
-// A header with an unknown key, which is read after six pieces of seven bytes.
-const BAD_HEADER: &[u8] = b"north: 3\nsouth: 0\neast: 4\nwest: 0\nkind: 3\ncols: 4\n";
-
-#[test]
-fn a_source_comes_back_after_its_last_read(rt: HostRuntime) -> Result<(), Fail> {
-    let source = MemorySource::new(BAD_HEADER.to_vec(rt.alloc())?, 7, false);
-    let Err(unopened) = GridReader::open(rt.alloc(), source) else {
-        panic!(rt; "a header with an unknown key was read");
-    };
-    let kind = GridKind::BadHeader;
-    assert_same!(rt; unopened.fault, GridFault { kind, line: 5 });
-    let mut source = unopened.source;
-    let mut bytes = [0u8; 7];
-    assert_same!(rt; source.take(&mut bytes), Ok(7));
-    assert!(rt; bytes.as_slice() == &BAD_HEADER[42..49], "the source is not where reading stopped");
+    assert_same!(rt; (again, reader.finish(), calls.get()), (FAILED, Err(FAILED), 61));
     Ok(())
 }

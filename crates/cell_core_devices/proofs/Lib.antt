@@ -1,4 +1,3 @@
 pub mod BlockLemmas
 pub mod DeviceLemmas
 pub mod PieceLemmas
-pub mod SupposedLemmas

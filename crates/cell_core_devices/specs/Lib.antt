@@ -2,4 +2,3 @@
 pub mod Asking
 pub mod Blocks
 pub mod Device
-pub mod Supposed

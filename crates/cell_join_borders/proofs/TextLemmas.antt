@@ -3,7 +3,7 @@ use Rattle.std.proofs.Common.{◌≡◌, ◌≢◌, ◌≤◌, ℕ, List, [], �
 use Rattle.std.proofs.Common.{Err, ap, subst, ◌∙◌, ⊎_elim}
 use Rattle.std.specs.FinMap as finmap
 use Rattle.std.specs.Ordering.{int_cmp}
-use Rattle.std.specs.Prelude.{IfSome, IfOk, IfErr}
+use Rattle.std.specs.Prelude.{IfSome, IfOk}
 use Rattle.cell_core_devices.specs.Device.{Coming, append_known}
 use Rattle.cell_core_values.specs.Region.{RegionValue}
 use Rattle.cell_core.specs.Grid.{Grid, no_labels}
@@ -29,11 +29,6 @@ pub ok-weaker : {E : Type 0} (r : Result Grid E) (P Q : Grid → Type 0) → ((m
     → IfOk r Q
 ok-weaker (Ok made) P Q so h = so made h
 ok-weaker (Err fault) P Q so h = tt
-
-pub err-weaker : {A E : Type 0} (r : Result A E) (P Q : E → Type 0) → ((fault : E) → P fault → Q fault) → IfErr r P
-    → IfErr r Q
-err-weaker (Ok made) P Q so h = tt
-err-weaker (Err fault) P Q so h = so fault h
 
 -- ---- reading a text
 

@@ -10,7 +10,7 @@ use crate::border_fault::BorderFault;
 use crate::drawn::ROWS;
 use crate::sides::{FourSides, side_mosts, sides_in};
 use crate::size::{TileSize, adds_up, counts_in, map_is_filled, size_in};
-use crate::tile_map::tile_map;
+use cell_ascii::grid_reader::read_map;
 use cell_ascii_meaning::grid_fault::{GridFault, GridKind};
 use cell_cats_areas::clump::Joining;
 use cell_core::map::CellMap;
@@ -157,7 +157,7 @@ pub fn read_border<R: Source + Drop>(alloc: Global, source: R) -> Result<BorderT
     ensures fault { IfErr result (λ fault. IfSome (R.coming source)
         (λ text. IsBorderFault text fault)) }
 {
-    let map = match tile_map(alloc, source) {
+    let map = match read_map(alloc, source) {
         Ok(map) => map,
         Err(fault) => return Err(of_border_text(fault)),
     };

@@ -8,7 +8,7 @@
 //! - `map_border`: `write_border` writes the border of a tile from its grid; `map_fault`: `MapFault`
 //! - `border_text`: `read_border` reads a `BorderText`; `border_fault`: `BorderFault`, the first error
 //! - `pair_fault`: `PairFault`, a cell and a number that do not match; `cell_place`
-//! - private: `drawn` draws the map of a border; `sides` and `size` read its rows; `tile_map` reads a map
+//! - private: `drawn` draws the map of a border; `sides` and `size` read its rows
 //!
 //! ```
 //! /// The border of the rows `1 1` and `1 2`, by edges.
@@ -26,4 +26,3 @@ pub mod map_fault;
 pub mod pair_fault;
 mod sides;
 mod size;
-mod tile_map;

@@ -15,7 +15,7 @@ ghost use Rattle.cell_join_borders.specs.parts.MadeBorder.{HasEachNumber, IsMapO
 use crate::drawn::border_map;
 use crate::map_fault::MapFault;
 use crate::size::map_is_filled;
-use crate::tile_map::tile_map;
+use cell_ascii::grid_reader::read_map;
 use cell_ascii::writer::write_map;
 use cell_ascii_meaning::grid_fault::{GridFault, GridKind};
 use cell_cats_areas::clump::{Joining, clump_with};
@@ -150,7 +150,7 @@ fn border_made<R: Source + Drop>(
         (λ text. IsMapFault text fault)) }
     ensures unwritten { IfErr result (λ fault. fault ≢ MapFault.Write) }
 {
-    let cells = match tile_map(alloc, map) {
+    let cells = match read_map(alloc, map) {
         Ok(cells) => cells,
         Err(fault) => return Err(of_map_text(fault)),
     };

@@ -124,17 +124,10 @@ impl<'a> OddSource<'a> {
 
 impl<'a> Source for OddSource<'a> {
     ghost use Rattle.std.specs.Prelude.{None};
-    ghost use Rattle.cell_core_devices.specs.Supposed.{Lost};
 
     ghost coming = { λ _. None };
 
     ghost asked = { λ s. s.asked };
-
-    ghost supposed = { λ _. Lost };
-
-    ghost known = { λ _ _. tt };
-
-    ghost steady = { λ _ _ none. none };
 
     fn take(&mut self, buf: &mut [u8]) -> Result<usize, DeviceFault> {
         let answer = self.give(buf);

@@ -1,6 +1,5 @@
 -- Lemmas that several proofs share.
 pub mod WindowLemmas
-pub mod KnownLemmas
 pub mod LoadingLemmas
 pub mod TextLemmas
 pub mod OutputLemmas

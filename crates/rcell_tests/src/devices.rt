@@ -109,17 +109,10 @@ impl<'a> Unknown<'a> {
 
 impl<'a> Source for Unknown<'a> {
     ghost use Rattle.std.specs.Prelude.{None};
-    ghost use Rattle.cell_core_devices.specs.Supposed.{Lost};
 
     ghost coming = { λ _. None };
 
     ghost asked = { λ s. s.asked };
-
-    ghost supposed = { λ _. Lost };
-
-    ghost known = { λ _ _. tt };
-
-    ghost steady = { λ _ _ none. none };
 
     fn take(&mut self, buf: &mut [u8]) -> Result<usize, DeviceFault> {
         let answer = self.give(buf);
@@ -193,7 +186,7 @@ fn run_sources<'a, W: Sink>(
 ) -> Result<Outcome, Fail> {
     let name = Name::read(alloc, b"g")?;
     let grids = vec![in alloc; (name, grid)]?;
-    Ok(run(alloc, script, grids, out).outcome)
+    Ok(run(alloc, script, grids, out))
 }
 
 // Runs a script over one grid, `g`. Returns the outcome and the sink.
@@ -422,7 +415,7 @@ fn run_grids<'a, W: Sink>(
     if named.is_empty() {
         Err("no grid")?;
     }
-    Ok(run(alloc, script, named, out).outcome)
+    Ok(run(alloc, script, named, out))
 }
 
 const ONE_GRID: &[(&[u8], &[u8])] = &[(b"g", GRID)];

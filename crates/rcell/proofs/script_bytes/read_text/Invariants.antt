@@ -1,14 +1,13 @@
 use Rattle.std.proofs.Common.{◌≡◌, ◌≤◌, ◌-◌, vec_len}
-use Rattle.cell_core_devices.specs.Supposed.{Leads, to_come}
+use Rattle.std.specs.Option.{option_map}
 use Rattle.cell_core_devices.specs.declared.source.Asked.TheVariants.{Going}
 use Rattle.rcell.specs.ScriptText.{script_text}
 use Rattle.rcell.proofs.TextLemmas.{text_after}
-use Rattle.rcell.proofs.script_bytes.read_script.Given as goal
+use Rattle.rcell.proofs.script_bytes.read_text.Given as goal
 
 abbrev pub invariant-pieces : goal.invariant-pieces
 invariant-pieces g l = record {
-  text : Leads script_text (to_come (g.R.Source.supposed l.fn.source)) (text_after l.text.items)
-      (to_come (g.R.Source.supposed l.source));
+  text : option_map script_text (g.R.Source.coming l.fn.source) ≡ option_map (text_after l.text.items) (g.R.Source.coming l.source);
   short : vec_len l.text ≤ 1048576;
   asked : g.R.Source.asked l.fn.source ≡ Going → g.R.Source.asked l.source ≡ Going;
 }
