@@ -250,12 +250,14 @@ class Checks:
             return self.of_edits(edits, is_full=True)
         return reasons_of(said), said
 
-    def of_laws(self, edit, home):
-        """Check the laws that must fail with an altered definition. Return whether each fails, and
-        the output."""
-        crate = turned_definitions.crate_with(self.crate.name, home, self.crate.root)
+    def of_laws(self, edit, home, is_wide):
+        """Check the laws that must fail with an altered definition. Return those that fail, and the
+        output."""
+        crate = turned_definitions.crate_with(self.crate.name, home, is_wide, self.crate.root)
         with tempfile.TemporaryDirectory(prefix="rcell-turned-") as room:
-            turned_definitions.lay_out(self.crate.name, home, edit.pairs, pathlib.Path(room))
+            turned_definitions.lay_out(
+                self.crate.name, home, is_wide, edit.pairs, pathlib.Path(room)
+            )
             said = self.run(room, edit.falls, crate)
         return [law for law in edit.falls if not is_proved(law, said)], said
 
@@ -340,12 +342,16 @@ def try_definitions(checks, edits):
         homes[turned_definitions.home_of(checks.crate.name, edit)].append(edit)
     for home, turned in sorted(homes.items()):
         laws = sorted({law for edit in turned for law in edit.falls})
-        broken, said = checks.of_laws(edit_files.Edit(turned[0].path, falls=tuple(laws)), home)
+        unaltered, is_wide = edit_files.Edit(turned[0].path, falls=tuple(laws)), False
+        broken, said = checks.of_laws(unaltered, home, is_wide)
+        if broken:
+            is_wide = True
+            broken, said = checks.of_laws(unaltered, home, is_wide)
         for edit in turned:
             if set(broken) & set(edit.falls):
                 yield edit, "", "its laws do not prove if nothing is turned: " + said[-600:]
                 continue
-            fallen, said = checks.of_laws(edit, home)
+            fallen, said = checks.of_laws(edit, home, is_wide)
             stand = set(edit.falls) - set(fallen)
             yield edit, "" if stand else "goal", f"NOT REFUSED: {', '.join(sorted(stand))}"
 

@@ -1,8 +1,9 @@
 """Lay out a crate of laws with an altered definition, so that the proofs of its laws can be tried.
 
 If the definition belongs to another crate, its module is copied into the crate of laws, with all
-modules of other crates between it and the lemmas of the laws. The other crates do not change, so
-only the laws are proved again. Here a module is a pair of a crate and a path below it.
+modules of its crate between it and the lemmas of the laws, or, if the copy is wide, of all crates.
+The other crates do not change, so only the laws are proved again. Here a module is a pair of a
+crate and a path below it.
 """
 import functools
 import pathlib
@@ -44,15 +45,16 @@ def home_of(law, edit):
     return crate, ".".join(parts)
 
 
-def between(law, home):
-    """Return the modules of other crates that the laws reach and that use the definition's
-    module."""
+def between(law, home, is_wide):
+    """Return the modules of the definition's crate, or of all other crates, that the laws reach and
+    that use the definition's module."""
     found, waiting = set(), set()
     for path in antt_files(ROOT / "crates" / law):
         waiting |= imports_of(path)
     while waiting:
         it = waiting.pop()
-        if it[0] != law and it not in found and stands_on(it, home):
+        is_near = it[0] == home[0] or is_wide and it[0] != law
+        if is_near and it not in found and stands_on(it, home):
             found.add(it)
             waiting |= imports_of(module_path(*it))
     return sorted(found)
@@ -64,13 +66,13 @@ def copied(crate, module):
     return f"{part}.turned_{crate}_{rest.replace('.', '_')}"
 
 
-def lay_out(law, home, pairs, room):
+def lay_out(law, home, is_wide, pairs, room):
     """Copy the crate of laws to `room`, with the definition's module, in which the pairs are
     replaced."""
     for part in build.PROVED:
         if (ROOT / "crates" / law / part).is_dir():
             shutil.copytree(ROOT / "crates" / law / part, room / part)
-    places = {it: copied(*it) for it in between(law, home)}
+    places = {it: copied(*it) for it in between(law, home, is_wide)}
     if home[0] == law:
         places = {home: home[1]}
 
@@ -92,9 +94,11 @@ def lay_out(law, home, pairs, room):
                 file.write(f"pub mod {path.stem}\n")
 
 
-def crate_with(law, home, root):
+def crate_with(law, home, is_wide, root):
     """Return the crate of laws with the libraries that it and the copied modules name."""
-    names = list(dict.fromkeys([law, home[0], *(crate for crate, _ in between(law, home))]))
+    names = list(
+        dict.fromkeys([law, home[0], *(crate for crate, _ in between(law, home, is_wide))])
+    )
     crates = {it.name: it for it in build.crates_of(names, root)}
     used = dict.fromkeys(it for name in names for it in build.uses()[name] if it != law)
     return build.Crate(law, list(used), crates, root)
