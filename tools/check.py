@@ -124,15 +124,14 @@ PROOFS = Part(
     needs_programs=False,
     needs_proofs=True,
 )
-EDITS = Part(
-    "edits",
-    "wrong bodies and turned definitions that the proofs must refuse",
-    [tool("build/edits.py", "--evidence", *EDITED)],
-    needs_programs=False,
-    needs_proofs=True,
-)
 LATE = [
-    EDITS,
+    Part(
+        "edits",
+        "wrong bodies and turned definitions that the proofs must refuse",
+        [tool("build/edits.py", "--evidence", *EDITED)],
+        needs_programs=False,
+        needs_proofs=True,
+    ),
     Part(
         "cases",
         "rcell on each case, with each growth refused in turn",
@@ -243,32 +242,18 @@ def has_programs():
 
 
 def run_all(parts):
-    """Run parts in order. While the edits are tried, the parts run that need no proofs; then those
-    that do. If a part fails that the others need, stop there."""
+    """Run parts in order. If a part fails that the others need, stop there."""
     results = []
-    for part in (it for it in parts if it not in LATE):
-        results.append(run_shown(part))
-        if results[-1].failed:
+    for part in parts:
+        if part.needs_programs and not has_programs():
+            print(f"{part.name}: a program is missing in {programs()}: run make first")
+            return [*results, Result(part.name, failed=1)]
+        results.append(run(part, functools.partial(print, flush=True)))
+        if part in [*EARLY, PROOFS] and results[-1].failed:
             return results
         if part is PROOFS:
             take_proved()
-    late = [part for part in parts if part in LATE and part is not EDITS]
-    with ThreadPoolExecutor(1) as pool:
-        shown = pool.submit(list, map(run_shown, (it for it in late if not it.needs_proofs)))
-        lines = []
-        results += [run(part, lines.append) for part in parts if part is EDITS]
-        results += shown.result()
-    print(*lines, sep="\n", flush=True)
-    return results + [run_shown(part) for part in late if part.needs_proofs]
-
-
-def run_shown(part):
-    """Run a part, and print its output line by line. Without the programs that it needs, it
-    fails."""
-    if part.needs_programs and not has_programs():
-        print(f"{part.name}: a program is missing in {programs()}: run make first")
-        return Result(part.name, failed=1)
-    return run(part, functools.partial(print, flush=True))
+    return results
 
 
 def take_proved():
