@@ -1,3 +1,4 @@
 pub mod BlockLemmas
 pub mod DeviceLemmas
 pub mod PieceLemmas
+pub mod SupposedLemmas

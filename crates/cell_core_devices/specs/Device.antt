@@ -1,5 +1,5 @@
 -- The known state of a source and of a sink, and how each call changes it.
-use Rattle.std.specs.Prelude.{ℕ, min, ◌≡◌, ◌≤◌, ◌++◌, ◌||◌, Bool, false, true, List, [], length, take, drop, Option, Some, None, Result, MatchResult}
+use Rattle.std.specs.Prelude.{ℕ, min, ⊤, ◌≡◌, ◌≤◌, ◌++◌, ◌||◌, Bool, false, true, List, [], length, take, drop, Option, Some, None, Result, MatchResult}
 use Rattle.cell_core_devices.specs.declared.sink.Flushes.{Flushes}
 use Rattle.cell_core_devices.specs.declared.sink.Flushes.TheVariants.{Never, Once, More}
 use Rattle.cell_core_devices.specs.declared.source.Asked.{Asked}
@@ -31,6 +31,12 @@ pub record FailsNow (c : Coming) (new : Option Coming) : Type 0 where
 abbrev pub Takes : {E : Type 0} → Option Coming → Option Coming → Result ℕ E → List ℕ → Type 0
 Takes None new r buf = new ≡ None
 Takes (Some c) new r buf = MatchResult r (λ n. Gives c new n buf) (λ _. FailsNow c new)
+
+-- the effect of a call of `take` on the supposed bytes to come: they are returned, or nothing is supposed afterwards
+abbrev pub Keeps : {E : Type 0} → Option Coming → Option Coming → Result ℕ E → List ℕ → Type 0
+Keeps None new r buf = new ≡ None
+Keeps (Some c) None r buf = ⊤
+Keeps (Some c) (Some d) r buf = MatchResult r (λ n. Gives c (Some d) n buf) (λ _. FailsNow c (Some d))
 
 -- the bytes after more were appended, if they are known
 abbrev pub append_known : Option (List ℕ) → List ℕ → Option (List ℕ)

@@ -2,3 +2,4 @@
 pub mod Asking
 pub mod Blocks
 pub mod Device
+pub mod Supposed

@@ -1,8 +1,10 @@
 //! Sources, which return bytes: a trait, and sources over std's readers and over memory.
 
-ghost use Rattle.std.specs.Prelude.{◌≡◌, ◌<◌, ◌≤◌, Option, None, [], length, drop, IfOk, MatchResult};
+ghost use Rattle.std.specs.Prelude.{◌≡◌, ◌<◌, ◌≤◌, Option, Some, None, [], length, drop, IfOk, IfSome, MatchResult};
+ghost use Rattle.std.specs.Option.{IsSome};
 ghost use Rattle.cell_core_devices.specs.Asking.{after_take};
-ghost use Rattle.cell_core_devices.specs.Device.{Coming, Takes, Stored, moved_count};
+ghost use Rattle.cell_core_devices.specs.Device.{Coming, Takes, Keeps, Stored, moved_count};
+ghost use Rattle.cell_core_devices.specs.Supposed.{Supposed, to_come};
 
 use crate::device::DeviceFault;
 use crate::history::History;
@@ -49,6 +51,10 @@ pub trait Source {
     /// How far the source was read: whether it reported its end or failed, and whether it was asked after that.
     ghost asked: { Self → Asked };
 
+    /// What decides the bytes to come if the full content was supposed to be some bytes (`to_come`): there are none once
+    /// the source has returned anything else.
+    ghost supposed: { Self → Supposed };
+
     /// Writes the next bytes to the start of a non-empty slice and returns their number, which is 0 only at the end.
     ///
     /// # Errors
@@ -58,11 +64,19 @@ pub trait Source {
         requires { 0 < length buf.old }
         ensures count { IfOk result (λ n. n ≤ length buf.new) }
         ensures bytes { Takes (coming self.old) (coming self.new) result buf.new }
+        ensures supposed { (h : Coming)
+            → Keeps (to_come (supposed self.old) h) (to_come (supposed self.new) h) result buf.new }
         ensures asked { asked self.new ≡ after_take (asked self.old) result };
+
+    /// A law: if the bytes to come are known, they are to come whatever is supposed.
+    ghost known: { (s : Self) (h : Coming) → IfSome (coming s) (λ c. to_come (supposed s) h ≡ Some c) };
+
+    /// A law: if the bytes to come are known of one source of a type, they are known of all sources of this type.
+    ghost steady: { (s t : Self) → IsSome (coming s) → IsSome (coming t) };
 }
 
 /// A source over a reader of std. Nothing is known about the bytes to come. Every `Err` of the reader is returned as
-/// [`DeviceFault`]. Proofs record the bytes that the reader returned.
+/// [`DeviceFault`]. Proofs record the bytes that the reader returned, and compare them with a supposed content.
 #[derive(Drop)]
 pub struct ReadSource<R> {
     reader: R,
@@ -84,6 +98,8 @@ impl<R: Read + Drop> ReadSource<R> {
     pub fn new(reader: R) -> ReadSource<R>
         ensures value { result ≡ ((reader, []), Asked.Going) }
         ensures coming { ⟦<ReadSource<R> as Source>⟧.coming result ≡ None }
+        ensures supposed { (h : Coming)
+            → to_come (⟦<ReadSource<R> as Source>⟧.supposed result) h ≡ Some h }
         ensures asked { ⟦<ReadSource<R> as Source>⟧.asked result ≡ Asked.Going }
     {
         ReadSource {
@@ -98,10 +114,17 @@ impl<R: Read> Source for ReadSource<R> {
     ghost use Rattle.std.specs.Prelude.{None, ◌≡◌, ◌<◌, ◌≤◌, ◌++◌, take, length, IfOk, OnErr};
     ghost use Rattle.std.specs.Io.KnownBytes.{ReadConsumes};
     ghost use Rattle.cell_core_devices.specs.Asking.{after_take};
+    ghost use Rattle.cell_core_devices.specs.Supposed.{After};
 
     ghost coming = { λ _. None };
 
     ghost asked = { λ s. s.1 };
+
+    ghost supposed = { λ s. After s.0.1 s.1 };
+
+    ghost known = { λ _ _. tt };
+
+    ghost steady = { λ _ _ none. none };
 
     fn take(&mut self, buf: &mut [u8]) -> Result<usize, DeviceFault>
         requires { 0 < length buf.old }
@@ -167,13 +190,20 @@ impl MemorySource {
 }
 
 impl Source for MemorySource {
-    ghost use Rattle.std.specs.Prelude.{Some, ◌≡◌, ◌<◌, ◌≤◌, ◌++◌, length, take, drop, IfOk, OnErr, MatchResult};
+    ghost use Rattle.std.specs.Prelude.{Some, ◌≡◌, ◌<◌, ◌≤◌, ◌++◌, length, take, drop, IfOk, OnErr, MatchResult, refl};
     ghost use Rattle.cell_core_devices.specs.Asking.{after_take};
     ghost use Rattle.cell_core_devices.specs.Device.{Takes, stored_coming, moved_count};
+    ghost use Rattle.cell_core_devices.specs.Supposed.{Known};
 
     ghost coming = { λ s. Some (stored_coming s) };
 
     ghost asked = { λ s. s.asked };
+
+    ghost supposed = { λ s. Known (stored_coming s) };
+
+    ghost known = { λ _ _. refl };
+
+    ghost steady = { λ _ _ _. refl };
 
     fn take(&mut self, buf: &mut [u8]) -> Result<usize, DeviceFault>
         requires { 0 < length buf.old }

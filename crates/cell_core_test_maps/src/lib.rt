@@ -1,4 +1,5 @@
-//! Builds maps from lists of categories, for tests of other crates.
+//! Assertions, and maps from lists of categories, for tests of other crates.
 #![tactic(auto)]
 
+pub mod assertions;
 pub mod maps;

@@ -3,26 +3,4 @@
 #![tactic(auto)]
 
 #[cfg(test)]
-mod assertions;
-#[cfg(test)]
-mod blocks;
-#[cfg(test)]
-mod devices;
-#[cfg(test)]
-mod fixture;
-#[cfg(test)]
-mod growths;
-#[cfg(test)]
-mod maps;
-#[cfg(test)]
-mod names;
-#[cfg(test)]
-mod numbers;
-#[cfg(test)]
-mod regions;
-#[cfg(test)]
-mod sinks;
-#[cfg(test)]
-mod sources;
-#[cfg(test)]
-mod words;
+mod tests;

@@ -1,6 +1,6 @@
 //! Tests of blanks, words, parts and pairs.
 
-use crate::assertions::{assert_holds, assert_same};
+use cell_core_test_maps::assert_same;
 use cell_core_values::blanks::{after_blanks, around_blank, is_blank, trimmed_text};
 use cell_core_values::words::{list_words_of, pair_of, parts_of, words_of};
 use std::alloc::AllocGlobal;
@@ -43,7 +43,7 @@ fn cuts_at_the_first_blank(rt: HostRuntime) -> Result<(), Fail> {
         (b"", b"", b""),
     ];
     for &(text, before, after) in &table {
-        assert_holds!(rt; around_blank(text) == (before, after), "the text {text:?}");
+        assert!(rt; around_blank(text) == (before, after), "the text {text:?}");
     }
     Ok(())
 }
@@ -59,13 +59,13 @@ fn cuts_at_the_first_equals_sign(rt: HostRuntime) -> Result<(), Fail> {
         (b"", None),
     ];
     for &(text, wanted) in &table {
-        assert_holds!(rt; pair_of(text) == wanted, "the text {text:?}");
+        assert!(rt; pair_of(text) == wanted, "the text {text:?}");
     }
     Ok(())
 }
 
 fn expect<R: Abort + AllocGlobal>(rt: &R, found: &[&[u8]], wanted: &[&[u8]], text: &[u8]) {
-    assert_holds!(rt; found == wanted, "the text {text:?}");
+    assert!(rt; found == wanted, "the text {text:?}");
 }
 
 #[test]

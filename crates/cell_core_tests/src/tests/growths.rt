@@ -5,13 +5,13 @@
 
 ghost use Rattle.std.specs.Prelude.{◌≡◌, length};
 
-use crate::assertions::{assert_holds, assert_same};
-use crate::fixture::{NULL, cells, map_of};
+use super::fixture::{NULL, cells, map_of};
 use cell_core::cell::Cell;
 use cell_core::map::{CellMap, MapBuilder};
 use cell_core::name::{Name, Names};
 use cell_core::region::Region;
 use cell_core::shelf::{Shelf, ShelfFault, ShelfRefused};
+use cell_core_test_maps::assert_same;
 use std::alloc::AllocGlobal;
 use std::process::Abort;
 use std::test::Fail;
@@ -171,7 +171,7 @@ fn add_again<R: Abort + Eprint>(
     report_again(rt);
     assert_same!(rt; (refused.fault, refused.name.bytes()), (ShelfFault::Memory, text));
     assert_same!(rt; (shelf.len(), shelf.find(text)), (count, None));
-    assert_holds!(rt; shelf.add(refused.name, refused.map).is_ok());
+    assert!(rt; shelf.add(refused.name, refused.map).is_ok());
 }
 
 fn add<R: Abort + AllocGlobal + Eprint>(

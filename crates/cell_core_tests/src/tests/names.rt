@@ -1,10 +1,10 @@
 //! Tests of names, lists of names and the shelf.
 
-use crate::assertions::{assert_holds, assert_same};
-use crate::fixture::{NULL, map_of};
+use super::fixture::{NULL, map_of};
 use cell_core::map::CellMap;
 use cell_core::name::{Name, NameFault, Names};
 use cell_core::shelf::{Shelf, ShelfFault};
+use cell_core_test_maps::assert_same;
 use std::alloc::{AllocGlobal, Global};
 use std::process::Abort;
 use std::test::Fail;
@@ -74,7 +74,7 @@ fn finds_maps(rt: HostRuntime) -> Result<(), Fail> {
     }
     assert_same!(rt; (shelf.find(b"g"), shelf.find(b"h")), (Some(0), None));
     assert_same!(rt; shelf.name(0).bytes(), b"g".as_slice());
-    assert_holds!(rt; shelf.map(0).region() == shelf.region());
+    assert!(rt; shelf.map(0).region() == shelf.region());
     Ok(())
 }
 

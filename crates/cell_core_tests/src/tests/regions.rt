@@ -1,7 +1,7 @@
 //! Tests of the four errors of a region, in their order.
 
-use crate::assertions::assert_same;
 use cell_core::region::{Region, RegionFault};
+use cell_core_test_maps::assert_same;
 use std::test::Fail;
 
 const FAR: i64 = 1000000000000000000;

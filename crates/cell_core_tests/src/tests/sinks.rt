@@ -1,9 +1,9 @@
 //! Tests of sinks: how many bytes a call accepts, and that an `Err` is reported once.
 
-use crate::assertions::assert_same;
-use crate::devices::{Device, Step};
+use super::devices::{Device, Step};
 use cell_core::device::DeviceFault;
 use cell_core::sink::{MemorySink, Sink, WriteFault, WriteSink, put_bytes};
+use cell_core_test_maps::assert_same;
 use std::io::ErrorKind;
 use std::test::Fail;
 

@@ -1,9 +1,9 @@
 //! Tests of sources: the bytes that a call returns, and that an `Err` is reported once and leaves the slice unchanged.
 
-use crate::assertions::assert_same;
-use crate::devices::{Device, Step};
+use super::devices::{Device, Step};
 use cell_core::device::DeviceFault;
 use cell_core::source::{MemorySource, ReadSource, Source};
+use cell_core_test_maps::assert_same;
 use std::io::ErrorKind;
 use std::test::Fail;
 

@@ -1,10 +1,10 @@
 //! Tests of maps: cells, runs and labels.
 
-use crate::assertions::{assert_holds, assert_same};
-use crate::fixture::{NULL, cell, map_of};
+use super::fixture::{NULL, cell, map_of};
 use cell_core::cell::Cell;
 use cell_core::map::{CellMap, MapBuilder};
 use cell_core::region::Region;
+use cell_core_test_maps::assert_same;
 use std::alloc::{AllocGlobal, Global};
 use std::process::Abort;
 use std::test::Fail;
@@ -22,7 +22,7 @@ fn expect_runs<R: Abort + AllocGlobal>(
     row: u32,
     wanted: &[(i32, u32)],
 ) -> Result<(), Fail> {
-    assert_holds!(rt; row < map.region().rows());
+    assert!(rt; row < map.region().rows());
     assert_same!(rt; map.runs(row).len(), wanted.len(), "row {row}");
     let found: Vec<(Cell, u32)> = map.runs(row).collect(rt.alloc())?;
     assert_same!(rt; found.len(), wanted.len(), "row {row}");
@@ -137,7 +137,7 @@ fn expect_stretches<R: Abort + AllocGlobal>(
     row: u32,
     wanted: &[(i32, u32)],
 ) -> Result<(), Fail> {
-    assert_holds!(rt; row < map.region().rows());
+    assert!(rt; row < map.region().rows());
     let found: Vec<(Cell, u32)> = map.stretches(row).collect(rt.alloc())?;
     assert_same!(rt; found.len(), wanted.len(), "row {row}");
     for (stretch, wanted) in found.iter().zip(wanted) {
@@ -212,7 +212,7 @@ fn copies_a_row(rt: HostRuntime) -> Result<(), Fail> {
 
 #[test]
 fn orders_cells(rt: HostRuntime) {
-    assert_holds!(rt; cell(-2147483647) < cell(7) && cell(7) < Cell::null());
+    assert!(rt; cell(-2147483647) < cell(7) && cell(7) < Cell::null());
 }
 
 #[test]

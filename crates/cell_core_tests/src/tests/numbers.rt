@@ -1,6 +1,6 @@
 //! Tests of digits and whole numbers.
 
-use crate::assertions::{assert_holds, assert_same};
+use cell_core_test_maps::assert_same;
 use cell_core_values::whole_numbers::{
     WholeFault, are_digits, is_digit, is_in_range, read_whole, value_of_digits, whole_in_range,
     whole_number,
@@ -38,7 +38,7 @@ const NUMBERS: [(&[u8], Result<i32, WholeFault>); 22] = [
 #[test]
 fn reads_whole_numbers(rt: HostRuntime) -> Result<(), Fail> {
     for (text, wanted) in &NUMBERS {
-        assert_holds!(rt; read_whole(*text) == *wanted, "the text {text:?}");
+        assert!(rt; read_whole(*text) == *wanted, "the text {text:?}");
         assert_same!(rt; whole_in_range(*text), wanted.ok(), "the text {text:?}");
         assert_same!(rt;
             whole_number(*text).is_some(),
@@ -71,15 +71,15 @@ fn values_stop_at_a_bound(rt: HostRuntime) -> Result<(), Fail> {
         (b"18446744073709551617", 1000000000000000000),
     ];
     for &(digits, wanted) in &table {
-        assert_holds!(rt; are_digits(digits), "the text {digits:?}");
+        assert!(rt; are_digits(digits), "the text {digits:?}");
         assert_same!(rt; value_of_digits(digits), wanted, "the text {digits:?}");
     }
-    assert_holds!(rt; !are_digits(b"12a"));
+    assert!(rt; !are_digits(b"12a"));
     assert_same!(rt;
         whole_number(b"-18446744073709551617"),
         Some(-1000000000000000000)
     );
-    assert_holds!(rt; is_in_range(-2147483647) && is_in_range(2147483647));
-    assert_holds!(rt; !is_in_range(-2147483648) && !is_in_range(2147483648));
+    assert!(rt; is_in_range(-2147483647) && is_in_range(2147483647));
+    assert!(rt; !is_in_range(-2147483648) && !is_in_range(2147483648));
     Ok(())
 }

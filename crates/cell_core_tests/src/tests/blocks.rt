@@ -1,9 +1,9 @@
 //! Tests of blocks: when gathered bytes are written, and which of them a full sink accepts.
 
-use crate::assertions::{assert_holds, assert_same};
 use cell_core::block::OutputBlock;
 use cell_core::device::DeviceFault;
 use cell_core::sink::{Flushes, MemorySink, Sink, WriteFault};
+use cell_core_test_maps::assert_same;
 use std::alloc::Global;
 use std::test::Fail;
 
@@ -97,9 +97,9 @@ fn remembers_a_refused_put(rt: HostRuntime) -> Result<(), Fail> {
     let mut block = OutputBlock::new();
     block.push(&mut sink, &[b'a'; 4000]);
     block.push(&mut sink, &[b'b'; 200]);
-    assert_holds!(rt; !block.has_failed());
+    assert!(rt; !block.has_failed());
     block.push(&mut sink, &[b'c'; 4000]);
-    assert_holds!(rt; block.has_failed());
+    assert!(rt; block.has_failed());
     assert_same!(rt; (block.written(), sink.bytes().len()), (4100, 4100));
     block.empty(&mut sink);
     block.push(&mut sink, b"d");

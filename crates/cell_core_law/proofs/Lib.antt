@@ -1,0 +1,2 @@
+-- Lemmas on the contents with which reads agree.
+pub mod AgreementLemmas

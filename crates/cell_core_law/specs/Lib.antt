@@ -1,0 +1,2 @@
+-- Laws about sources.
+pub mod SourceLaw
