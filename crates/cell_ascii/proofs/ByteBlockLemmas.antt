@@ -23,7 +23,7 @@ use Rattle.std.specs.Int.Count.{count_leading_zeros}
 use Rattle.std.proofs.lemmas.Simd.{bit_mask_l, mask_l-lt}
 use Rattle.std.proofs.lemmas.Nat.Bits.{bit_at_not, bit_at-zero}
 use lib.Lanes.{mask_l}
-use Rattle.cell_ascii.proofs.ByteEndLemmas.{ends_of, ends_at, top, top-le, top-set, top-unset, top_is, length-ends, front, length-front, front-mask, front-trues, front-kept, front-top}
+use Rattle.cell_ascii_lanes.proofs.ByteEndLemmas.{ends_of, ends_at, top, top-le, top-set, top-unset, top_is, length-ends, front, length-front, front-mask, front-trues, front-kept, front-top}
 use Rattle.cell_ascii.proofs.WordLemmas.{word-more, gap-more, gap-one, HoldsLines-none}
 
 -- ---- cells of words

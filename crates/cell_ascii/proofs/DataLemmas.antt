@@ -1,7 +1,7 @@
 -- The data is read from its rows and its end, and the text from its header and its data.
-use Rattle.std.proofs.Common.{◌≡◌, ℕ, ℤ, ◌+◌, ◌-◌, ◌*◌, ◌<◌, ◌≤◌, List, Option, Some, None, Result, Ok, Err, Bool, false, refl, ap, sym, subst, ◌∙◌}
-use Rattle.std.specs.Option.{option_map, IfSome}
+use Rattle.std.proofs.Common.{◌≡◌, ◌≢◌, IfOk, IfErr, ℕ, ℤ, ◌+◌, ◌-◌, ◌*◌, ◌<◌, ◌≤◌, List, Option, Some, None, Result, Ok, Err, Bool, false, refl, ap, sym, subst, ◌∙◌}
 use Rattle.cell_core_devices.specs.Device.{Coming}
+use Rattle.cell_core_devices.specs.Supposed.{Supposing, Leads}
 use Rattle.cell_core.specs.Grid.{CellValue, Grid, no_labels}
 use Rattle.cell_ascii_meaning.specs.GridTokens.{grid_start}
 use Rattle.cell_core_values.specs.Region.{RegionValue, region_fault}
@@ -10,115 +10,142 @@ use Rattle.cell_ascii_meaning.specs.Header.{◌>>=◌, At, at_line, HeaderValue,
 use Rattle.cell_ascii_meaning.specs.Kinds.{IsOfText, is_read}
 use Rattle.cell_ascii_meaning.specs.CellTexts.{Reading, cell_from, many, end_of, data_from, grid_of}
 use Rattle.cell_ascii.specs.Reader.{rows_from}
-use Rattle.cell_ascii_meaning.specs.FaultPlaces.{opening_fault}
+use Rattle.cell_ascii_meaning.specs.FaultPlaces.{opening_fault, text_fault}
+use Rattle.cell_ascii_meaning.specs.GridText.{Denotes}
 use Rattle.cell_ascii_meaning.specs.RowPlaces.{IsPlaceOf, end_fault}
-use Rattle.cell_ascii.specs.GridReaders.{ReaderValue, reader_place, opened_in, fault_of_reading}
+use Rattle.cell_ascii.specs.GridReaders.{ReaderValue, reader_place, opened_in, fault_of_reading, AnswersGrid}
 use Rattle.cell_ascii.specs.parts.Unread.{HasRows}
+use Rattle.cell_ascii_reading.specs.Ahead.{bytes_to_come}
 use Rattle.cell_ascii_reading.specs.Opening.{header_seen}
 use Rattle.cell_ascii_meaning.specs.declared.grid_fault.GridFault.{GridFault}
 use Rattle.cell_ascii_meaning.specs.declared.grid_fault.GridKind.{GridKind}
-use Rattle.cell_ascii_meaning.specs.declared.grid_fault.GridKind.TheVariants.{MissingKey, Region}
+use Rattle.cell_ascii_meaning.specs.declared.grid_fault.GridKind.TheVariants.{MissingKey, Region, Memory}
 use Rattle.cell_ascii_reading.proofs.MapLemmas.{known}
+use Rattle.cell_ascii_reading.proofs.LeadLemmas.{Contents, implied, lead_then, known_result}
 use Rattle.cell_ascii.proofs.CellLemmas.{with_front, more_fails}
 use Rattle.cell_ascii.proofs.ManyLemmas.{rows_cut}
-use Rattle.cell_ascii_law_faults.proofs.GridFaultLemmas.{opening_agrees, opening_keeps_places}
-use Rattle.cell_ascii.proofs.RowReadLemmas.{implied, rows_kept, end_is}
+use Rattle.cell_ascii_law.proofs.GridLawLemmas.{reading_agrees}
+use Rattle.cell_ascii_law_faults.proofs.GridFaultLemmas.{opening_agrees, opening_keeps_places, faults_agree}
+use Rattle.cell_ascii.proofs.RowReadLemmas.{rows_kept, end_is}
 
 abbrev then_end : Reading (List (List CellValue)) → Result (List (List CellValue)) GridFault
 then_end r = r >>= (λ x. end_of (grid_start x.1.line x.1.run x.1.coming) >>= (λ _. Ok x.0))
 
-reported_map : {X : Type 0} (F : Coming → X) (v : X) (b : Option Coming) → IfSome b (λ c. F c ≡ v) → option_map F b ≡ option_map (λ c. v) b
-reported_map F v None e = refl
-reported_map F v (Some c) e = ap Some e
-
 -- an error among the next rows is the error of the reading
-pub rows_fail : (h : HeaderValue) (F : Coming → Reading (List (List CellValue))) (a b : Option Coming) (front : List (List CellValue)) (n i k : ℕ) (here : Coming → At) (f : GridFault) → i + k ≤ n
-    → option_map F a ≡ option_map (λ c. with_front front (many (many (cell_from h) h.region.cols) (n - i) (here c))) b
-    → IfSome b (λ c. many (cell_from h) (k * h.region.cols) (here c) ≡ Err f) → IfSome a (λ c. F c ≡ Err f)
-rows_fail h F a b front n i k here f within so_far fails =
+pub rows_fail : (h : HeaderValue) (F : Coming → Reading (List (List CellValue))) (a b d : Contents)
+    (front : List (List CellValue)) (n i k : ℕ) (here : Coming → At) (f : GridFault) → i + k ≤ n
+    → Leads F a (λ c. with_front front (many (many (cell_from h) h.region.cols) (n - i) (here c))) b
+    → Supposing b d (λ c. many (cell_from h) (k * h.region.cols) (here c) ≡ Err f) → Supposing a d (λ c. F c ≡ Err f)
+rows_fail h F a b d front n i k here f within so_far fails =
     let rows = many (many (cell_from h) h.region.cols) k in
-    let cut = implied (λ c. many (cell_from h) (k * h.region.cols) (here c) ≡ Err f) (λ c. rows (here c) ≡ Err f) b (λ c. rows_cut (cell_from h) h.region.cols k (here c) f) fails in
-    known F (λ c. Err f) a b (Err f)
-    (more_fails (many (cell_from h) h.region.cols) F a b b front n i k here within so_far f (reported_map (λ c. rows (here c)) (Err f) b cut)) (λ c. refl)
+    let cut = implied (λ c. many (cell_from h) (k * h.region.cols) (here c) ≡ Err f)
+    (λ c. rows (here c) ≡ Err f) b d (λ c. rows_cut (cell_from h) h.region.cols k (here c) f) fails in
+    known F (λ _. Err f) a d (Err f)
+    (more_fails (many (cell_from h) h.region.cols) F a b d front n i k here within so_far f (known_result
+    (λ c. rows (here c)) b d (Err f) cut))
+    (λ c. refl)
 
-module _ (h : HeaderValue) (here : Coming → At) where
-  -- an error of the rows is the error of the data
-  pub data_fails : (a : Option Coming) (f : GridFault) → IfSome a (λ c. rows_from h (here c) ≡ Err f) → IfSome a (λ c. data_from h (here c) ≡ Err f)
-  data_fails a f e = implied (λ c. rows_from h (here c) ≡ Err f) (λ c. data_from h (here c) ≡ Err f) a (λ c o. ap then_end o) e
-
-  -- after all rows, the result of the end is the result of the data
-  pub data_ends : (there : Coming → At) (a b : Option Coming) (all : List (List CellValue)) (end : Result (Unit {0}) GridFault) (v : Result (List (List CellValue)) GridFault)
-      → 0 < h.region.cols → 0 < h.region.rows → IfSome a (λ c. IsPlaceOf (here c)) → option_map (λ c. rows_from h (here c)) a ≡ option_map (λ d. Ok (all, there d)) b
-      → IfSome b (λ d. fault_of_reading end ≡ end_fault (there d)) → (end >>= (λ _. Ok all)) ≡ v → IfSome a (λ c. data_from h (here c) ≡ v)
-  data_ends there None b all end v wide high placed e reported is = tt
-  data_ends there (Some c) None all end v wide high placed e reported is = cc
-  data_ends there (Some c) (Some d) all end v wide high placed e reported is =
-      let rows : rows_from h (here c) ≡ Ok (all, there d) = cc in
-      let kept = rows_kept h h.region.cols wide h.region.rows (here c) (all, there d) placed rows in
-      ap then_end rows ∙ ap (λ (r : Result (Unit {0}) GridFault). r >>= (λ _. Ok all)) (end_is (there d) end kept.0 (kept.1 high) reported) ∙ is
+-- after all rows, the result of the end is the result of the data
+data_ends : (h : HeaderValue) (here there : At) (all : List (List CellValue))
+    (end : Result (Unit {0}) GridFault) (v : Result (List (List CellValue)) GridFault)
+    → 0 < h.region.cols → 0 < h.region.rows → IsPlaceOf here → rows_from h here ≡ Ok (all, there)
+    → fault_of_reading end ≡ end_fault there → (end >>= (λ _. Ok all)) ≡ v → data_from h here ≡ v
+data_ends h here there all end v wide high placed rows reported is =
+    let kept = rows_kept h h.region.cols wide h.region.rows here (all, there) placed rows in
+    ap then_end rows ∙ ap (λ (r : Result (Unit {0}) GridFault). r >>= (λ _. Ok all))
+    (end_is there end kept.0 (kept.1 high) reported) ∙ is
 
 -- a text whose header and data are known has the result of the data
-text_step : (p : ReaderValue) (v : Result (List (List CellValue)) GridFault) (w : Result Grid GridFault) (x y : Coming)
+text_step : (p : ReaderValue) (v : Result (List (List CellValue)) GridFault) (w : Result Grid GridFault)
+    (x y : Coming)
     → (v >>= (λ rows. Ok (record { region = p.header.region; rows = rows; labels = no_labels }))) ≡ w
     → header_of_text x ≡ Ok (opened_in p y) → data_from p.header (reader_place p y) ≡ v → grid_of x ≡ w
 unfolding grid_of
 text_step p v w x y is e f = rw (e, f) is
 
-text_is : (p : ReaderValue) (v : Result (List (List CellValue)) GridFault) (w : Result Grid GridFault) (a b : Option Coming)
-    → (v >>= (λ rows. Ok (record { region = p.header.region; rows = rows; labels = no_labels }))) ≡ w
-    → option_map header_of_text a ≡ option_map (λ c. Ok (opened_in p c)) b → IfSome b (λ c. data_from p.header (reader_place p c) ≡ v) → IfSome a (λ c. grid_of c ≡ w)
-text_is p v w None b is e f = tt
-text_is p v w (Some x) None is e f = cc
-text_is p v w (Some x) (Some y) is e f = let h : header_of_text x ≡ Ok (opened_in p y) = cc in text_step p v w x y is h f
+module _ (p : ReaderValue) (a : Contents)
+    (opened : Leads header_of_text a (λ c. Ok (opened_in p c)) (bytes_to_come p.ahead)) where
+  -- an error of the rows is the error of the text, under the premise of that error
+  pub rows_fault : (d : Contents) (f : GridFault) (M : Type 0) → Supposing (bytes_to_come p.ahead) d
+      (λ c. M → rows_from p.header (reader_place p c) ≡ Err f)
+      → Supposing a d (λ c. M → grid_of c ≡ Err f)
+  rows_fault d f M fails =
+      lead_then header_of_text (λ c. Ok (opened_in p c)) a (bytes_to_come p.ahead) d
+      (λ c. M → rows_from p.header (reader_place p c) ≡ Err f) (λ c. M → grid_of c ≡ Err f)
+      (λ x y o fault premise. text_step p (Err f) (Err f) x y refl o (ap then_end (fault premise)))
+      opened fails
 
-module _ (p : ReaderValue) (a b : Option Coming) (opened : option_map header_of_text a ≡ option_map (λ c. Ok (opened_in p c)) b) where
-  pub text_map : (m : Grid) → (m.region ≡ p.header.region) × (m.labels ≡ no_labels) → IfSome b (λ c. data_from p.header (reader_place p c) ≡ Ok m.rows) → IfSome a (λ c. grid_of c ≡ Ok m)
-  text_map m parts rows = text_is p (Ok m.rows) (Ok m) a b (λ i. Ok (record { region = sym parts.0 i; rows = m.rows; labels = sym parts.1 i })) opened rows
+  module _ (s : ReaderValue) (m : Grid) (is : HasRows m p s) (d : Contents) where
+    ends : (end : Result (Unit {0}) GridFault) (v : Result (List (List CellValue)) GridFault)
+        (w : Result Grid GridFault)
+        → Supposing (bytes_to_come s.ahead) d (λ c. fault_of_reading end ≡ end_fault (reader_place s c))
+        → (end >>= (λ _. Ok m.rows)) ≡ v
+        → (v >>= (λ rows. Ok (record { region = p.header.region; rows = rows; labels = no_labels }))) ≡ w
+        → Supposing a d (λ c. grid_of c ≡ w)
+    ends end v w reported same text =
+        lead_then header_of_text (λ c. Ok (opened_in p c)) a (bytes_to_come p.ahead) d
+        (λ c. IsPlaceOf (reader_place p c) → data_from p.header (reader_place p c) ≡ v) (λ c. grid_of c ≡ w)
+        (λ x y o values. text_step p v w x y text o (values (opening_keeps_places x (opened_in p y) o)))
+        opened
+        (lead_then (λ c. rows_from p.header (reader_place p c)) (λ c. Ok (m.rows, reader_place s c))
+        (bytes_to_come p.ahead) (bytes_to_come s.ahead) d
+        (λ c. fault_of_reading end ≡ end_fault (reader_place s c))
+        (λ c. IsPlaceOf (reader_place p c) → data_from p.header (reader_place p c) ≡ v)
+        (λ x y rows fault placed. data_ends p.header (reader_place p x)
+        (reader_place s y) m.rows end v is.wide is.high placed rows fault same)
+        is.rows reported)
 
-  pub text_fails : (f : GridFault) → IfSome b (λ c. data_from p.header (reader_place p c) ≡ Err f) → IfSome a (λ c. grid_of c ≡ Err f)
-  text_fails f rows = text_is p (Err f) (Err f) a b refl opened rows
+    -- a text with these rows and no further word is the map of the rows
+    pub whole_read : Supposing (bytes_to_come s.ahead) d
+        (λ c. fault_of_reading {X = Unit {0}} (Ok tt) ≡ end_fault (reader_place s c)) → Supposing a d
+        (λ c. grid_of c ≡ Ok m)
+    whole_read reported = ends (Ok tt) (Ok m.rows) (Ok m) reported refl
+        (λ i. Ok (record { region = sym is.region i; rows = m.rows; labels = sym is.labels i }))
 
-opened_places : (p : ReaderValue) (a b : Option Coming) → option_map header_of_text a ≡ option_map (λ c. Ok (opened_in p c)) b → IfSome b (λ c. IsPlaceOf (reader_place p c))
-opened_places p a None e = tt
-opened_places p None (Some d) e = cc
-opened_places p (Some c) (Some d) e = let o : header_of_text c ≡ Ok (opened_in p d) = cc in opening_keeps_places c (opened_in p d) o
-
-module _ (p s : ReaderValue) (a : Option Coming) (opened : option_map header_of_text a ≡ option_map (λ c. Ok (opened_in p c)) p.coming)
-    (m : Grid) (is : HasRows m p s) where
-  ends : (end : Result (Unit {0}) GridFault) (v : Result (List (List CellValue)) GridFault)
-      → IfSome s.coming (λ d. fault_of_reading end ≡ end_fault (reader_place s d)) → (end >>= (λ _. Ok m.rows)) ≡ v
-      → IfSome p.coming (λ c. data_from p.header (reader_place p c) ≡ v)
-  ends end v reported same =
-      data_ends p.header (reader_place p) (reader_place s) p.coming s.coming m.rows end v is.wide is.high
-      (opened_places p a p.coming opened) is.rows reported same
-
-  -- a text with these rows and no further word is the map of the rows
-  pub whole_read : IfSome s.coming (λ d. fault_of_reading {X = Unit {0}} (Ok tt) ≡ end_fault (reader_place s d)) → IfSome a (λ c. grid_of c ≡ Ok m)
-  whole_read reported = text_map p a p.coming opened m (is.region, is.labels) (ends (Ok tt) (Ok m.rows) reported refl)
-
-  -- an error after the rows is the error of the text
-  pub end_fails : (f : GridFault) → IfSome s.coming (λ d. fault_of_reading {X = Unit {0}} (Err f) ≡ end_fault (reader_place s d)) → IfSome a (λ c. grid_of c ≡ Err f)
-  end_fails f reported = text_fails p a p.coming opened f (ends (Err f) (Err f) reported refl)
+    -- an error after the rows is the error of the text
+    pub end_fails : (f : GridFault) → Supposing (bytes_to_come s.ahead) d
+        (λ c. fault_of_reading {X = Unit {0}} (Err f) ≡ end_fault (reader_place s c)) → Supposing a d
+        (λ c. grid_of c ≡ Err f)
+    end_fails f reported = ends (Err f) (Err f) (Err f) reported refl refl
 
 -- an error of the header is an error of the text
-header_faults : (a : Option Coming) (f : GridFault) → IfSome a (λ c. header_of_text c ≡ Err f) → IfSome a (λ c. grid_of c ≡ Err f)
+header_faults : (c : Coming) (f : GridFault) → header_of_text c ≡ Err f → grid_of c ≡ Err f
 unfolding grid_of
-header_faults None f h = tt
-header_faults (Some x) f h = rw h refl
+header_faults c f e = rw e refl
 
--- an error that the opening reports is the error of the text
-pub opening_fails : (a : Option Coming) (f : GridFault) → IfSome a (λ c. opening_fault c ≡ Some f) → IfSome a (λ c. grid_of c ≡ Err f)
-opening_fails a f reported = header_faults a f (implied (λ c. opening_fault c ≡ Some f) (λ c. header_of_text c ≡ Err f) a (λ c. (opening_agrees c f).1) reported)
+-- an error that the opening reports is the error of the text, under the premise of that error
+pub opening_fails : (a d : Contents) (f : GridFault) (M : Type 0) → Supposing a d
+    (λ c. M → opening_fault c ≡ Some f) → Supposing a d (λ c. M → grid_of c ≡ Err f)
+opening_fails a d f M reported =
+    implied (λ c. M → opening_fault c ≡ Some f) (λ c. M → grid_of c ≡ Err f) a d
+    (λ c fault premise. header_faults c f ((opening_agrees c f).1 (fault premise)))
+    reported
+
+-- a map that was read is the map that the text denotes
+pub reading_denotes : (r : Result Grid GridFault) (a d : Contents) → Supposing a d
+    (λ c. AnswersGrid r (grid_of c)) → IfOk r (λ m. Supposing a d (λ c. Denotes c m))
+reading_denotes (Ok m) a d reading = implied (λ c. grid_of c ≡ Ok m) (λ c. Denotes c m) a d
+    (λ c. (reading_agrees c m).0) reading
+reading_denotes (Err f) a d reading = tt
+
+-- an error that was returned is the first error of the text
+pub reading_faults : (r : Result Grid GridFault) (a d : Contents) → Supposing a d (λ c. AnswersGrid r (grid_of c))
+    → IfErr r (λ f. f.kind ≢ Memory → Supposing a d (λ c. text_fault c ≡ Some f))
+reading_faults (Ok m) a d reading = tt
+reading_faults (Err f) a d reading = λ other.
+    implied (λ c. f.kind ≢ Memory → grid_of c ≡ Err f) (λ c. text_fault c ≡ Some f) a d
+    (λ c e. (faults_agree c f).0 (e other)) reading
 
 -- if the keys give no header, their error is the error of the header
-pub open_fails : (keys : KeyValues) (word : List ℕ) (line : ℕ) (waiting : Bool) (a b : Option Coming) (f : GridFault)
-    → option_map (header_from 10 no_keys 1 0) a ≡ option_map (header_seen (Ok waiting) keys word line) b
-    → Err f ≡ at_line line (header_of keys) → IfSome a (λ c. header_of_text c ≡ Err f)
+pub open_fails : (keys : KeyValues) (word : List ℕ) (line : ℕ) (waiting : Bool) (a b : Contents) (f : GridFault)
+    → Leads (header_from 10 no_keys 1 0) a (header_seen (Ok waiting) keys word line) b
+    → Err f ≡ at_line line (header_of keys) → Supposing a b (λ c. header_of_text c ≡ Err f)
 open_fails keys word line waiting a b f e bad =
     known (header_from 10 no_keys 1 0) (header_seen (Ok waiting) keys word line) a b (Err f) e (λ c. rw (← bad) refl)
 
 -- if all six keys are given, the header depends on whether they form a region
-all_given : (k : KeyValues) (north south east west : ℤ) (rows cols : ℕ) → k.north ≡ Some north → k.south ≡ Some south → k.east ≡ Some east → k.west ≡ Some west → k.rows ≡ Some rows → k.cols ≡ Some cols
+all_given : (k : KeyValues) (north south east west : ℤ) (rows cols : ℕ) → k.north ≡ Some north
+    → k.south ≡ Some south → k.east ≡ Some east → k.west ≡ Some west → k.rows ≡ Some rows → k.cols ≡ Some cols
     → header_of_keys k (region_fault (record { north = north; south = south; east = east; west = west; rows = rows; cols = cols })) ≡ header_of k
 all_given k north south east west rows cols n s e w r c = rw (n, s, e, w, r, c) refl
 
@@ -132,14 +159,18 @@ module _ (P : GridKind → Type 0) (missing : P MissingKey) (region : (f : Regio
   none_has : (kind : GridKind) → header_of k ≡ Err MissingKey → header_of k ≡ Err kind → P kind
   none_has kind e is = let p : MissingKey ≡ kind = cc in subst P p missing
 
-  keys_have : (n s e w : Option ℤ) (r c : Option ℕ) (kind : GridKind) → k.north ≡ n → k.south ≡ s → k.east ≡ e → k.west ≡ w → k.rows ≡ r → k.cols ≡ c
+  keys_have : (n s e w : Option ℤ) (r c : Option ℕ) (kind : GridKind) → k.north ≡ n → k.south ≡ s → k.east ≡ e
+      → k.west ≡ w → k.rows ≡ r → k.cols ≡ c
       → header_of k ≡ Err kind → P kind
   keys_have None s e w r c kind en es ee ew er ec is = none_has kind (rw en refl) is
   keys_have (Some n) None e w r c kind en es ee ew er ec is = none_has kind (rw (en, es) refl) is
   keys_have (Some n) (Some s) None w r c kind en es ee ew er ec is = none_has kind (rw (en, es, ee) refl) is
-  keys_have (Some n) (Some s) (Some e) None r c kind en es ee ew er ec is = none_has kind (rw (en, es, ee, ew) refl) is
-  keys_have (Some n) (Some s) (Some e) (Some w) None c kind en es ee ew er ec is = none_has kind (rw (en, es, ee, ew, er) refl) is
-  keys_have (Some n) (Some s) (Some e) (Some w) (Some r) None kind en es ee ew er ec is = none_has kind (rw (en, es, ee, ew, er, ec) refl) is
+  keys_have (Some n) (Some s)
+      (Some e) None r c kind en es ee ew er ec is = none_has kind (rw (en, es, ee, ew) refl) is
+  keys_have (Some n) (Some s) (Some e)
+      (Some w) None c kind en es ee ew er ec is = none_has kind (rw (en, es, ee, ew, er) refl) is
+  keys_have (Some n) (Some s) (Some e) (Some w)
+      (Some r) None kind en es ee ew er ec is = none_has kind (rw (en, es, ee, ew, er, ec) refl) is
   keys_have (Some n) (Some s) (Some e) (Some w) (Some r) (Some c) kind en es ee ew er ec is =
       judged_has (region_fault (record { north = n; south = s; east = e; west = w; rows = r; cols = c })) kind (all_given k n s e w r c en es ee ew er ec ∙ is)
 

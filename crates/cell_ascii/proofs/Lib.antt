@@ -1,9 +1,8 @@
+pub mod KnownLemmas
 pub mod ManyLemmas
 pub mod BufferedLemmas
 pub mod BufferedRowLemmas
 pub mod AgainLemmas
-pub mod LaneLemmas
-pub mod ByteEndLemmas
 pub mod ByteBlockLemmas
 pub mod NumberWordLemmas
 pub mod BitLemmas

@@ -1,14 +1,15 @@
 -- Readings one after another, as one reading.
-use Rattle.std.proofs.Common.{◌≡◌, ℕ, zero, suc, ◌+◌, ◌-◌, ◌*◌, ◌<◌, List, [], ◌∷◌, ◌++◌, length, take, drop, Option}
+use Rattle.std.proofs.Common.{◌≡◌, ℕ, zero, suc, ◌+◌, ◌-◌, ◌*◌, ◌<◌, List, [], ◌∷◌, ◌++◌, length, take, drop}
 use Rattle.std.proofs.Common.{Ok, Err, refl, ap, sym, ◌∙◌, arith}
 use Rattle.std.proofs.Math.Seq.{take-append_seam, drop-append_seam}
-use Rattle.std.specs.Option.{option_map}
 use Rattle.cell_core_devices.specs.Device.{Coming}
+use Rattle.cell_core_devices.specs.Supposed.{Leads}
 use Rattle.cell_ascii_meaning.specs.Header.{◌>>=◌, At}
 use Rattle.cell_ascii_meaning.specs.CellTexts.{Reading, many}
 use Rattle.cell_ascii.specs.parts.FrontCells.{rows_of}
 use Rattle.cell_ascii_meaning.specs.declared.grid_fault.GridFault.{GridFault}
-use Rattle.cell_ascii_reading.proofs.MapLemmas.{then_map, map_same}
+use Rattle.cell_ascii_reading.proofs.MapLemmas.{chain, then_map, map_same}
+use Rattle.cell_ascii_reading.proofs.LeadLemmas.{Contents}
 
 module _ {X : Type 0} (one : At → Reading X) where
   -- one more item after the items read before
@@ -64,13 +65,18 @@ module _ {X : Type 0} (one : At → Reading X) where
       (many_more i at ∙ ap (λ (r : Reading (List X)). r >>= with_last) e ∙ ap (λ (r : Reading X). r >>= snoc xs) o)
 
   -- reading one more item adds the item to those read before
-  pub row_more : (here mid there : Coming → At) (a b d : Option Coming) (i : ℕ) (front : List X) (x : X)
-      → option_map (λ c. many one i (here c)) a ≡ option_map (λ c. Ok (front, mid c)) b → option_map (λ c. one (mid c)) b ≡ option_map (λ c. Ok (x, there c)) d
-      → option_map (λ c. many one (i + 1) (here c)) a ≡ option_map (λ c. Ok (front ++ x ∷ [], there c)) d
+  pub row_more : (here mid there : Coming → At) (a b d : Contents) (i : ℕ) (front : List X) (x : X)
+      → Leads (λ c. many one i (here c)) a (λ c. Ok (front, mid c)) b → Leads (λ c. one (mid c)) b (λ c. Ok (x, there c)) d
+      → Leads (λ c. many one (i + 1) (here c)) a (λ c. Ok (front ++ x ∷ [], there c)) d
   row_more here mid there a b d i front x so_far e =
-      map_same (λ c. many one (i + 1) (here c)) (λ c. many one i (here c) >>= with_last) a (λ c. many_more i (here c))
-      ∙ then_map (λ (r : Reading (List X)). r >>= with_last) (λ c. many one i (here c)) (λ c. Ok (front, mid c)) a b so_far
-      ∙ then_map (λ (r : Reading X). r >>= snoc front) (λ c. one (mid c)) (λ c. Ok (x, there c)) b d e
+      let all : Coming → Reading (List X) = λ c. many one (i + 1) (here c) in
+      let first : Coming → Reading (List X) = λ c. many one i (here c) >>= with_last in
+      let next : Coming → Reading (List X) = λ c. one (mid c) >>= snoc front in
+      let read : Coming → Reading (List X) = λ c. Ok (front ++ x ∷ [], there c) in
+      chain all first read a a d (map_same all first a (λ c. many_more i (here c)))
+      (chain first next read a b d
+      (then_map (λ (r : Reading (List X)). r >>= with_last) (λ c. many one i (here c)) (λ c. Ok (front, mid c)) a b so_far)
+      (then_map (λ (r : Reading X). r >>= snoc front) (λ c. one (mid c)) (λ c. Ok (x, there c)) b d e))
 
   -- items after those read before
   abbrev pub glue : List X → List X × At → Reading (List X)
@@ -104,13 +110,18 @@ module _ {X : Type 0} (one : At → Reading X) where
       by on (Err f) = refl
 
   -- reading k more items adds them to those read before
-  pub row_some : (here mid there : Coming → At) (a b d : Option Coming) (i k : ℕ) (front next : List X)
-      → option_map (λ c. many one i (here c)) a ≡ option_map (λ c. Ok (front, mid c)) b → option_map (λ c. many one k (mid c)) b ≡ option_map (λ c. Ok (next, there c)) d
-      → option_map (λ c. many one (i + k) (here c)) a ≡ option_map (λ c. Ok (front ++ next, there c)) d
+  pub row_some : (here mid there : Coming → At) (a b d : Contents) (i k : ℕ) (front next : List X)
+      → Leads (λ c. many one i (here c)) a (λ c. Ok (front, mid c)) b → Leads (λ c. many one k (mid c)) b (λ c. Ok (next, there c)) d
+      → Leads (λ c. many one (i + k) (here c)) a (λ c. Ok (front ++ next, there c)) d
   row_some here mid there a b d i k front next so_far e =
-      map_same (λ c. many one (i + k) (here c)) (λ c. many one i (here c) >>= and_then k) a (λ c. many_add i k (here c))
-      ∙ then_map (λ (r : Reading (List X)). r >>= and_then k) (λ c. many one i (here c)) (λ c. Ok (front, mid c)) a b so_far
-      ∙ then_map (λ (r : Reading (List X)). r >>= glue front) (λ c. many one k (mid c)) (λ c. Ok (next, there c)) b d e
+      let all : Coming → Reading (List X) = λ c. many one (i + k) (here c) in
+      let first : Coming → Reading (List X) = λ c. many one i (here c) >>= and_then k in
+      let more : Coming → Reading (List X) = λ c. many one k (mid c) >>= glue front in
+      let read : Coming → Reading (List X) = λ c. Ok (front ++ next, there c) in
+      chain all first read a a d (map_same all first a (λ c. many_add i k (here c)))
+      (chain first more read a b d
+      (then_map (λ (r : Reading (List X)). r >>= and_then k) (λ c. many one i (here c)) (λ c. Ok (front, mid c)) a b so_far)
+      (then_map (λ (r : Reading (List X)). r >>= glue front) (λ c. many one k (mid c)) (λ c. Ok (next, there c)) b d e))
 
   -- the list has the requested length
   many_length : (n : ℕ) (at : At) (y : List X × At) → many one n at ≡ Ok y → length y.0 ≡ n
@@ -165,14 +176,15 @@ module _ {X : Type 0} (one : At → Reading X) where
       by rest (Err f) on = refl
 
   -- cells that were read one after another are read as rows
-  pub rows_read : (here there : Coming → At) (a b : Option Coming) (cols rows : ℕ) (xs : List X)
-      → option_map (λ c. many one (rows * cols) (here c)) a ≡ option_map (λ c. Ok (xs, there c)) b
-      → option_map (λ c. many (many one cols) rows (here c)) a ≡ option_map (λ c. Ok (rows_of cols rows xs, there c)) b
+  pub rows_read : (here there : Coming → At) (a b : Contents) (cols rows : ℕ) (xs : List X)
+      → Leads (λ c. many one (rows * cols) (here c)) a (λ c. Ok (xs, there c)) b
+      → Leads (λ c. many (many one cols) rows (here c)) a (λ c. Ok (rows_of cols rows xs, there c)) b
   rows_read here there a b cols rows xs e =
-      map_same (λ c. many (many one cols) rows (here c)) (λ c. many one (rows * cols) (here c) >>= cut cols rows) a
-      (λ c. many_rows cols rows (here c))
-      ∙ then_map (λ (r : Reading (List X)). r >>= cut cols rows) (λ c. many one (rows * cols) (here c))
-      (λ c. Ok (xs, there c)) a b e
+      let all : Coming → Reading (List (List X)) = λ c. many (many one cols) rows (here c) in
+      let cells : Coming → Reading (List (List X)) = λ c. many one (rows * cols) (here c) >>= cut cols rows in
+      let read : Coming → Reading (List (List X)) = λ c. Ok (rows_of cols rows xs, there c) in
+      chain all cells read a a b (map_same all cells a (λ c. many_rows cols rows (here c)))
+      (then_map (λ (r : Reading (List X)). r >>= cut cols rows) (λ c. many one (rows * cols) (here c)) (λ c. Ok (xs, there c)) a b e)
 
   -- an error of the cells is the error of the rows
   pub rows_cut : (cols rows : ℕ) (at : At) (f : GridFault) → many one (rows * cols) at ≡ Err f → many

@@ -1,8 +1,9 @@
 -- Rows that were read or cut off by an error, as readings of the text.
-use Rattle.std.proofs.Common.{◌≡◌, ℕ, zero, suc, ◌+◌, ◌*◌, ◌^◌, ◌<◌, ◌≤◌, List, [], ◌∷◌, ◌++◌, Option, Some, None, Result, Ok, Err, length, take, drop, refl, ap, sym, ◌∙◌, arith, subst, mul-le-mul}
+use Rattle.std.proofs.Common.{◌≡◌, ℕ, zero, suc, ◌+◌, ◌*◌, ◌^◌, ◌<◌, ◌≤◌, List, [], ◌∷◌, ◌++◌, Some, None, Result, Ok, Err, length, take, drop, refl, ap, sym, ◌∙◌, arith, subst, mul-le-mul}
 use Rattle.std.proofs.Math.Nat.{add-mul}
-use Rattle.std.specs.Option.{option_map, IfSome}
+use Rattle.std.specs.Option.{IfSome}
 use Rattle.cell_core_devices.specs.Device.{Coming}
+use Rattle.cell_core_devices.specs.Supposed.{Supposing, Leads}
 use Rattle.cell_core.specs.Grid.{CellValue}
 use Rattle.cell_ascii_meaning.specs.GridTokens.{grid_start}
 use Rattle.cell_ascii_meaning.specs.Header.{◌>>=◌, At, HeaderValue, header_of_text}
@@ -15,116 +16,116 @@ use Rattle.cell_ascii_law_faults.proofs.PlaceDataLemmas.{fault_in}
 use Rattle.cell_ascii_law_faults.proofs.RowPlaceLemmas.{cells_reported, end_reported}
 use Rattle.cell_ascii_law_faults.proofs.PlaceKeptLemmas.{cells_kept}
 use Rattle.cell_ascii_law_faults.proofs.GridFaultLemmas.{opening_keeps_places}
+use Rattle.cell_ascii_reading.proofs.LeadLemmas.{Contents, implied, assumed, lead_once, lead_twice, lead_then, lead_end, lead_kept}
 use Rattle.cell_ascii.proofs.ManyLemmas.{many_cut, many_snoc, with_last, many_add, and_then, glue}
 
--- if P implies Q, and P holds of a known source, Q holds of the source
-pub implied : {A : Type 0} (P Q : A → Type 0) (a : Option A) → ((c : A) → P c → Q c) → IfSome a P → IfSome a Q
-implied P Q None go h = tt
-implied P Q (Some c) go h = go c h
-
--- if a premise gives a property of a known source, the source has the property under that premise
-pub premised : {A Q : Type 0} (P : A → Type 0) (a : Option A) → (Q → IfSome a P) → IfSome a (λ c. Q → P c)
-premised P None reported = tt
-premised P (Some c) reported = reported
-
 -- an error after i cells cuts a row off there
-pub row_cut : (h : HeaderValue) (here mid : Coming → At) (a b d : Option Coming) (i : ℕ) (f : GridFault) (old row : List CellValue) → i < length old → drop i row ≡ drop i old
-    → option_map (λ c. many (cell_from h) i (here c)) a ≡ option_map (λ c. Ok (take i row, mid c)) b → option_map (λ c. cell_from h (mid c)) b ≡ option_map (λ c. Err f) d
-    → IfSome a (λ c. IsCutRow h (here c) f old row)
-row_cut h here mid None b d i f old row lower kept e o = tt
-row_cut h here mid (Some c) None d i f old row lower kept e o = cc
-row_cut h here mid (Some c) (Some m) None i f old row lower kept e o = cc
-row_cut h here mid (Some c) (Some m) (Some z) i f old row lower kept e o =
-    let cells : many (cell_from h) i (here c) ≡ Ok (take i row, mid m) = cc in
-    let stop : cell_from h (mid m) ≡ Err f = cc in
-    record { count = i; fewer = lower; rest = mid m; cells = cells; stop = stop; kept = kept }
+pub row_cut : (h : HeaderValue) (here mid : Coming → At) (a b d : Contents) (i : ℕ) (f : GridFault)
+    (old row : List CellValue) → i < length old → drop i row ≡ drop i old
+    → Leads (λ c. many (cell_from h) i (here c)) a (λ c. Ok (take i row, mid c)) b → Leads
+    (λ c. cell_from h (mid c)) b (λ c. Err f) d
+    → Supposing a d (λ c. IsCutRow h (here c) f old row)
+row_cut h here mid a b d i f old row lower kept e o =
+    lead_twice (λ c. many (cell_from h) i (here c)) (λ c. Ok (take i row, mid c)) a b (λ c. cell_from h (mid c))
+    (λ c. Err f) d (λ c. IsCutRow h (here c) f old row)
+    (λ x y z cells stop. record { count = i; fewer = lower; rest = mid y; cells = cells; stop = stop; kept = kept })
+    e o
 
 -- an error after some cells of a row is the error of the row
-pub row_fails : (h : HeaderValue) (here mid : Coming → At) (a b d : Option Coming) (i n : ℕ) (f : GridFault) (front : List CellValue) → i < n
-    → option_map (λ c. many (cell_from h) i (here c)) a ≡ option_map (λ c. Ok (front, mid c)) b → option_map (λ c. cell_from h (mid c)) b ≡ option_map (λ c. Err f) d
-    → IfSome a (λ c. many (cell_from h) n (here c) ≡ Err f)
-row_fails h here mid None b d i n f front lower e o = tt
-row_fails h here mid (Some c) None d i n f front lower e o = cc
-row_fails h here mid (Some c) (Some m) None i n f front lower e o = cc
-row_fails h here mid (Some c) (Some m) (Some z) i n f front lower e o =
-    let cells : many (cell_from h) i (here c) ≡ Ok (front, mid m) = cc in
-    let stop : cell_from h (mid m) ≡ Err f = cc in
-    many_cut (cell_from h) i n (here c) (mid m) front f lower cells stop
+pub row_fails : (h : HeaderValue) (here mid : Coming → At) (a b d : Contents) (i n : ℕ) (f : GridFault)
+    (front : List CellValue) → i < n
+    → Leads (λ c. many (cell_from h) i (here c)) a (λ c. Ok (front, mid c)) b → Leads
+    (λ c. cell_from h (mid c)) b (λ c. Err f) d
+    → Supposing a d (λ c. many (cell_from h) n (here c) ≡ Err f)
+row_fails h here mid a b d i n f front lower e o =
+    lead_twice (λ c. many (cell_from h) i (here c)) (λ c. Ok (front, mid c)) a b (λ c. cell_from h (mid c))
+    (λ c. Err f) d (λ c. many (cell_from h) n (here c) ≡ Err f)
+    (λ x y z cells stop. many_cut (cell_from h) i n (here x) (mid y) front f lower cells stop)
+    e o
 
 -- an error among the remaining cells of a row is the error of the row
-pub others_fail : (h : HeaderValue) (here mid : Coming → At) (a b : Option Coming) (i n : ℕ) (f : GridFault) (front : List CellValue)
-    → option_map (λ c. many (cell_from h) i (here c)) a ≡ option_map (λ c. Ok (front, mid c)) b → IfSome b (λ c. many (cell_from h) n (mid c) ≡ Err f)
-    → IfSome a (λ c. many (cell_from h) (i + n) (here c) ≡ Err f)
-others_fail h here mid None b i n f front e stop = tt
-others_fail h here mid (Some c) None i n f front e stop = cc
-others_fail h here mid (Some c) (Some m) i n f front e stop =
-    let cells : many (cell_from h) i (here c) ≡ Ok (front, mid m) = cc in
-    many_add (cell_from h) i n (here c) ∙ ap (λ (r : Reading (List CellValue)). r >>= and_then (cell_from h) n) cells
-    ∙ ap (λ (r : Reading (List CellValue)). r >>= glue (cell_from h) front) stop
+pub others_fail : (h : HeaderValue) (here mid : Coming → At) (a b d : Contents) (i n : ℕ) (f : GridFault)
+    (front : List CellValue)
+    → Leads (λ c. many (cell_from h) i (here c)) a (λ c. Ok (front, mid c)) b → Supposing b d
+    (λ c. many (cell_from h) n (mid c) ≡ Err f)
+    → Supposing a d (λ c. many (cell_from h) (i + n) (here c) ≡ Err f)
+others_fail h here mid a b d i n f front e stops =
+    lead_then (λ c. many (cell_from h) i (here c)) (λ c. Ok (front, mid c)) a b d
+    (λ c. many (cell_from h) n (mid c) ≡ Err f) (λ c. many (cell_from h) (i + n) (here c) ≡ Err f)
+    (λ x y cells stop. many_add (cell_from h) i n (here x) ∙ ap
+    (λ (r : Reading (List CellValue)). r >>= and_then (cell_from h) n) cells
+    ∙ ap (λ (r : Reading (List CellValue)). r >>= glue (cell_from h) front) stop)
+    e stops
 
 -- the error that cuts off a row is the error of its reading
-pub cut_fails : (h : HeaderValue) (at : At) (f : GridFault) (old row : List CellValue) → IsCutRow h at f old row → many (cell_from h) (length old) at ≡ Err f
+pub cut_fails : (h : HeaderValue) (at : At) (f : GridFault) (old row : List CellValue) → IsCutRow h at f old row
+    → many (cell_from h) (length old) at ≡ Err f
 cut_fails h at f old row cut = many_cut (cell_from h) cut.count (length old) at cut.rest (take cut.count row) f cut.fewer cut.cells cut.stop
 
-module _ (h : HeaderValue) (here : Coming → At) (Q : Coming → Type 0) (a : Option Coming) (placed : IfSome a (λ c. IsPlaceOf (here c) × Q c)) where
+module _ (h : HeaderValue) (here : Coming → At) (Q : Coming → Type 0) (a : Contents)
+    (placed : (t : Coming) → IfSome (a t) (λ c. IsPlaceOf (here c) × Q c)) where
   -- a row that was read reports no error
-  pub row_reported : (n : ℕ) (there : Coming → At) (b : Option Coming) (row : List CellValue) → option_map (λ c. many (cell_from h) n (here c)) a ≡ option_map (λ d. Ok (row, there d)) b
-      → IfSome a (λ c. None ≡ cells_fault h n (here c))
-  row_reported n there b row e = by a b placed e
-    where
-      by : (a b : Option Coming) → IfSome a (λ c. IsPlaceOf (here c) × Q c) → option_map (λ c. many (cell_from h) n (here c)) a ≡ option_map (λ d. Ok (row, there d)) b
-          → IfSome a (λ c. None ≡ cells_fault h n (here c))
-      by None b placed e = tt
-      by (Some c) None placed e = cc
-      by (Some c) (Some d) placed e = let o : many (cell_from h) n (here c) ≡ Ok (row, there d) = cc in sym (ap fault_in o) ∙ cells_reported h n (here c) placed.0
+  pub row_reported : (n : ℕ) (there : Coming → At) (b : Contents) (row : List CellValue) → Leads
+      (λ c. many (cell_from h) n (here c)) a (λ d. Ok (row, there d)) b
+      → Supposing a b (λ c. None ≡ cells_fault h n (here c))
+  row_reported n there b row e =
+      assumed (λ c. None ≡ cells_fault h n (here c)) (λ c. IsPlaceOf (here c) × Q c) a b placed
+      (lead_once (λ c. many (cell_from h) n (here c)) (λ d. Ok (row, there d)) a b
+      (λ c. IsPlaceOf (here c) × Q c → None ≡ cells_fault h n (here c))
+      (λ x y o is. sym (ap fault_in o) ∙ cells_reported h n (here x) is.0)
+      e)
 
   -- a row that was cut off reports its error
-  pub cut_reported : (f : GridFault) (old row : List CellValue) → IfSome a (λ c. IsCutRow h (here c) f old row) → IfSome a (λ c. Some f ≡ cells_fault h (length old) (here c))
-  cut_reported f old row cut = by a placed cut
-    where
-      by : (a : Option Coming) → IfSome a (λ c. IsPlaceOf (here c) × Q c) → IfSome a (λ c. IsCutRow h (here c) f old row) → IfSome a (λ c. Some f ≡ cells_fault h (length old) (here c))
-      by None placed cut = tt
-      by (Some c) placed cut = sym (ap fault_in (cut_fails h (here c) f old row cut)) ∙ cells_reported h (length old) (here c) placed.0
+  pub cut_reported : (b : Contents) (f : GridFault) (old row : List CellValue) → Supposing a b
+      (λ c. IsCutRow h (here c) f old row) → Supposing a b (λ c. Some f ≡ cells_fault h (length old) (here c))
+  cut_reported b f old row cut =
+      assumed (λ c. Some f ≡ cells_fault h (length old) (here c)) (λ c. IsPlaceOf (here c) × Q c) a b placed
+      (implied (λ c. IsCutRow h (here c) f old row)
+      (λ c. IsPlaceOf (here c) × Q c → Some f ≡ cells_fault h (length old) (here c)) a b
+      (λ c cut is. sym (ap fault_in (cut_fails h (here c) f old row cut)) ∙ cells_reported h (length old)
+      (here c) is.0)
+      cut)
 
   -- after a row, the reader is at a valid position, and no token is pending after the last row
-  pub row_placed : (n left : ℕ) (there : Coming → At) (b : Option Coming) (row : List CellValue) → 0 < n → option_map (λ c. many (cell_from h) n (here c)) a ≡ option_map (λ d. Ok (row, there d)) b
-      → IfSome b (λ d. IsPlaceOf (there d) × (left ≡ 0 → (there d).pending ≡ None))
-  row_placed n left there b row some e = by a b placed e
-    where
-      by : (a b : Option Coming) → IfSome a (λ c. IsPlaceOf (here c) × Q c) → option_map (λ c. many (cell_from h) n (here c)) a ≡ option_map (λ d. Ok (row, there d)) b
-          → IfSome b (λ d. IsPlaceOf (there d) × (left ≡ 0 → (there d).pending ≡ None))
-      by a None placed e = tt
-      by None (Some d) placed e = cc
-      by (Some c) (Some d) placed e =
-          let o : many (cell_from h) n (here c) ≡ Ok (row, there d) = cc in
-          let kept = cells_kept h n (here c) (row, there d) placed.0 o in
-          (kept.0, λ _. kept.1 some)
+  pub row_placed : (n left : ℕ) (there : Coming → At) (b : Contents) (row : List CellValue) → 0 < n → Leads
+      (λ c. many (cell_from h) n (here c)) a (λ d. Ok (row, there d)) b
+      → (t : Coming) → IfSome (b t) (λ d. IsPlaceOf (there d) × (left ≡ 0 → (there d).pending ≡ None))
+  row_placed n left there b row some e =
+      lead_kept (λ c. many (cell_from h) n (here c)) (λ d. Ok (row, there d)) a b
+      (λ c. IsPlaceOf (here c) × Q c) (λ d. IsPlaceOf (there d) × (left ≡ 0 → (there d).pending ≡ None))
+      (λ x y o is. let kept = cells_kept h n (here x) (row, there y) is.0 o in (kept.0, λ _. kept.1 some))
+      placed e
 
 -- after the header, the reader is at a valid position
-pub opening_placed : (h : HeaderValue) (there : Coming → At) (left : ℕ) (a b : Option Coming) → 0 < left
-    → option_map header_of_text a ≡ option_map (λ c. Ok (record { header = h; at = there c })) b → IfSome b (λ c. IsPlaceOf (there c) × (left ≡ 0 → (there c).pending ≡ None))
-opening_placed h there left a None some e = tt
-opening_placed h there left None (Some d) some e = cc
-opening_placed h there left (Some c) (Some d) some e =
-    let o : header_of_text c ≡ Ok (record { header = h; at = there d }) = cc in
-    (opening_keeps_places c (record { header = h; at = there d }) o, λ none. absurd (omega arith))
+pub opening_placed : (h : HeaderValue) (there : Coming → At) (left : ℕ) (a b : Contents) → 0 < left
+    → Leads header_of_text a (λ c. Ok (record { header = h; at = there c })) b → (t : Coming) → IfSome (b t)
+    (λ c. IsPlaceOf (there c) × (left ≡ 0 → (there c).pending ≡ None))
+opening_placed h there left a b some e =
+    lead_end header_of_text (λ c. Ok (record { header = h; at = there c })) a b
+    (λ c. IsPlaceOf (there c) × (left ≡ 0 → (there c).pending ≡ None))
+    (λ x y o. (opening_keeps_places x (record { header = h; at = there y }) o, λ none. absurd (omega arith)))
+    e
 
 same_fault : {X : Type 0} (r : Result X GridFault) → fault_of_reading r ≡ fault_in r
 same_fault (Ok x) = refl
 same_fault (Err f) = refl
 
 -- the result of the end is the result that the end reports
-pub end_answers : (here : Coming → At) (left : ℕ) (a b : Option Coming) (r : Result (Unit {0}) GridFault) → left ≡ 0
-    → IfSome a (λ c. IsPlaceOf (here c) × (left ≡ 0 → (here c).pending ≡ None))
-    → option_map (λ c. end_of (grid_start (here c).line (here c).run (here c).coming)) a ≡ option_map (always r) b → IfSome a (λ c. fault_of_reading r ≡ end_fault (here c))
-end_answers here left None b r none placed e = tt
-end_answers here left (Some c) None r none placed e = cc
-end_answers here left (Some c) (Some d) r none placed e =
-    let o : end_of (grid_start (here c).line (here c).run (here c).coming) ≡ r = cc in
-    same_fault r ∙ sym (ap fault_in o) ∙ end_reported (here c) (placed.1 none) placed.0.low
+pub end_answers : (here : Coming → At) (left : ℕ) (a b : Contents) (r : Result (Unit {0}) GridFault) → left ≡ 0
+    → ((t : Coming) → IfSome (a t) (λ c. IsPlaceOf (here c) × (left ≡ 0 → (here c).pending ≡ None)))
+    → Leads (λ c. end_of (grid_start (here c).line (here c).run (here c).coming)) a (always r) b → Supposing a b
+    (λ c. fault_of_reading r ≡ end_fault (here c))
+end_answers here left a b r none placed e =
+    assumed (λ c. fault_of_reading r ≡ end_fault (here c))
+    (λ c. IsPlaceOf (here c) × (left ≡ 0 → (here c).pending ≡ None)) a b placed
+    (lead_once (λ c. end_of (grid_start (here c).line (here c).run (here c).coming)) (always r) a b
+    (λ c. IsPlaceOf (here c) × (left ≡ 0 → (here c).pending ≡ None) → fault_of_reading r ≡ end_fault (here c))
+    (λ x y o is. same_fault r ∙ sym (ap fault_in o) ∙ end_reported (here x) (is.1 none) is.0.low)
+    e)
 
 -- what the end reports is its result
-pub end_is : (at : At) (r : Result (Unit {0}) GridFault) → IsPlaceOf at → at.pending ≡ None → fault_of_reading r ≡ end_fault at → end_of (grid_start at.line at.run at.coming) ≡ r
+pub end_is : (at : At) (r : Result (Unit {0}) GridFault) → IsPlaceOf at → at.pending ≡ None
+    → fault_of_reading r ≡ end_fault at → end_of (grid_start at.line at.run at.coming) ≡ r
 end_is at r is none reported = by (end_of (grid_start at.line at.run at.coming)) r (end_reported at none is.low ∙ sym reported ∙ same_fault r)
   where
     by : (q r : Result (Unit {0}) GridFault) → fault_in q ≡ fault_in r → q ≡ r
@@ -135,27 +136,37 @@ end_is at r is none reported = by (end_of (grid_start at.line at.run at.coming))
 
 module _ (h : HeaderValue) (cols : ℕ) (some : 0 < cols) where
   -- after rows, the reader is at a valid position, and no token is pending after the last row
-  pub rows_kept : (n : ℕ) (at : At) (x : List (List CellValue) × At) → IsPlaceOf at → many (many (cell_from h) cols) n at ≡ Ok x → IsPlaceOf x.1 × (0 < n → x.1.pending ≡ None)
+  pub rows_kept : (n : ℕ) (at : At) (x : List (List CellValue) × At) → IsPlaceOf at
+      → many (many (cell_from h) cols) n at ≡ Ok x → IsPlaceOf x.1 × (0 < n → x.1.pending ≡ None)
   rows_kept zero at x is e = (let p : at ≡ x.1 = cc in subst IsPlaceOf p is, λ none. absurd (omega arith))
-  rows_kept (suc n) at x is e = by (many (many (cell_from h) cols) n at) (rows_kept n at) (sym (many_snoc (many (cell_from h) cols) n at) ∙ e)
+  rows_kept (suc n) at x is e = by (many (many (cell_from h) cols) n at) (rows_kept n at)
+      (sym (many_snoc (many (cell_from h) cols) n at) ∙ e)
     where
-      last : (y : List (List CellValue) × At) → IsPlaceOf y.1 → (r : Reading (List CellValue)) → many (cell_from h) cols y.1 ≡ r → (r >>= (λ z. Ok (y.0 ++ z.0 ∷ [], z.1))) ≡ Ok x → IsPlaceOf x.1 × (0 < suc n → x.1.pending ≡ None)
+      last : (y : List (List CellValue) × At) → IsPlaceOf y.1 → (r : Reading (List CellValue))
+          → many (cell_from h) cols y.1 ≡ r → (r >>= (λ z. Ok (y.0 ++ z.0 ∷ [], z.1))) ≡ Ok x
+          → IsPlaceOf x.1 × (0 < suc n → x.1.pending ≡ None)
       last y is (Err f) o e = cc
       last y is (Ok z) o e =
           let kept = cells_kept h cols y.1 z is o in
           let p : ◌≡◌ {A = List (List CellValue) × At} (y.0 ++ z.0 ∷ [], z.1) x = cc in
-          subst (λ (w : List (List CellValue) × At). IsPlaceOf w.1 × (0 < suc n → w.1.pending ≡ None)) p (kept.0, λ _. kept.1 some)
+          subst (λ (w : List (List CellValue) × At). IsPlaceOf w.1 × (0 < suc n
+          → w.1.pending ≡ None)) p (kept.0, λ _. kept.1 some)
 
-      by : (r : Reading (List (List CellValue))) → ((y : List (List CellValue) × At) → IsPlaceOf at → r ≡ Ok y → IsPlaceOf y.1 × (0 < n → y.1.pending ≡ None))
+      by : (r : Reading (List (List CellValue)))
+          → ((y : List (List CellValue) × At) → IsPlaceOf at → r ≡ Ok y
+          → IsPlaceOf y.1 × (0 < n → y.1.pending ≡ None))
           → (r >>= with_last (many (cell_from h) cols)) ≡ Ok x → IsPlaceOf x.1 × (0 < suc n → x.1.pending ≡ None)
       by (Err f) on e = cc
       by (Ok y) on e = last y (on y is refl).0 (many (cell_from h) cols y.1) refl e
 
 -- the line numbers of a grid fit within their limit
-pub lines_fit : (line rows cols : ℕ) → line < 2 ^ 62 → rows ≤ 65535 → cols ≤ 65535 → line + (rows * cols + 1) * 1048577 < 2 ^ 63
+pub lines_fit : (line rows cols : ℕ) → line < 2 ^ 62 → rows ≤ 65535 → cols ≤ 65535
+    → line + (rows * cols + 1) * 1048577 < 2 ^ 63
 lines_fit line rows cols low high wide = let most : rows * cols ≤ 65535 * 65535 = mul-le-mul high wide in omega arith
 
 -- the line numbers of the remaining rows fit within their limit
-pub rows_fit : (line more rows left some cols size : ℕ) → left + some ≡ rows → size ≡ some * cols → more ≤ line + size * 1048577 → line + (rows * cols + 1) * 1048577 < 2 ^ 63 → more + (left * cols + 1) * 1048577 < 2 ^ 63
+pub rows_fit : (line more rows left some cols size : ℕ) → left + some ≡ rows → size ≡ some * cols
+    → more ≤ line + size * 1048577 → line + (rows * cols + 1) * 1048577 < 2 ^ 63
+    → more + (left * cols + 1) * 1048577 < 2 ^ 63
 rows_fit line more rows left some cols size all is low fits =
     let e : rows * cols ≡ left * cols + size = rw (← all, is) (add-mul left some cols) in omega arith

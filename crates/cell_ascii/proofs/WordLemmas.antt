@@ -1,12 +1,13 @@
 -- Cells one after another, separated by blanks and line feeds.
 use Rattle.std.proofs.Common.{◌≡◌, ℕ, zero, suc, ◌+◌, ◌-◌, ◌<◌, ◌≤◌, List, [], ◌∷◌, ◌++◌, length, take, drop, get_or, Bool, true, false, Option, Some, None, Ok, cond, refl, ap, ap₂, sym, ◌∙◌, arith, append_assoc, length-take, length-drop}
 use Rattle.std.specs.Prelude.{◌==◌, ◌||◌}
-use Rattle.std.specs.Option.{option_map}
+use Rattle.std.specs.Option.{option_map, IfSome}
 use Rattle.std.specs.List.{list_all}
 use Rattle.std.proofs.Math.Seq.{take-add}
 use Rattle.std.proofs.lemmas.List.{take-append-drop, take-append-le, drop-drop, drop_more, get_or-drop}
 use Rattle.std.proofs.lemmas.List.Sums.{sum_by-append}
 use Rattle.cell_core_devices.specs.Device.{Coming}
+use Rattle.cell_core_devices.specs.Supposed.{Supposed, to_come, Leads}
 use Rattle.cell_core.specs.Grid.{CellValue}
 use Rattle.cell_ascii_reading.specs.Ahead.{before_coming}
 use Rattle.cell_ascii_meaning.specs.GridTokens.{is_space, is_word_byte, newlines, grid_start}
@@ -186,10 +187,13 @@ word-more h bs cells count last at end v le lower few within gap word blank cell
     rw (sum, lines) at (lines-more h bs cells count last (newlines (take last bs)) v (g + n) (newlines (take g rest)) buffered next)
 
 -- the reading of all the coming bytes begins with the buffered cells
-pub lines_buffered : (h : HeaderValue) (line lines : ℕ) (bs : List ℕ) (rest : Option Coming) (cells : List CellValue) (count n : ℕ) → HoldsLines h bs cells count n lines
-    → option_map (λ c. many (cell_from h) count (at_of line 0 c)) (option_map (before_coming bs) rest) ≡ option_map (λ d. Ok (cells, at_of (line + lines) 0 d)) (option_map (before_coming (drop n bs)) rest)
-lines_buffered h line lines bs None cells count n buffered = refl
-lines_buffered h line lines bs (Some c) cells count n buffered = ap Some (buffered line c)
+pub lines_buffered : (h : HeaderValue) (line lines : ℕ) (bs : List ℕ) (rest : Supposed) (cells : List CellValue) (count n : ℕ) → HoldsLines h bs cells count n lines
+    → Leads (λ c. many (cell_from h) count (at_of line 0 c)) (λ t. option_map (before_coming bs) (to_come rest t)) (λ d. Ok (cells, at_of (line + lines) 0 d)) (λ t. option_map (before_coming (drop n bs)) (to_come rest t))
+lines_buffered h line lines bs rest cells count n buffered = λ t. by (to_come rest t)
+  where
+    by : (x : Option Coming) → IfSome (option_map (before_coming (drop n bs)) x) (λ d. option_map (λ c. many (cell_from h) count (at_of line 0 c)) (option_map (before_coming bs) x) ≡ Some (Ok (cells, at_of (line + lines) 0 d)))
+    by None = tt
+    by (Some c) = ap Some (buffered line c)
 
 -- the number of line feeds among n bytes is at most n
 pub newlines-few : (bs : List ℕ) (n : ℕ) → newlines (take n bs) ≤ n

@@ -2,5 +2,6 @@
 pub mod BufferedCells
 pub mod TableWords
 pub mod GridReaders
+pub mod KnownSources
 pub mod Reader
 pub mod parts

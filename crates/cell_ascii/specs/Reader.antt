@@ -56,18 +56,18 @@ always x c = x
 -- a row reader at a position of a cell reader
 abbrev pub reader_at : ReaderPlace → ℕ → Bool → ReaderValue
 reader_at p rows_left failed =
-    record { header = p.header; rows_left = rows_left; pending = p.pending; line = p.line; run = p.run; failed = failed; coming = bytes_to_come p.ahead; heard = p.ahead.heard }
+    record { header = p.header; rows_left = rows_left; pending = p.pending; line = p.line; run = p.run; failed = failed; ahead = p.ahead }
 
 -- the reader is at a valid position of the text, and no token is pending after the last row
 abbrev pub IsPlaced : ReaderValue → Type 0
-IsPlaced r = IfSome r.coming (λ c. IsPlaceOf (reader_place r c) × (r.rows_left ≡ 0 → r.pending ≡ None))
+IsPlaced r = (h : Coming) → IfSome (bytes_to_come r.ahead h) (λ c. IsPlaceOf (reader_place r c) × (r.rows_left ≡ 0 → r.pending ≡ None))
 
 -- a reader that can continue: its line numbers cannot overflow, its position is valid, and its source has not failed
 pub record IsReaderReady (r : ReaderValue) : Type 0 where
   pub wide : 0 < r.header.region.cols
   pub lines : r.failed ≡ false → r.line + (r.rows_left * r.header.region.cols + 1) * 1048577 < 2 ^ 63
   pub placed : r.failed ≡ false → IsPlaced r
-  pub heard : r.failed ≡ false → r.heard.failed ≡ false
+  pub heard : r.failed ≡ false → r.ahead.heard.failed ≡ false
 
 -- the rows of the data
 abbrev pub rows_from : HeaderValue → At → Reading (List (List CellValue))

@@ -1,40 +1,39 @@
 //! Reads grids row by row.
 
 ghost use Rattle.std.specs.Prelude.{◌≡◌, ◌≢◌, ◌+◌, ◌*◌, ◌++◌, [], ◌∷◌, ◌^◌, ◌<◌, ◌≤◌, ◌||◌, true, false, length, take, drop, Option, Some, Ok, Err, OnOk, OnErr, IfOk, IfErr, IfSome};
-ghost use Rattle.std.specs.Option.{option_map};
 ghost use Rattle.std.specs.Result.{is_err};
 ghost use Rattle.cell_core_devices.specs.Device.{Coming};
 ghost use Rattle.cell_core_devices.specs.Asking.{hears, heard_first};
+ghost use Rattle.cell_core_devices.specs.Supposed.{to_come, Supposing, Leads};
 ghost use Rattle.cell_ascii_meaning.specs.Kinds.{reports_read};
 ghost use Rattle.cell_ascii_reading.specs.Ahead.{bytes_to_come, Agrees};
 ghost use Rattle.cell_ascii_meaning.specs.GridTokens.{grid_start};
-ghost use Rattle.cell_ascii_meaning.specs.Header.{at_line, header_of, header_of_text};
+ghost use Rattle.cell_ascii_meaning.specs.Header.{at_line, header_of_text};
 ghost use Rattle.cell_ascii_meaning.specs.CellTexts.{cell_of_word, cell_from, many, end_of, grid_of};
 ghost use Rattle.cell_ascii_meaning.specs.GridText.{Denotes};
 ghost use Rattle.cell_ascii_meaning.specs.FaultPlaces.{opening_fault, text_fault};
 ghost use Rattle.cell_ascii_meaning.specs.RowPlaces.{cells_fault};
-ghost use Rattle.cell_ascii.specs.Reader.{ReaderPlace, at_place, token_read, token_seen, reading_seen, always, rows_from};
-ghost use Rattle.cell_ascii.specs.GridReaders.{reader_place, IsOpened, fault_of_reading, reader_has_failed, AnswersGrid, IsCutRow, IsChangedInFront, IsOfReading, ReportsEnd};
+ghost use Rattle.cell_ascii.specs.Reader.{ReaderPlace, at_place, reading_seen, always, rows_from};
+ghost use Rattle.cell_ascii.specs.GridReaders.{reader_place, IsOpened, IsSourceOf, StopsAtEnd, fault_of_reading, reader_has_failed, AnswersGrid, IsCutRow, IsChangedInFront, IsOfReading, ReportsEnd};
 ghost use Rattle.cell_ascii_reading.specs.Scan.{Hears, FailsInText};
 ghost use Rattle.cell_core_values.specs.SmallCells.{byte_cell, cells_of_bytes};
 ghost use Rattle.cell_ascii_reading.specs.InRange.{HasPlainNumbers};
 ghost use Rattle.cell_ascii.specs.parts.FrontCells.{front_cells, rows_of, IsFront};
-ghost use Rattle.cell_ascii.specs.parts.Unread.{IsUnread, IsAtData, IsBehindHeader, HasRows};
+ghost use Rattle.cell_ascii.specs.parts.Unread.{IsUnread, IsAtData, HasRows};
 
 use crate::byte_words::{BLOCK, MORE_BYTES, bytes_in, has_short_runs};
+use crate::opening::{read_opening, read_token};
 use crate::pace::Pace;
 use crate::short_cells::cells_in;
 use crate::word_table::WordTable;
 use cell_ascii_meaning::grid_fault::{GridFault, GridKind};
 use cell_ascii_reading::header::Header;
-use cell_ascii_reading::header_reading;
-use cell_ascii_reading::keys::HeaderKeys;
 use cell_ascii_reading::scanner::{Next, Scanner};
 use cell_core::cell::Cell;
 use cell_core::map::{CellMap, MapBuilder};
 use cell_core::memory::Memory;
 use cell_core::region::Region;
-use cell_core::source::Source;
+use cell_core::source::{Asked, Source};
 use cell_core_values::small_cells::write_byte_cells;
 use std::alloc::Global;
 use std::marker::Model;
@@ -72,55 +71,6 @@ impl<R: Source> Model for CellReader<R> {
     ghost invariant = { λ r. r.scanner.run ≤ 1048576 };
 }
 
-// Reads the next word.
-fn read_token<R: Source>(scanner: &mut Scanner<R>) -> Result<(), GridFault>
-    requires room { scanner.old.line + 1048576 < 2 ^ 64 }
-    requires run { scanner.old.run ≤ 1048576 }
-    ensures token { Agrees (λ c. token_read (grid_start scanner.old.line scanner.old.run c))
-        scanner.old.ahead (token_seen result scanner.new.line scanner.new.word) scanner.new.ahead }
-    ensures lines { scanner.new.line ≤ scanner.old.line + 1048576 }
-    ensures run { scanner.new.run ≤ 1048576 }
-    ensures none { OnOk result (scanner.new.run ≡ 0) }
-    ensures kind { FailsInText result }
-    ensures heard { Hears result scanner.old.ahead scanner.new.ahead }
-{
-    match scanner.skip_spaces()? {
-        Next::Word => scanner.read_word(),
-        Next::End => Err(GridFault {
-            kind: GridKind::TooFew,
-            line: scanner.line(),
-        }),
-    }
-}
-
-// Builds the header from its keys. An error is reported at `line`.
-fn header_at(keys: HeaderKeys, line: u64) -> Result<Header, GridFault>
-    ensures { result ≡ at_line line (header_of keys) }
-{
-    keys.into_header().map_err(|kind| GridFault { kind, line })
-}
-
-// Reads the header of an unread text and the first word after it. Returns the header, and whether a word follows it.
-fn read_opening<R: Source>(scanner: &mut Scanner<R>) -> Result<(Header, bool), GridFault>
-    requires start { (scanner.old.line ≡ 1) × (scanner.old.run ≡ 0) }
-    ensures opened { IfOk result (λ r. IsBehindHeader r scanner.old scanner.new) }
-    ensures fault { IfErr result
-        (λ f. IfSome (bytes_to_come scanner.old.ahead) (λ c. header_of_text c ≡ Err f)) }
-    ensures kind { FailsInText result }
-    ensures heard { Hears result scanner.old.ahead scanner.new.ahead }
-{
-    let mut keys = HeaderKeys::new();
-    let waiting = match header_reading::read_header(scanner, &mut keys) {
-        Ok(waiting) => waiting,
-        Err(fault) => return Err(fault),
-    };
-    scanner.end_run();
-    match header_at(keys, scanner.line()) {
-        Ok(header) => Ok((header, waiting)),
-        Err(fault) => Err(fault),
-    }
-}
-
 // Returns the cell that the scanner's current word denotes.
 fn cell_here<R: Source>(header: &Header, scanner: &Scanner<R>) -> Result<Cell, GridFault>
     ensures { result ≡ at_line scanner.now.line (cell_of_word header.now scanner.now.word) }
@@ -133,23 +83,40 @@ fn cell_here<R: Source>(header: &Header, scanner: &Scanner<R>) -> Result<Cell, G
 
 impl<R: Source> CellReader<R> {
     // Opens a source and reads the header and the first word after it.
-    fn open(alloc: Global, source: R) -> Result<CellReader<R>, GridFault>
+    fn open(alloc: Global, source: R) -> Result<CellReader<R>, Unopened<R>>
     where
         R: Drop,
-        ensures opened { IfOk result (IsAtData (R.coming source) (heard_first (R.asked source))) }
-        ensures fault { IfErr result (λ f. f.kind ≢ GridKind.Memory
-            → IfSome (R.coming source) (λ c. header_of_text c ≡ Err f)) }
-        ensures kinds { IfErr result IsOfReading }
+        ensures opened { IfOk result
+            (IsAtData (to_come (R.supposed source)) (heard_first (R.asked source))) }
+        ensures fault { IfErr result (λ u. Supposing (to_come (R.supposed source))
+            (to_come (R.supposed u.source))
+            (λ c. u.fault.kind ≢ GridKind.Memory → header_of_text c ≡ Err u.fault)) }
+        ensures kinds { IfErr result (λ u. IsOfReading u.fault) }
+        ensures asked { IfErr result (λ u. StopsAtEnd (R.asked source) (R.asked u.source)) }
     {
-        let Ok(mut scanner) = Scanner::new(alloc, source) else {
-            return Err(NO_MEMORY);
+        let mut scanner = match Scanner::new(alloc, source) {
+            Ok(scanner) => scanner,
+            Err(source) => {
+                return Err(Unopened {
+                    fault: NO_MEMORY,
+                    source,
+                });
+            }
         };
         let (header, waiting) = match read_opening(&mut scanner) {
             Ok(opening) => opening,
-            Err(fault) => return Err(fault),
+            Err(fault) => {
+                return Err(Unopened {
+                    fault,
+                    source: scanner.into_source(),
+                });
+            }
         };
         let Ok(words) = WordTable::new(alloc, header) else {
-            return Err(NO_MEMORY);
+            return Err(Unopened {
+                fault: NO_MEMORY,
+                source: scanner.into_source(),
+            });
         };
         Ok(CellReader {
             scanner,
@@ -163,6 +130,13 @@ impl<R: Source> CellReader<R> {
         ensures { result ≡ self.now.header.region }
     {
         self.words.header().region()
+    }
+
+    // Returns the source after its last read.
+    fn into_source(self) -> R
+        ensures { IsSourceOf (R.supposed result) (R.asked result) self.ahead }
+    {
+        self.scanner.into_source()
     }
 
     // Reads buffered cells into the start of a row and returns their number.
@@ -270,7 +244,8 @@ fn read_row<R: Source>(cells: &mut CellReader<R>, row: &mut [Cell]) -> Result<()
     ensures row { OnOk result (Agrees
         (λ c. many (cell_from cells.old.header) (length row.old) (at_place cells.old c))
         cells.old.ahead (λ d. Ok (row.new, at_place cells.new d)) cells.new.ahead) }
-    ensures cut { IfErr result (λ f. IfSome (bytes_to_come cells.old.ahead)
+    ensures cut { IfErr result (λ f. Supposing (bytes_to_come cells.old.ahead)
+        (bytes_to_come cells.new.ahead)
         (λ c. IsCutRow cells.old.header (at_place cells.old c) f row.old row.new)) }
     ensures kept { OnErr result (IsChangedInFront row.old row.new) }
     ensures header { cells.new.header ≡ cells.old.header }
@@ -316,7 +291,8 @@ fn read_front<R: Source>(
         (λ c. many (cell_from cells.old.header) front.0 (at_place cells.old c)) cells.old.ahead
         (λ d. Ok (front_cells front bytes.new row.new, at_place cells.new d)) cells.new.ahead) }
     ensures front { IfOk result (IsFront (length row.old) cells.old.line cells.new.line) }
-    ensures fault { IfErr result (λ f. IfSome (bytes_to_come cells.old.ahead)
+    ensures fault { IfErr result (λ f. Supposing (bytes_to_come cells.old.ahead)
+        (bytes_to_come cells.new.ahead)
         (λ c. many (cell_from cells.old.header) (length row.old) (at_place cells.old c) ≡ Err f)) }
     ensures header { cells.new.header ≡ cells.old.header }
     ensures kind { FailsInText result }
@@ -357,7 +333,8 @@ fn read_bytes<R: Source>(
         (λ c. many (cell_from cells.old.header) front.0 (at_place cells.old c)) cells.old.ahead
         (λ d. Ok (front_cells front bytes.new row.new, at_place cells.new d)) cells.new.ahead) }
     ensures front { IfOk result (IsFront (length row.old) cells.old.line cells.new.line) }
-    ensures fault { IfErr result (λ f. IfSome (bytes_to_come cells.old.ahead)
+    ensures fault { IfErr result (λ f. Supposing (bytes_to_come cells.old.ahead)
+        (bytes_to_come cells.new.ahead)
         (λ c. many (cell_from cells.old.header) (length row.old) (at_place cells.old c) ≡ Err f)) }
     ensures header { cells.new.header ≡ cells.old.header }
     ensures kind { FailsInText result }
@@ -388,7 +365,8 @@ fn read_either<R: Source>(
         cells.old.ahead
         (λ d. Ok (front_cells (length row.old, is_bytes) bytes.new row.new, at_place cells.new d))
         cells.new.ahead) }
-    ensures fault { IfErr result (λ f. IfSome (bytes_to_come cells.old.ahead)
+    ensures fault { IfErr result (λ f. Supposing (bytes_to_come cells.old.ahead)
+        (bytes_to_come cells.new.ahead)
         (λ c. many (cell_from cells.old.header) (length row.old) (at_place cells.old c) ≡ Err f)) }
     ensures header { cells.new.header ≡ cells.old.header }
     ensures lines { OnOk result
@@ -404,10 +382,40 @@ fn read_either<R: Source>(
     Ok(false)
 }
 
+/// The error of a grid that was not opened, and the source after its last read.
+#[derive(Drop)]
+pub struct Unopened<R> {
+    /// The first error up to the end of the first token of the data.
+    pub fault: GridFault,
+    /// The source after its last read.
+    pub source: R,
+}
+
+/// The result of reading the end of a grid, and the source after its last read.
+#[derive(Drop)]
+pub struct Finished<R> {
+    /// The first error after the last row, if there is one.
+    pub result: Result<(), GridFault>,
+    /// The source after its last read.
+    pub source: R,
+}
+
+/// The result of reading a complete grid, and the source after its last read.
+#[derive(Drop)]
+pub struct MapRead<R> {
+    /// The map that the grid denotes, or the first error.
+    pub map: Result<CellMap, GridFault>,
+    /// The source after its last read.
+    pub source: R,
+}
+
 /// Reads the cells of a grid text row by row from the north, after its header.
 ///
 /// The contracts of its methods describe the state of the reader. The contract of [`read_map`] describes the full text.
 /// Both are derived from one table that assigns an error to each position.
+///
+/// Clauses about bytes hold for every supposed content of the source with which its reads agreed. Whether they agreed is
+/// known of the source that a call gives back ([`finish`](Self::finish), [`into_source`](Self::into_source)).
 ///
 /// After an error, every call returns `Failed` with line 0.
 #[derive(Drop)]
@@ -435,18 +443,21 @@ impl<R: Source> GridReader<R> {
     /// # Errors
     ///
     /// Returns the first error up to the end of that token, with its line, or `Memory` with line 0 if memory runs out.
-    pub fn open(alloc: Global, source: R) -> Result<GridReader<R>, GridFault>
+    /// The source is returned with it.
+    pub fn open(alloc: Global, source: R) -> Result<GridReader<R>, Unopened<R>>
     where
         R: Drop,
-        ensures opened { IfOk result (IsOpened (R.coming source)) }
+        ensures opened { IfOk result (IsOpened (to_come (R.supposed source))) }
         ensures whole { IfOk result (λ r. (r.rows_left ≡ r.header.region.rows)
             × (r.failed ≡ false)) }
-        ensures fault { IfErr result (λ f. f.kind ≢ GridKind.Memory
-            → IfSome (R.coming source) (λ c. opening_fault c ≡ Some f)) }
-        ensures kinds { IfErr result IsOfReading }
+        ensures fault { IfErr result (λ u. Supposing (to_come (R.supposed source))
+            (to_come (R.supposed u.source))
+            (λ c. u.fault.kind ≢ GridKind.Memory → opening_fault c ≡ Some u.fault)) }
+        ensures kinds { IfErr result (λ u. IsOfReading u.fault) }
         // The reader stops asking the source after its end or an `Err`, and reports an `Err` as `Read`. Neither has
         // occurred so far.
-        ensures heard { IfOk result (λ r. r.heard ≡ heard_first (R.asked source)) }
+        ensures heard { IfOk result (λ r. r.ahead.heard ≡ heard_first (R.asked source)) }
+        ensures asked { IfErr result (λ u. StopsAtEnd (R.asked source) (R.asked u.source)) }
     {
         let cells = CellReader::open(alloc, source)?;
         let rows_left = cells.region().rows();
@@ -486,15 +497,15 @@ impl<R: Source> GridReader<R> {
         ensures none { self.old.failed ≡ false → self.old.rows_left ≡ 0
             → (result ≡ Ok false) × (row.new ≡ row.old) × (self.new ≡ self.old) }
         ensures reported { self.old.failed ≡ false → 0 < self.old.rows_left
-            → IfSome self.old.coming (λ c. fault_of_reading result
+            → Supposing (bytes_to_come self.old.ahead) (bytes_to_come self.new.ahead)
+            (λ c. fault_of_reading result
             ≡ cells_fault self.old.header (length row.old) (reader_place self.old c)) }
-        ensures row { result ≡ Ok true
-            → option_map
+        ensures row { result ≡ Ok true → Leads
             (λ c. many (cell_from self.old.header) (length row.old) (reader_place self.old c))
-            self.old.coming
-            ≡ option_map (λ d. Ok (row.new, reader_place self.new d)) self.new.coming }
+            (bytes_to_come self.old.ahead) (λ d. Ok (row.new, reader_place self.new d))
+            (bytes_to_come self.new.ahead) }
         ensures cut { IfErr result (λ f. self.old.failed ≡ false
-            → IfSome self.old.coming
+            → Supposing (bytes_to_come self.old.ahead) (bytes_to_come self.new.ahead)
             (λ c. IsCutRow self.old.header (reader_place self.old c) f row.old row.new)) }
         ensures kept { OnErr result (self.old.failed ≡ false → IsChangedInFront row.old row.new) }
         ensures left { result ≡ Ok true → self.new.rows_left + 1 ≡ self.old.rows_left }
@@ -506,7 +517,7 @@ impl<R: Source> GridReader<R> {
         ensures kinds { self.old.failed ≡ false → FailsInText result }
         // The reader stops asking the source after its end or an `Err`, and reports an `Err` as `Read`.
         ensures heard { self.old.failed ≡ false
-            → self.new.heard ≡ hears (reports_read result) self.old.heard }
+            → self.new.ahead.heard ≡ hears (reports_read result) self.old.ahead.heard }
     {
         if self.failed {
             return Err(HAS_FAILED);
@@ -531,22 +542,35 @@ impl<R: Source> GridReader<R> {
     /// # Errors
     ///
     /// Returns the first error after the last row, with its line, or `Failed` with line 0 if an earlier call failed.
-    pub fn finish(self) -> Result<(), GridFault>
+    pub fn finish(self) -> Finished<R>
     where
         R: Drop,
         requires done { self.failed ≡ false → self.rows_left ≡ 0 }
-        ensures { ReportsEnd self result }
+        ensures end { ReportsEnd self result.result (to_come (R.supposed result.source)) }
+        ensures asked { self.ahead.heard.sure ≡ true → R.asked result.source ≢ Asked.Again }
     {
         let mut reader = self;
-        reader.end()
+        let result = reader.end();
+        Finished {
+            result,
+            source: reader.into_source(),
+        }
+    }
+
+    /// Returns the source after its last read.
+    pub fn into_source(self) -> R
+        ensures { IsSourceOf (R.supposed result) (R.asked result) self.ahead }
+    {
+        self.cells.into_source()
     }
 
     // Reads to the end of the text after the last row, and marks the reader as failed.
     fn end(&mut self) -> Result<(), GridFault>
         requires done { self.old.failed ≡ false → self.old.rows_left ≡ 0 }
-        ensures end { ReportsEnd self.old result }
+        ensures end { ReportsEnd self.old result (bytes_to_come self.new.ahead) }
         ensures heard { self.old.failed ≡ false
-            → self.new.heard ≡ hears (reports_read result) self.old.heard }
+            → self.new.ahead.heard ≡ hears (reports_read result) self.old.ahead.heard }
+        ensures sure { self.new.ahead.heard.sure ≡ self.old.ahead.heard.sure }
     {
         if self.failed {
             return Err(HAS_FAILED);
@@ -569,21 +593,21 @@ fn next_either<R: Source>(
     requires left { rows ≤ reader.old.rows_left }
     requires width { length row.old ≡ rows * reader.old.header.region.cols }
     requires bytes { length row.old + 72 ≤ length bytes.old }
-    ensures row { IfOk result (λ is_bytes. option_map
+    ensures row { IfOk result (λ is_bytes. Leads
         (λ c. many (cell_from reader.old.header) (length row.old) (reader_place reader.old c))
-        reader.old.coming
-        ≡ option_map (λ d. Ok (
+        (bytes_to_come reader.old.ahead) (λ d. Ok (
           front_cells (length row.old, is_bytes) bytes.new row.new,
           reader_place reader.new d,
-        )) reader.new.coming) }
-    ensures fault { IfErr result (λ f. IfSome reader.old.coming (λ c.
-        many (cell_from reader.old.header) (length row.old) (reader_place reader.old c)
+        )) (bytes_to_come reader.new.ahead)) }
+    ensures fault { IfErr result (λ f. Supposing (bytes_to_come reader.old.ahead)
+        (bytes_to_come reader.new.ahead)
+        (λ c. many (cell_from reader.old.header) (length row.old) (reader_place reader.old c)
         ≡ Err f)) }
     ensures left { OnOk result (reader.new.rows_left + rows ≡ reader.old.rows_left) }
     ensures live { OnOk result (reader.new.failed ≡ false) }
     ensures header { reader.new.header ≡ reader.old.header }
     ensures kinds { FailsInText result }
-    ensures heard { reader.new.heard ≡ hears (reports_read result) reader.old.heard }
+    ensures heard { reader.new.ahead.heard ≡ hears (reports_read result) reader.old.ahead.heard }
 {
     match read_either(&mut reader.cells, bytes, row) {
         Ok(is_bytes) => {
@@ -658,10 +682,11 @@ fn rows_at_once(region: Region) -> u32
 fn read_rows<R: Source>(alloc: Global, reader: &mut GridReader<R>) -> Result<CellMap, GridFault>
     requires { IsUnread reader.old }
     ensures rows { IfOk result (λ m. HasRows m reader.old reader.new) }
-    ensures fault { IfErr result (λ f. f.kind ≢ GridKind.Memory → IfSome reader.old.coming
-        (λ c. rows_from reader.old.header (reader_place reader.old c) ≡ Err f)) }
+    ensures fault { IfErr result (λ f. Supposing (bytes_to_come reader.old.ahead)
+        (bytes_to_come reader.new.ahead) (λ c. f.kind ≢ GridKind.Memory
+        → rows_from reader.old.header (reader_place reader.old c) ≡ Err f)) }
     ensures kinds { IfErr result IsOfReading }
-    ensures heard { reader.new.heard ≡ hears (reports_read result) reader.old.heard }
+    ensures heard { reader.new.ahead.heard ≡ hears (reports_read result) reader.old.ahead.heard }
 {
     let region = reader.region();
     let cols = region.cols() as usize;
@@ -691,11 +716,11 @@ fn read_rows<R: Source>(alloc: Global, reader: &mut GridReader<R>) -> Result<Cel
 // Reads all rows of a text after its header, then its end.
 fn read_whole<R: Source>(alloc: Global, reader: &mut GridReader<R>) -> Result<CellMap, GridFault>
     requires { IsUnread reader.old }
-    ensures reading { (text : Option Coming) → IsOpened text reader.old
-        → IfSome text (λ c. AnswersGrid result (grid_of c)) }
+    ensures reading { (text : Coming → Option Coming) → IsOpened text reader.old
+        → Supposing text (bytes_to_come reader.new.ahead) (λ c. AnswersGrid result (grid_of c)) }
     ensures kinds { IfErr result IsOfReading }
     // The reader stops asking the source after its end or an `Err`, and reports an `Err` as `Read`.
-    ensures heard { reader.new.heard ≡ hears (reports_read result) reader.old.heard }
+    ensures heard { reader.new.ahead.heard ≡ hears (reports_read result) reader.old.ahead.heard }
 {
     let map = read_rows(alloc, reader)?;
     match reader.end() {
@@ -704,21 +729,37 @@ fn read_whole<R: Source>(alloc: Global, reader: &mut GridReader<R>) -> Result<Ce
     }
 }
 
-/// Reads a complete grid and returns the map that it denotes (r.in.ascii manual).
+/// Reads a complete grid. Returns the map that it denotes (r.in.ascii manual), and the source after its last read.
+///
+/// The clauses hold for every supposed content with which the reads of the source agreed. There is such a content,
+/// because the source is not asked after its end or an `Err`.
 ///
 /// # Errors
 ///
 /// Returns the text's first error with its line, or `Memory` with line 0 if memory runs out.
-pub fn read_map<R: Source + Drop>(alloc: Global, source: R) -> Result<CellMap, GridFault>
-    ensures map { IfOk result (λ m. IfSome (R.coming source) (λ c. Denotes c m)) }
-    ensures fault { IfErr result (λ f. f.kind ≢ GridKind.Memory
-        → IfSome (R.coming source) (λ c. text_fault c ≡ Some f)) }
-    ensures kinds { IfErr result IsOfReading }
-    ensures reading { IfSome (R.coming source) (λ c. AnswersGrid result (grid_of c)) }
+pub fn read_map<R: Source + Drop>(alloc: Global, source: R) -> MapRead<R>
+    ensures map { IfOk result.map (λ m. Supposing (to_come (R.supposed source))
+        (to_come (R.supposed result.source)) (λ c. Denotes c m)) }
+    ensures fault { IfErr result.map (λ f. f.kind ≢ GridKind.Memory
+        → Supposing (to_come (R.supposed source)) (to_come (R.supposed result.source))
+        (λ c. text_fault c ≡ Some f)) }
+    ensures kinds { IfErr result.map IsOfReading }
+    ensures reading { Supposing (to_come (R.supposed source)) (to_come (R.supposed result.source))
+        (λ c. AnswersGrid result.map (grid_of c)) }
+    ensures asked { StopsAtEnd (R.asked source) (R.asked result.source) }
 {
-    let mut reader = GridReader::open(alloc, source)?;
-    match read_whole(alloc, &mut reader) {
-        Ok(map) => Ok(map),
-        Err(fault) => Err(fault),
+    let mut reader = match GridReader::open(alloc, source) {
+        Ok(reader) => reader,
+        Err(unopened) => {
+            return MapRead {
+                map: Err(unopened.fault),
+                source: unopened.source,
+            };
+        }
+    };
+    let map = read_whole(alloc, &mut reader);
+    MapRead {
+        map,
+        source: reader.into_source(),
     }
 }

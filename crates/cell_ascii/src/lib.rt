@@ -5,6 +5,8 @@
 //!   `cell_ascii_meaning`
 //! - `writer`: `write_map`, re-exported from `cell_ascii_writer`
 //! - `law`: laws about reading, re-exported from `cell_ascii_law` and `cell_ascii_law_faults`
+//! - private: `opening` reads the header and the first word after it
+//! - `known_sources`: the law that clauses about supposed contents hold for known bytes
 //! - `short_cells`, `word_table`, `pace`: fast ways to read buffered cells. They read words in place,
 //!   look up words that occurred before, convert numbers digit by digit, and choose between these
 //!   ways. They do not affect results.
@@ -15,15 +17,17 @@
 //!
 //! ```
 //! let source = MemorySource::new(GRID.to_vec(rt.alloc())?, 7, false);
-//! let map = read_map(rt.alloc(), source)?;
+//! let map = read_map(rt.alloc(), source).map?;
 //! assert_same!(rt; (map.region().rows(), map.region().cols()), (3, 4));
 //! ```
 #![tactic(auto)]
 
 pub mod byte_words;
 pub mod grid_reader;
+pub mod known_sources;
 pub mod law;
 pub mod number_words;
+mod opening;
 pub mod pace;
 pub mod short_cells;
 pub mod word_table;

@@ -6,3 +6,4 @@ pub mod NumberLemmas
 pub mod KindLemmas
 pub mod OpeningLemmas
 pub mod KeyLemmas
+pub mod LeadLemmas

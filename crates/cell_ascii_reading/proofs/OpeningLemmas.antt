@@ -1,12 +1,11 @@
 -- The lines of a header, read from their values, their ends and their first words.
 use Rattle.std.proofs.Common.{◌≡◌, ℕ, suc, ◌+◌, ◌-◌, ◌<◌, ◌≤◌, List, [], ◌∷◌, Option, Some, None, Result, Ok, Err, Bool, true, false, if◌then◌else◌, length, drop, take, refl, ap, sym, ◌∙◌, arith, take_all, length-drop, cond, not}
 use Rattle.std.proofs.lemmas.List.{drop_all}
-use Rattle.std.specs.Option.{option_map}
 use Rattle.std.specs.List.{before_first, after_first, list_any, position_or_len}
 use Rattle.cell_core_devices.specs.Device.{Coming}
 use Rattle.cell_ascii_meaning.specs.GridTokens.{Start, Begins, Ends, Stops, grid_start, word_from, grid_fault}
 use Rattle.cell_ascii_meaning.specs.Header.{◌>>=◌, KeyValues, LineEnd, is_colon, at_line, with_header_key, Gap, Word, Feed as FeedGap, Last, Fault, value_from, line_end, gap_of, key_line, after_line, line_from, header_from, OpenedText, opened_text, header_ended}
-use Rattle.cell_ascii_reading.specs.Ahead.{IsAtEnd}
+use Rattle.cell_ascii_reading.specs.Ahead.{IsAtEnd, Leads}
 use Rattle.cell_ascii_meaning.specs.KeyNames.{header_key_of}
 use Rattle.cell_ascii_meaning.specs.declared.header_key.HeaderKey.{HeaderKey}
 use Rattle.cell_ascii_meaning.specs.declared.grid_fault.GridKind.TheVariants.{BadHeader}
@@ -17,7 +16,7 @@ use Rattle.cell_ascii_meaning.specs.declared.grid_fault.GridFault.{GridFault}
 use Rattle.cell_ascii_reading.specs.declared.header_reading.Ending.{Ending}
 use Rattle.cell_ascii_reading.specs.declared.header_reading.Ending.TheVariants.{Feed, Text}
 use Rattle.cell_ascii_reading.specs.declared.scanner.Next.TheVariants.{Word as NextWord}
-use Rattle.cell_ascii_reading.proofs.MapLemmas.{then_map, map_same}
+use Rattle.cell_ascii_reading.proofs.MapLemmas.{chain, then_map, map_same}
 use Rattle.cell_ascii_reading.proofs.ComingLemmas.{at_end}
 
 -- the bytes after the colon of a word are the value, if there are any
@@ -38,14 +37,15 @@ value_later line c (FeedGap run d) e = rw e refl
 value_later line c Last e = rw e refl
 value_later line c (Fault f) e = rw e refl
 
-pub value_blanks : (line start : ℕ) (word : List ℕ) (seen : Coming → Gap) (a b : Option Coming)
-    → length word ≤ start → option_map (gap_of line 0) a ≡ option_map seen b
-    → option_map (value_from line (drop start word)) a ≡ option_map (λ c. after_blanks line (seen c)) b
+pub value_blanks : (line start : ℕ) (word : List ℕ) (seen : Coming → Gap) (a b : Coming → Option Coming)
+    → length word ≤ start → Leads (gap_of line 0) a seen b
+    → Leads (value_from line (drop start word)) a (λ c. after_blanks line (seen c)) b
 value_blanks line start word seen a b long gaps =
     rw (drop_all start word long)
+    (chain _ _ _ _ _ _
     (map_same (value_from line []) (λ c. after_blanks line (gap_of line 0 c)) a
-    (λ c. value_later line c (gap_of line 0 c) refl)
-    ∙ then_map (after_blanks line) (gap_of line 0) seen a b gaps)
+    (λ c. value_later line c (gap_of line 0 c) refl))
+    (then_map (after_blanks line) (gap_of line 0) seen a b gaps))
 
 abbrev after_end : Result KeyValues GridKind → ℕ → Result LineEnd GridFault → Result (KeyValues × LineEnd) GridFault
 after_end more line r = r >>= (λ end. at_line line more >>= (λ k. Ok (k, end)))
@@ -59,39 +59,45 @@ ends_with more line run Feed c = refl
 ends_with more line run Text c = refl
 
 -- a header line whose value and end were read gives its key
-pub key_done : (line : ℕ) (keys : KeyValues) (word w : List ℕ) (at run : ℕ) (e : Ending) (more : KeyValues) (a b d : Option Coming)
-    → option_map (value_from line (after_first is_colon word)) a ≡ option_map (value_seen (Ok at) w) b
-    → option_map (λ c. line_end line (gap_of line 0 c)) b ≡ option_map (ending_seen (Ok e) run) d
+pub key_done : (line : ℕ) (keys : KeyValues) (word w : List ℕ) (at run : ℕ) (e : Ending) (more : KeyValues)
+    (a b d : Coming → Option Coming)
+    → Leads (value_from line (after_first is_colon word)) a (value_seen (Ok at) w) b
+    → Leads (λ c. line_end line (gap_of line 0 c)) b (ending_seen (Ok e) run) d
     → with_header_key keys (header_key_of (before_first is_colon word)) (drop at w) ≡ Ok more
-    → option_map (key_line line keys word) a ≡ option_map (key_line_seen (Ok e) more run) d
+    → Leads (key_line line keys word) a (key_line_seen (Ok e) more run) d
 key_done line keys word w at run e more a b d values ends given =
-    then_map (after_value line keys word) (value_from line (after_first is_colon word)) (value_seen (Ok at) w) a b
-    values
-    ∙ then_map (after_end (with_header_key keys (header_key_of (before_first is_colon word)) (drop at w)) line)
-    (λ c. line_end line (gap_of line 0 c)) (ending_seen (Ok e) run) b d ends
-    ∙ ap (λ (v : Result KeyValues GridKind). option_map (λ c. after_end v line (ending_seen (Ok e) run c)) d) given
-    ∙ map_same (λ c. after_end (Ok more) line (ending_seen (Ok e) run c)) (key_line_seen (Ok e) more run) d (ends_with more line run e)
+    let more_is : Result KeyValues GridKind = with_header_key keys (header_key_of (before_first is_colon word))
+    (drop at w) in
+    chain _ _ _ _ _ _
+    (then_map (after_value line keys word) (value_from line (after_first is_colon word))
+    (value_seen (Ok at) w) a b values)
+    (chain _ _ _ _ _ _
+    (then_map (after_end more_is line) (λ c. line_end line (gap_of line 0 c)) (ending_seen (Ok e) run) b d ends)
+    (map_same (λ c. after_end more_is line (ending_seen (Ok e) run c)) (key_line_seen (Ok e) more run) d
+    (λ c. ap (λ (v : Result KeyValues GridKind). after_end v line (ending_seen (Ok e) run c)) given
+    ∙ ends_with more line run e c)))
 
 -- a header line whose value could not be read gives the error of the value
 pub key_unread : (line : ℕ) (keys : KeyValues) (word w : List ℕ) (run : ℕ) (more : KeyValues) (f : GridFault)
-    (a b : Option Coming)
-    → option_map (value_from line (after_first is_colon word)) a ≡ option_map (value_seen (Err f) w) b
-    → option_map (key_line line keys word) a ≡ option_map (key_line_seen (Err f) more run) b
+    (a b : Coming → Option Coming)
+    → Leads (value_from line (after_first is_colon word)) a (value_seen (Err f) w) b
+    → Leads (key_line line keys word) a (key_line_seen (Err f) more run) b
 key_unread line keys word w run more f a b values =
     then_map (after_value line keys word) (value_from line (after_first is_colon word)) (value_seen (Err f) w) a b
     values
 
 -- a header line whose end could not be read gives the error of the end
 pub key_unended : (line : ℕ) (keys : KeyValues) (word w : List ℕ) (at run : ℕ) (more : KeyValues) (f : GridFault)
-    (a b d : Option Coming)
-    → option_map (value_from line (after_first is_colon word)) a ≡ option_map (value_seen (Ok at) w) b
-    → option_map (λ c. line_end line (gap_of line 0 c)) b ≡ option_map (ending_seen (Err f) run) d
-    → option_map (key_line line keys word) a ≡ option_map (key_line_seen (Err f) more run) d
+    (a b d : Coming → Option Coming)
+    → Leads (value_from line (after_first is_colon word)) a (value_seen (Ok at) w) b
+    → Leads (λ c. line_end line (gap_of line 0 c)) b (ending_seen (Err f) run) d
+    → Leads (key_line line keys word) a (key_line_seen (Err f) more run) d
 key_unended line keys word w at run more f a b d values ends =
-    then_map (after_value line keys word) (value_from line (after_first is_colon word)) (value_seen (Ok at) w) a b
-    values
-    ∙ then_map (after_end (with_header_key keys (header_key_of (before_first is_colon word)) (drop at w)) line)
-    (λ c. line_end line (gap_of line 0 c)) (ending_seen (Err f) run) b d ends
+    chain _ _ _ _ _ _
+    (then_map (after_value line keys word) (value_from line (after_first is_colon word))
+    (value_seen (Ok at) w) a b values)
+    (then_map (after_end (with_header_key keys (header_key_of (before_first is_colon word)) (drop at w)) line)
+    (λ c. line_end line (gap_of line 0 c)) (ending_seen (Err f) run) b d ends)
 
 refused_with : (kind : GridKind) (line run : ℕ) (e : Ending) (c : Coming)
     → after_end (Err kind) line (ending_seen (Ok e) run c) ≡ Err (grid_fault kind line)
@@ -101,19 +107,23 @@ refused_with kind line run Text c = refl
 -- a header line whose key or value is rejected gives the error of the key
 pub key_refused : (line : ℕ) (keys : KeyValues) (word w : List ℕ) (at run : ℕ) (e : Ending) (more : KeyValues)
     (kind : GridKind)
-    (a b d : Option Coming)
-    → option_map (value_from line (after_first is_colon word)) a ≡ option_map (value_seen (Ok at) w) b
-    → option_map (λ c. line_end line (gap_of line 0 c)) b ≡ option_map (ending_seen (Ok e) run) d
+    (a b d : Coming → Option Coming)
+    → Leads (value_from line (after_first is_colon word)) a (value_seen (Ok at) w) b
+    → Leads (λ c. line_end line (gap_of line 0 c)) b (ending_seen (Ok e) run) d
     → with_header_key keys (header_key_of (before_first is_colon word)) (drop at w) ≡ Err kind
-    → option_map (key_line line keys word) a ≡ option_map (key_line_seen (Err (grid_fault kind line)) more run) d
+    → Leads (key_line line keys word) a (key_line_seen (Err (grid_fault kind line)) more run) d
 key_refused line keys word w at run e more kind a b d values ends given =
-    then_map (after_value line keys word) (value_from line (after_first is_colon word)) (value_seen (Ok at) w) a b
-    values
-    ∙ then_map (after_end (with_header_key keys (header_key_of (before_first is_colon word)) (drop at w)) line)
-    (λ c. line_end line (gap_of line 0 c)) (ending_seen (Ok e) run) b d ends
-    ∙ ap (λ (v : Result KeyValues GridKind). option_map (λ c. after_end v line (ending_seen (Ok e) run c)) d) given
-    ∙ map_same (λ c. after_end (Err kind) line (ending_seen (Ok e) run c))
-    (key_line_seen (Err (grid_fault kind line)) more run) d (refused_with kind line run e)
+    let more_is : Result KeyValues GridKind = with_header_key keys (header_key_of (before_first is_colon word))
+    (drop at w) in
+    chain _ _ _ _ _ _
+    (then_map (after_value line keys word) (value_from line (after_first is_colon word))
+    (value_seen (Ok at) w) a b values)
+    (chain _ _ _ _ _ _
+    (then_map (after_end more_is line) (λ c. line_end line (gap_of line 0 c)) (ending_seen (Ok e) run) b d ends)
+    (map_same (λ c. after_end more_is line (ending_seen (Ok e) run c))
+    (key_line_seen (Err (grid_fault kind line)) more run) d
+    (λ c. ap (λ (v : Result KeyValues GridKind). after_end v line (ending_seen (Ok e) run c)) given
+    ∙ refused_with kind line run e c)))
 
 -- the rest of a list, cut to its own length, is unchanged
 whole_rest : (bs : List ℕ) (i : ℕ) → take (length bs - i) (drop i bs) ≡ drop i bs
@@ -156,40 +166,50 @@ any_none p (x ∷ xs) h = by (any_none p xs) (p x) refl
 abbrev after_first_word : KeyValues → ℕ → Result (List ℕ × Coming) GridFault → Result AfterLine GridFault
 after_first_word keys line r = r >>= (λ w. if list_any is_colon w.0 then key_line line keys w.0 w.1 >>= after_key line else Ok (Stop keys line (Some w.0) w.1))
 
-module _ (keys : KeyValues) (line run l : ℕ) (word : List ℕ) (a b d : Option Coming)
-    (starts : option_map (grid_start line run) a ≡ option_map (start_seen (Ok NextWord) l) b)
-    (words : option_map (word_from l []) b ≡ option_map (word_seen (Ok tt) word) d) where
-  first_word : option_map (λ c. line_read keys (grid_start line run c)) a ≡ option_map (λ c. after_first_word keys l (Ok (word, c))) d
+module _ (keys : KeyValues) (line run l : ℕ) (word : List ℕ) (a b d : Coming → Option Coming)
+    (starts : Leads (grid_start line run) a (start_seen (Ok NextWord) l) b)
+    (words : Leads (word_from l []) b (word_seen (Ok tt) word) d) where
+  first_word : Leads (λ c. line_read keys (grid_start line run c)) a (λ c. after_first_word keys l (Ok (word, c))) d
   first_word =
-      then_map (line_read keys) (grid_start line run) (start_seen (Ok NextWord) l) a b starts
-      ∙ then_map (after_first_word keys l) (word_from l []) (word_seen (Ok tt) word) b d words
+      chain _ _ _ _ _ _
+      (then_map (line_read keys) (grid_start line run) (start_seen (Ok NextWord) l) a b starts)
+      (then_map (after_first_word keys l) (word_from l []) (word_seen (Ok tt) word) b d words)
 
   -- a line whose first word has no colon begins the data
-  pub line_data : list_any is_colon word ≡ false → option_map (λ c. line_read keys (grid_start line run c)) a ≡ option_map (λ c. Ok (Stop keys l (Some word) c)) d
-  line_data none = first_word ∙ map_same (λ c. after_first_word keys l (Ok (word, c))) (λ c. Ok (Stop keys l (Some word) c)) d (λ c. rw none refl)
+  pub line_data : list_any is_colon word ≡ false
+      → Leads (λ c. line_read keys (grid_start line run c)) a (λ c. Ok (Stop keys l (Some word) c)) d
+  line_data none =
+      chain _ _ _ _ _ _ first_word (map_same (λ c. after_first_word keys l (Ok (word, c)))
+      (λ c. Ok (Stop keys l (Some word) c)) d (λ c. rw none refl))
 
-  key_word : list_any is_colon word ≡ true → option_map (λ c. line_read keys (grid_start line run c)) a ≡ option_map (λ c. key_line l keys word c >>= after_key l) d
-  key_word some = first_word ∙ map_same (λ c. after_first_word keys l (Ok (word, c))) (λ c. key_line l keys word c >>= after_key l) d (λ c. rw some refl)
+  key_word : list_any is_colon word ≡ true
+      → Leads (λ c. line_read keys (grid_start line run c)) a (λ c. key_line l keys word c >>= after_key l) d
+  key_word some =
+      chain _ _ _ _ _ _ first_word (map_same (λ c. after_first_word keys l (Ok (word, c)))
+      (λ c. key_line l keys word c >>= after_key l) d (λ c. rw some refl))
 
-  module _ (some : list_any is_colon word ≡ true) (more : KeyValues) (run' : ℕ) (e : Option Coming) where
-    line_ends : (r : Result Ending GridFault) → option_map (key_line l keys word) d ≡ option_map (key_line_seen r more run') e
-        → option_map (λ c. line_read keys (grid_start line run c)) a ≡ option_map (λ c. key_line_seen r more run' c >>= after_key l) e
-    line_ends r h = key_word some ∙ then_map (λ r. r >>= after_key l) (key_line l keys word) (key_line_seen r more run') d e h
+  module _ (some : list_any is_colon word ≡ true) (more : KeyValues) (run' : ℕ) (e : Coming → Option Coming) where
+    line_ends : (r : Result Ending GridFault) → Leads (key_line l keys word) d (key_line_seen r more run') e
+        → Leads (λ c. line_read keys (grid_start line run c)) a (λ c. key_line_seen r more run' c >>= after_key l) e
+    line_ends r h =
+        chain _ _ _ _ _ _ (key_word some)
+        (then_map (λ r. r >>= after_key l) (key_line l keys word) (key_line_seen r more run') d e h)
 
     -- another line follows
-    pub line_more : (m : ℕ) → m ≡ l + 1 → option_map (key_line l keys word) d ≡ option_map (key_line_seen (Ok Feed) more run') e
-        → option_map (λ c. line_read keys (grid_start line run c)) a ≡ option_map (λ c. Ok (More more m run' c)) e
-    line_more m next h = line_ends (Ok Feed) h ∙ ap (λ (n : ℕ). option_map (λ c. Ok (More more n run' c)) e) (sym next)
+    pub line_more : (m : ℕ) → m ≡ l + 1 → Leads (key_line l keys word) d (key_line_seen (Ok Feed) more run') e
+        → Leads (λ c. line_read keys (grid_start line run c)) a (λ c. Ok (More more m run' c)) e
+    line_more m next h = rw next (line_ends (Ok Feed) h)
 
     -- the text ends with this line
-    pub line_last : (m : ℕ) → m ≡ l → IsAtEnd false e → option_map (key_line l keys word) d ≡ option_map (key_line_seen (Ok Text) more run') e
-        → option_map (λ c. line_read keys (grid_start line run c)) a ≡ option_map (λ c. Ok (Stop more m None c)) e
+    pub line_last : (m : ℕ) → m ≡ l → IsAtEnd false e
+        → Leads (key_line l keys word) d (key_line_seen (Ok Text) more run') e
+        → Leads (λ c. line_read keys (grid_start line run c)) a (λ c. Ok (Stop more m None c)) e
     line_last m same end h =
-        line_ends (Ok Text) h ∙ at_end (λ c. Ok (Stop more l None header_ended)) (λ c. Ok (Stop more l None c)) e false end refl
-        ∙ ap (λ (n : ℕ). option_map (λ c. Ok (Stop more n None c)) e) (sym same)
+        rw same (chain _ _ _ _ _ _ (line_ends (Ok Text) h)
+        (at_end (λ c. Ok (Stop more l None header_ended)) (λ c. Ok (Stop more l None c)) e false end refl))
 
-    pub line_fails : (f : GridFault) → option_map (key_line l keys word) d ≡ option_map (key_line_seen (Err f) more run') e
-        → option_map (λ c. line_read keys (grid_start line run c)) a ≡ option_map (λ c. Err f) e
+    pub line_fails : (f : GridFault) → Leads (key_line l keys word) d (key_line_seen (Err f) more run') e
+        → Leads (λ c. line_read keys (grid_start line run c)) a (λ c. Err f) e
     line_fails f h = line_ends (Err f) h
 
 -- the header after one line, which continues with `rest`
@@ -234,24 +254,32 @@ header_none keys line run c = refl
 less_one : (n i : ℕ) → i < n → n - i ≡ suc (n - (i + 1))
 less_one n i h = omega arith
 
-module _ (F : Coming → Result OpenedText GridFault) (a b d : Option Coming) (i : ℕ) (keys : KeyValues) (line run : ℕ) (in_range : i < 10)
-    (so_far : option_map F a ≡ option_map (header_from (10 - i) keys line run) b) where
-  one_line : (seen : Coming → Result AfterLine GridFault) → option_map (λ c. line_read keys (grid_start line run c)) b ≡ option_map seen d
-      → option_map F a ≡ option_map (λ c. go_on (λ k l r x. header_from (10 - (i + 1)) k l r x) (seen c)) d
+module _ (F : Coming → Result OpenedText GridFault) (a b d : Coming → Option Coming) (i : ℕ) (keys : KeyValues)
+    (line run : ℕ) (in_range : i < 10)
+    (so_far : Leads F a (header_from (10 - i) keys line run) b) where
+  one_line : (seen : Coming → Result AfterLine GridFault) → Leads (λ c. line_read keys (grid_start line run c)) b seen d
+      → Leads F a (λ c. go_on (λ k l r x. header_from (10 - (i + 1)) k l r x) (seen c)) d
   one_line seen h =
-      so_far ∙ ap (λ (n : ℕ). option_map (header_from n keys line run) b) (less_one 10 i in_range)
-      ∙ map_same (header_from (suc (10 - (i + 1))) keys line run) (λ c. go_on (λ k l r x. header_from (10 - (i + 1)) k l r x) (line_read keys (grid_start line run c))) b (header_more (10 - (i + 1)) keys line run)
-      ∙ then_map (go_on (λ k l r x. header_from (10 - (i + 1)) k l r x)) (λ c. line_read keys (grid_start line run c)) seen b d h
+      chain _ _ _ _ _ _ so_far
+      (chain _ _ _ _ _ _
+      (map_same (header_from (10 - i) keys line run)
+      (λ c. go_on (λ k l r x. header_from (10 - (i + 1)) k l r x) (line_read keys (grid_start line run c))) b
+      (λ c. ap (λ (n : ℕ). header_from n keys line run c) (less_one 10 i in_range) ∙ header_more
+      (10 - (i + 1)) keys line run c))
+      (then_map (go_on (λ k l r x. header_from (10 - (i + 1)) k l r x))
+      (λ c. line_read keys (grid_start line run c)) seen b d h))
 
   -- reading a header is reading its first line and then the other lines with the line's keys
-  pub header_goes : (more : KeyValues) (l r : ℕ) → option_map (λ c. line_read keys (grid_start line run c)) b ≡ option_map (λ c. Ok (More more l r c)) d
-      → option_map F a ≡ option_map (header_from (10 - (i + 1)) more l r) d
+  pub header_goes : (more : KeyValues) (l r : ℕ)
+      → Leads (λ c. line_read keys (grid_start line run c)) b (λ c. Ok (More more l r c)) d
+      → Leads F a (header_from (10 - (i + 1)) more l r) d
   header_goes more l r h = one_line (λ c. Ok (More more l r c)) h
 
-  pub header_stops : (more : KeyValues) (l : ℕ) (pending : Option (List ℕ)) → option_map (λ c. line_read keys (grid_start line run c)) b ≡ option_map (λ c. Ok (Stop more l pending c)) d
-      → option_map F a ≡ option_map (opened_text more l pending) d
+  pub header_stops : (more : KeyValues) (l : ℕ) (pending : Option (List ℕ))
+      → Leads (λ c. line_read keys (grid_start line run c)) b (λ c. Ok (Stop more l pending c)) d
+      → Leads F a (opened_text more l pending) d
   header_stops more l pending h = one_line (λ c. Ok (Stop more l pending c)) h
 
-  pub header_fails : (f : GridFault) → option_map (λ c. line_read keys (grid_start line run c)) b ≡ option_map (λ c. Err f) d
-      → option_map F a ≡ option_map (λ c. Err f) d
+  pub header_fails : (f : GridFault) → Leads (λ c. line_read keys (grid_start line run c)) b (λ c. Err f) d
+      → Leads F a (λ c. Err f) d
   header_fails f h = one_line (λ c. Err f) h

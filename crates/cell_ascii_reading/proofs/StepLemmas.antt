@@ -1,6 +1,6 @@
 -- Steps over blanks and line feeds, and what they show of the next word, the rest of the line, the line and the run.
-use Rattle.std.proofs.Common.{◌≡◌, ℕ, ◌+◌, ◌-◌, ◌<◌, ◌≤◌, ◌==◌, List, [], ◌∷◌, Option, Some, None, Bool, true, false, Result, Ok, Err, nat_lt, refl, ap, ◌∙◌, arith}
-use Rattle.std.specs.Option.{option_map}
+use Rattle.std.proofs.Common.{◌≡◌, ℕ, ◌+◌, ◌-◌, ◌<◌, ◌≤◌, ◌==◌, List, [], ◌∷◌, Option, Bool, true, false, Result, Ok}
+use Rattle.std.proofs.Common.{Err, nat_lt, refl, ap, arith}
 use Rattle.std.proofs.lemmas.Bool.Decides.{nat_tests}
 use Rattle.cell_core_devices.specs.Device.{Coming}
 use Rattle.cell_ascii_meaning.specs.GridTokens.{Start, is_space, grid_start, grid_fault}
@@ -9,8 +9,9 @@ use Rattle.cell_ascii_meaning.specs.Header.{Gap, gap_of}
 use Rattle.cell_ascii_meaning.specs.declared.grid_fault.GridFault.{GridFault}
 use Rattle.cell_ascii_meaning.proofs.TokenLemmas.{coming, gap-ends, gap-fails, gap-feed, gap-more, gap-stuck, gap-word}
 use Rattle.cell_ascii_meaning.proofs.TokenLemmas.{start-begins, start-ends, start-fails, start-next, start-stuck}
-use Rattle.cell_ascii_reading.specs.Ahead.{bytes_to_come, Agrees}
+use Rattle.cell_ascii_reading.specs.Ahead.{bytes_to_come, Agrees, Leads}
 use Rattle.cell_ascii_reading.specs.Scan.{Scan}
+use Rattle.cell_ascii_reading.proofs.MapLemmas.{chain, map_same, then_map}
 use Rattle.cell_ascii_reading.specs.parts.ScanSteps.{step_at, step_of, IsStep, line_step, run_step, start_step, gap_step}
 use Rattle.cell_ascii_reading.specs.declared.scanner.ScanStep.{ScanStep}
 use Rattle.cell_ascii_reading.specs.declared.scanner.ScanStep.TheVariants.{Blank, Feed, Word, End}
@@ -45,12 +46,8 @@ step-fails line run = refl
 
 -- functions of results that agree before and after a step also agree
 agrees_after : {A B : Type 0} (F K : Coming → A) (H : Coming → B) (G : A → B) → ((c : Coming) → H c ≡ G (F c))
-    → (x y : Option Coming)
-    → option_map F x ≡ option_map K y → option_map H x ≡ option_map (λ c. G (K c)) y
-agrees_after F K H G same None None e = refl
-agrees_after F K H G same None (Some d) e = cc
-agrees_after F K H G same (Some c) None e = cc
-agrees_after F K H G same (Some c) (Some d) e = let inner : F c ≡ K d = cc in ap Some (same c ∙ ap G inner)
+    → (x y : Coming → Option Coming) → Leads F x K y → Leads H x (λ c. G (K c)) y
+agrees_after F K H G same x y e = chain _ _ _ _ _ _ (map_same H (λ c. G (F c)) x same) (then_map G F K x y e)
 
 -- the next word after a step, and the rest of the line after it
 abbrev start_after : ℕ → ℕ → Result ScanStep GridFault × Coming → Start

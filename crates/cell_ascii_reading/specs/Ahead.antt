@@ -3,12 +3,13 @@ use Rattle.std.specs.Prelude.{ℕ, ◌≡◌, Bool, List, [], ◌++◌, Option, 
 use Rattle.std.specs.Option.{option_map}
 use Rattle.cell_core_devices.specs.Asking.{Heard}
 use Rattle.cell_core_devices.specs.Device.{Coming}
+pub use Rattle.cell_core_devices.specs.Supposed.{Supposed, to_come, Supposing, Leads}
 
--- the buffered bytes, the remaining bytes of the source if they are known, whether the source has ended, and the
+-- the buffered bytes, what decides the remaining bytes of the source, whether the source has ended, and the
 -- reader's knowledge about it
 pub record Ahead : Type 0 where
   pub buffered : List ℕ
-  pub rest : Option Coming
+  pub rest : Supposed
   pub ended : Bool
   pub heard : Heard
 
@@ -16,14 +17,20 @@ pub record Ahead : Type 0 where
 abbrev pub before_coming : List ℕ → Coming → Coming
 before_coming bs c = record { bytes = bs ++ c.bytes; fails = c.fails }
 
--- all bytes to come, if they are known
-abbrev pub bytes_to_come : Ahead → Option Coming
-bytes_to_come a = option_map (before_coming a.buffered) a.rest
+-- all bytes to come for a supposed content, or `None` once the source has returned anything else
+abbrev pub bytes_to_come : Ahead → Coming → Option Coming
+bytes_to_come a h = option_map (before_coming a.buffered) (to_come a.rest h)
 
--- if the bytes to come are known, none are left, and the source fails at its end exactly if `fails` is true
-abbrev pub IsAtEnd : Bool → Option Coming → Type 0
-IsAtEnd fails known = IfSome known (λ c. (c.bytes ≡ []) × (c.fails ≡ fails))
+-- for every supposed content with which the reads agreed: no bytes are left, and the source fails at its end exactly if
+-- `fails` is true
+abbrev pub IsAtEnd : Bool → (Coming → Option Coming) → Type 0
+IsAtEnd fails rest = (h : Coming) → IfSome (rest h) (λ c. (c.bytes ≡ []) × (c.fails ≡ fails))
 
--- `before` applied to the bytes that were to come equals `after` applied to the bytes that are to come now
+-- for every supposed content: if the reads up to now agreed with it, `before` applied to the bytes that were to come
+-- equals `after` applied to the bytes that are to come now
 abbrev pub Agrees : {A : Type 0} → (Coming → A) → Ahead → (Coming → A) → Ahead → Type 0
-Agrees before old after new = option_map before (bytes_to_come old) ≡ option_map after (bytes_to_come new)
+Agrees before old after new = Leads before (bytes_to_come old) after (bytes_to_come new)
+
+-- no byte was skipped: the bytes to come are those that were to come
+abbrev pub IsUnmoved : Ahead → Ahead → Type 0
+IsUnmoved old new = Agrees (λ c. c) old (λ c. c) new

@@ -1,11 +1,10 @@
 //! Reads a source through a buffer, one byte at a time.
 
-ghost use Rattle.std.specs.Prelude.{◌≡◌, ◌<◌, ◌≤◌, [], drop, length, OnErr, IfOk, IfSome, IfNone, Ok, Some, None, slice_get, true, false, is_err};
-ghost use Rattle.cell_core_devices.specs.Asking.{hears, heard_first};
-ghost use Rattle.cell_ascii_reading.specs.Ahead.{Ahead, bytes_to_come, IsAtEnd};
+ghost use Rattle.std.specs.Prelude.{◌≡◌, ◌<◌, ◌≤◌, [], drop, length, OnErr, IfOk, IfErr, IfSome, IfNone, Ok, Some, None, slice_get, true, false, is_err};
+ghost use Rattle.cell_core_devices.specs.Asking.{hears, heard_first, is_at};
+ghost use Rattle.cell_ascii_reading.specs.Ahead.{Ahead, bytes_to_come, IsAtEnd, IsUnmoved};
 
 use cell_core::device::DeviceFault;
-use cell_core::memory::Memory;
 use cell_core::source::Source;
 use std::alloc::Global;
 use std::marker::Model;
@@ -27,20 +26,20 @@ pub struct Input<R: Source> {
 impl<R: Source> Model for Input<R> {
     ghost use Rattle.std.specs.Prelude.{take, drop, length, ◌≡◌, ◌<◌, ◌≤◌, true, false};
     ghost use Rattle.cell_core_devices.specs.Asking.{is_at};
-    ghost use Rattle.cell_ascii_reading.specs.Ahead.{Ahead, IsAtEnd};
+    ghost use Rattle.cell_ascii_reading.specs.Ahead.{Ahead, IsAtEnd, to_come};
 
     ghost Value = { Ahead };
 
     ghost view = { λ i. record {
       buffered = drop i.at (take i.filled i.buffer.items);
-      rest = R.coming i.source;
+      rest = R.supposed i.source;
       ended = i.ended;
       heard = record { sure = is_at (R.asked i.source) i.ended i.failed; failed = i.failed };
     } };
 
     ghost invariant = { λ i. (i.at ≤ i.filled) × (i.filled ≤ length i.buffer.items) × (0 < length i.buffer.items)
-        × (i.ended ≡ true → (i.at ≡ i.filled) × IsAtEnd false (R.coming i.source))
-        × (i.failed ≡ true → (i.at ≡ i.filled) × IsAtEnd true (R.coming i.source) × (i.ended ≡ false)) };
+        × (i.ended ≡ true → (i.at ≡ i.filled) × IsAtEnd false (to_come (R.supposed i.source)))
+        × (i.failed ≡ true → (i.at ≡ i.filled) × IsAtEnd true (to_come (R.supposed i.source)) × (i.ended ≡ false)) };
 }
 
 impl<R: Source> Input<R> {
@@ -48,18 +47,21 @@ impl<R: Source> Input<R> {
     ///
     /// # Errors
     ///
-    /// `Memory` if memory runs out.
-    pub fn new(alloc: Global, source: R) -> Result<Input<R>, Memory>
+    /// The source if memory runs out.
+    pub fn new(alloc: Global, source: R) -> Result<Input<R>, R>
     where
         R: Drop,
-        ensures { IfOk result (λ i. i ≡ record {
+        ensures input { IfOk result (λ i. i ≡ record {
           buffered = [];
-          rest = R.coming source;
+          rest = R.supposed source;
           ended = false;
           heard = heard_first (R.asked source);
         }) }
+        ensures unread { IfErr result (λ s. s ≡ source) }
     {
-        let buffer = vec![in alloc; 0u8; BLOCK]?;
+        let Ok(buffer) = vec![in alloc; 0u8; BLOCK] else {
+            return Err(source);
+        };
         Ok(Input {
             source,
             buffer,
@@ -73,10 +75,10 @@ impl<R: Source> Input<R> {
     /// Returns the next byte, or `None` at the end. Does not ask the source again after its end or an `Err`. After an
     /// `Err`, every call returns an error.
     pub fn peek(&mut self) -> Result<Option<u8>, DeviceFault>
-        ensures same { bytes_to_come self.new ≡ bytes_to_come self.old }
+        ensures same { IsUnmoved self.old self.new }
         ensures byte { IfOk result (λ o. IfSome o (λ b. slice_get self.new.buffered 0 ≡ Some b)) }
-        ensures end { IfOk result (λ o. IfNone o (IsAtEnd false (bytes_to_come self.old))) }
-        ensures fault { OnErr result (IsAtEnd true (bytes_to_come self.old)) }
+        ensures end { IfOk result (λ o. IfNone o (IsAtEnd false (bytes_to_come self.new))) }
+        ensures fault { OnErr result (IsAtEnd true (bytes_to_come self.new)) }
         ensures reported { IfOk result (λ o. IfNone o (self.new.ended ≡ true)) }
         ensures again { self.old.ended ≡ true → (self.new ≡ self.old) × (result ≡ Ok None) }
         ensures heard { self.new.heard ≡ hears (is_err result) self.old.heard }
@@ -130,5 +132,13 @@ impl<R: Source> Input<R> {
         ensures heard { self.new.heard ≡ self.old.heard }
     {
         self.at += 1;
+    }
+
+    /// Returns the source after its last read.
+    pub fn into_source(self) -> R
+        ensures rest { R.supposed result ≡ self.rest }
+        ensures asked { self.heard.sure ≡ is_at (R.asked result) self.ended self.heard.failed }
+    {
+        self.source
     }
 }

@@ -1,15 +1,14 @@
 //! Reads the words of a text with their lines.
 
 ghost use Rattle.std.specs.Prelude.{true, false, ◌≡◌, ◌+◌, ◌-◌, ◌^◌, ◌<◌, ◌≤◌, [], length, drop, Ok, Some, IfOk, IfErr, OnErr, IfSome, IfNone, slice_get};
-ghost use Rattle.cell_core_devices.specs.Asking.{heard_first};
-ghost use Rattle.cell_ascii_reading.specs.Ahead.{bytes_to_come, IsAtEnd, Agrees};
+ghost use Rattle.cell_core_devices.specs.Asking.{heard_first, is_at};
+ghost use Rattle.cell_ascii_reading.specs.Ahead.{bytes_to_come, IsAtEnd, IsUnmoved, Agrees};
 ghost use Rattle.cell_ascii_meaning.specs.GridTokens.{grid_fault, is_space, grid_start, word_from};
 ghost use Rattle.cell_ascii_meaning.specs.Header.{gap_of};
 ghost use Rattle.cell_ascii_reading.specs.Scan.{Hears, FailsInText};
 
 use crate::input::Input;
 use cell_ascii_meaning::grid_fault::{GridFault, GridKind};
-use cell_core::memory::Memory;
 use cell_core::source::Source;
 use std::alloc::Global;
 use std::marker::Model;
@@ -73,12 +72,12 @@ impl<R: Source> Scanner<R> {
     // Returns the next byte, or `None` at the end. Reports a failed source as an error at the current line.
     #[inline(always)]
     fn peek(&mut self) -> Result<Option<u8>, GridFault>
-        ensures same { bytes_to_come self.new.ahead ≡ bytes_to_come self.old.ahead }
+        ensures same { IsUnmoved self.old.ahead self.new.ahead }
         ensures scan { self.new ≡ record self.old { ahead = self.new.ahead } }
         ensures byte { IfOk result
             (λ o. IfSome o (λ b. slice_get self.new.ahead.buffered 0 ≡ Some b)) }
-        ensures end { IfOk result (λ o. IfNone o (IsAtEnd false (bytes_to_come self.old.ahead))) }
-        ensures failed { OnErr result (IsAtEnd true (bytes_to_come self.old.ahead)) }
+        ensures end { IfOk result (λ o. IfNone o (IsAtEnd false (bytes_to_come self.new.ahead))) }
+        ensures failed { OnErr result (IsAtEnd true (bytes_to_come self.new.ahead)) }
         ensures fault { IfErr result (λ f. f ≡ grid_fault GridKind.Read self.old.line) }
         ensures heard { Hears result self.old.ahead self.new.ahead }
     {
@@ -279,23 +278,27 @@ impl<R: Source> Scanner<R> {
     ///
     /// # Errors
     ///
-    /// `Memory` if memory runs out.
-    pub fn new(alloc: Global, source: R) -> Result<Scanner<R>, Memory>
+    /// The source if memory runs out.
+    pub fn new(alloc: Global, source: R) -> Result<Scanner<R>, R>
     where
         R: Drop,
-        ensures { IfOk result (λ s. s ≡ record {
+        ensures scanner { IfOk result (λ s. s ≡ record {
           line = 1;
           run = 0;
           word = [];
           ahead = record {
             buffered = [];
-            rest = R.coming source;
+            rest = R.supposed source;
             ended = false;
             heard = heard_first (R.asked source);
           };
         }) }
+        ensures unread { IfErr result (λ s. s ≡ source) }
     {
-        let input = Input::new(alloc, source)?;
+        let input = match Input::new(alloc, source) {
+            Ok(input) => input,
+            Err(source) => return Err(source),
+        };
         Ok(Scanner {
             input,
             line: 1,
@@ -303,5 +306,14 @@ impl<R: Source> Scanner<R> {
             word: [0; 64],
             len: 0,
         })
+    }
+
+    /// Returns the source after its last read.
+    pub fn into_source(self) -> R
+        ensures rest { R.supposed result ≡ self.ahead.rest }
+        ensures asked { self.ahead.heard.sure
+            ≡ is_at (R.asked result) self.ahead.ended self.ahead.heard.failed }
+    {
+        self.input.into_source()
     }
 }

@@ -2,7 +2,6 @@
 
 ghost use Rattle.cell_ascii_meaning.specs.Writing.{IsNullText};
 
-use crate::assertions::assert_same;
 use cell_ascii::grid_fault::{GridFault, GridKind};
 use cell_ascii::grid_reader::read_map;
 use cell_ascii::writer::write_map;
@@ -12,6 +11,7 @@ use cell_core::map::CellMap;
 use cell_core::region::RegionFault;
 use cell_core::sink::{Flushes, MemorySink, Sink};
 use cell_core::source::MemorySource;
+use cell_core_test_maps::assert_same;
 use std::alloc::AllocGlobal;
 use std::process::Abort;
 use std::test::Fail;
@@ -46,7 +46,7 @@ impl Sink for Counting {
 
 fn read<R: AllocGlobal>(rt: &R, text: &[u8]) -> Result<Result<CellMap, GridFault>, Fail> {
     let bytes = text.to_vec(rt.alloc())?;
-    Ok(read_map(rt.alloc(), MemorySource::new(bytes, 7, false)))
+    Ok(read_map(rt.alloc(), MemorySource::new(bytes, 7, false)).map)
 }
 
 // Reads the map of a valid text.
@@ -118,7 +118,7 @@ fn followed_by<R: AllocGlobal>(rt: &R, text: &[u8], byte: u8, count: u32) -> Res
 #[test]
 fn reads_a_grid(rt: HostRuntime) -> Result<(), Fail> {
     let source = MemorySource::new(GRID.to_vec(rt.alloc())?, 7, false);
-    let map = read_map(rt.alloc(), source)?;
+    let map = read_map(rt.alloc(), source).map?;
     assert_same!(rt; (map.region().rows(), map.region().cols()), (3, 4));
     expect_categories(&rt, &map, &[(0, 2, Some(2)), (0, 3, None), (2, 0, Some(3))]);
     Ok(())

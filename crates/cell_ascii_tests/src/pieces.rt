@@ -2,13 +2,13 @@
 
 ghost use Rattle.std.specs.Prelude.{◌<◌};
 
-use crate::assertions::assert_same;
 use cell_ascii::grid_fault::GridFault;
 use cell_ascii::grid_reader::read_map;
 use cell_core::cell::Cell;
 use cell_core::map::CellMap;
 use cell_core::memory::Memory;
 use cell_core::source::MemorySource;
+use cell_core_test_maps::assert_same;
 use std::alloc::{AllocGlobal, Global};
 use std::process::Abort;
 use std::test::Fail;
@@ -36,7 +36,7 @@ fn read_behind<R: AllocGlobal>(
 {
     let mut bytes = vec![in rt.alloc(); b' '; spaces]?;
     bytes.extend_from_slice(text)?;
-    Ok(read_map(rt.alloc(), MemorySource::new(bytes, piece, false)))
+    Ok(read_map(rt.alloc(), MemorySource::new(bytes, piece, false)).map)
 }
 
 // Returns the cells of a map, row by row.

@@ -1,15 +1,13 @@
 //! Tests of grids read call by call, in pieces of seven bytes.
 
-ghost use Rattle.std.specs.Prelude.{◌≡◌, ◌<◌, ◌≤◌, length, IfOk};
-
-use crate::assertions::assert_same;
 use cell_ascii::grid_fault::{GridFault, GridKind};
 use cell_ascii::grid_reader::GridReader;
 use cell_core::cell::Cell;
-use cell_core::device::DeviceFault;
-use cell_core::source::{Asked, MemorySource, Source};
-use std::alloc::AllocGlobal;
+use cell_core::source::{MemorySource, ReadSource, Source};
+use cell_core_test_maps::assert_same;
+use std::alloc::{AllocGlobal, Global};
 use std::cell;
+use std::io::{self, ErrorKind, Read};
 use std::process::Abort;
 use std::test::Fail;
 
@@ -18,9 +16,16 @@ const FAILED: GridFault = GridFault {
     line: 0,
 };
 
+fn reader_of<S: Source + Drop>(alloc: Global, source: S) -> Result<GridReader<S>, GridFault> {
+    match GridReader::open(alloc, source) {
+        Ok(reader) => Ok(reader),
+        Err(unopened) => Err(unopened.fault),
+    }
+}
+
 fn open<R: AllocGlobal>(rt: &R, text: &[u8]) -> Result<GridReader<MemorySource>, Fail> {
     let bytes = text.to_vec(rt.alloc())?;
-    Ok(GridReader::open(rt.alloc(), MemorySource::new(bytes, 7, false))?)
+    Ok(reader_of(rt.alloc(), MemorySource::new(bytes, 7, false))?)
 }
 
 fn expect_cells<R: Abort>(rt: &R, row: &[Cell], categories: &[i32]) {
@@ -51,7 +56,7 @@ fn stops_at_a_bad_cell(rt: HostRuntime) -> Result<(), Fail> {
     };
     assert_same!(rt; again, FAILED);
     expect_cells(&rt, row, &[3, 3, 2, 2]);
-    assert_same!(rt; reader.finish(), Err(FAILED));
+    assert_same!(rt; reader.finish().result, Err(FAILED));
     Ok(())
 }
 
@@ -76,47 +81,28 @@ fn reads_rows_to_the_end(rt: HostRuntime) -> Result<(), Fail> {
         panic!(rt; "a row behind the last");
     };
     let kind = GridKind::TooMany;
-    assert_same!(rt; reader.finish(), Err(GridFault { kind, line: 8 }));
+    assert_same!(rt; reader.finish().result, Err(GridFault { kind, line: 8 }));
     Ok(())
 }
 
-// A source that returns one byte per call and fails at an index, or otherwise continues forever. It counts its calls.
+// A reader that returns one byte per call and fails at an index, or otherwise continues forever. It counts its calls.
 #[derive(Drop)]
 struct Counting<'a> {
     text: &'a [u8],
     fails_at: usize,
     calls: &'a cell::Cell<usize>,
-    asked: Asked,
 }
 
-impl<'a> Counting<'a> {
-    // Returns the next byte, or fails.
-    fn give(&mut self, buf: &mut [u8]) -> Result<usize, DeviceFault>
-        requires { 0 < length buf.old }
-        ensures count { IfOk result (λ n. n ≤ length buf.new) }
-        ensures asked { self.new.asked ≡ self.old.asked }
-    {
+impl<'a> Read for Counting<'a> {
+    fn read(&mut self, buf: &mut [u8]) -> io::Result<usize> {
         let call = self.calls.get();
         self.calls.set(call.saturating_add(1));
         if call == self.fails_at {
-            return Err(DeviceFault);
+            return Err(ErrorKind::Other.into());
         }
-        buf[0] = self.text.get(call).copied().unwrap_or(b'1');
-        Ok(1)
-    }
-}
-
-impl<'a> Source for Counting<'a> {
-    ghost use Rattle.std.specs.Prelude.{None};
-
-    ghost coming = { λ _. None };
-
-    ghost asked = { λ s. s.asked };
-
-    fn take(&mut self, buf: &mut [u8]) -> Result<usize, DeviceFault> {
-        let answer = self.give(buf);
-        self.asked = self.asked.after_answer(answer);
-        answer
+        let count = buf.len().min(1);
+        buf[..count].fill(self.text.get(call).copied().unwrap_or(b'1'));
+        Ok(count)
     }
 }
 
@@ -125,13 +111,12 @@ fn a_source_is_not_asked_after_it_failed(rt: HostRuntime) -> Result<(), Fail> {
     let text =
         b"north: 3\nsouth: 0\neast: 4\nwest: 0\nrows: 3\ncols: 4\n1 1 2 *\n1 2 2 2\n3 3 1 1\n";
     let calls = cell::Cell::new(0);
-    let source = Counting {
+    let source = ReadSource::new(Counting {
         text,
         fails_at: 60,
         calls: &calls,
-        asked: Asked::Going,
-    };
-    let mut reader = GridReader::open(rt.alloc(), source)?;
+    });
+    let mut reader = reader_of(rt.alloc(), source)?;
     let mut cells = vec![in rt.alloc(); Cell::null(); reader.region().cols() as usize]?;
     let row = cells.as_mut_slice();
     assert_same!(rt; reader.next_row(row), Ok(true));
@@ -141,6 +126,27 @@ fn a_source_is_not_asked_after_it_failed(rt: HostRuntime) -> Result<(), Fail> {
     let Err(again) = reader.next_row(row) else {
         panic!(rt; "a reader that failed goes on");
     };
-    assert_same!(rt; (again, reader.finish(), calls.get()), (FAILED, Err(FAILED), 61));
+    assert_same!(rt; (again, reader.finish().result, calls.get()), (FAILED, Err(FAILED), 61));
+    Ok(())
+}
+
+// A header with an unknown key, which is read after six pieces of seven bytes.
+const BAD_HEADER: &[u8] = b"north: 3\nsouth: 0\neast: 4\nwest: 0\nkind: 3\ncols: 4\n";
+
+#[test]
+fn a_source_comes_back_after_its_last_read(rt: HostRuntime) -> Result<(), Fail> {
+    let source = MemorySource::new(BAD_HEADER.to_vec(rt.alloc())?, 7, false);
+    let Err(unopened) = GridReader::open(rt.alloc(), source) else {
+        panic!(rt; "a header with an unknown key was read");
+    };
+    let kind = GridKind::BadHeader;
+    assert_same!(rt; unopened.fault, GridFault { kind, line: 5 });
+    let mut source = unopened.source;
+    let mut bytes = [0u8; 7];
+    assert_same!(rt; source.take(&mut bytes), Ok(7));
+    assert!(rt;
+        bytes.as_slice() == &BAD_HEADER[42..49],
+        "the source is not where reading stopped"
+    );
     Ok(())
 }

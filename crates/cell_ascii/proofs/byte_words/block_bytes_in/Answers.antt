@@ -6,7 +6,7 @@ use Rattle.cell_ascii_meaning.specs.EdgeNumbers.{is_digit}
 use Rattle.cell_ascii.specs.TableWords.{blanks}
 use Rattle.cell_ascii_lanes.specs.WordLanes.{AreShortWords, is_null_star}
 use Rattle.cell_ascii.proofs.BitLemmas.{mask-take}
-use Rattle.cell_ascii.proofs.ByteEndLemmas.{ends_of, ends_mask, front, length-front, front-mask, length-ends}
+use Rattle.cell_ascii_lanes.proofs.ByteEndLemmas.{ends_of, ends_mask, front, length-front, front-mask, length-ends}
 use Rattle.cell_ascii.proofs.ByteBlockLemmas.{short_block, cell_bytes_are, put_holds, put_low, star_of, word_at, space_no_digit, sixty_four_ends}
 use Rattle.cell_ascii.proofs.byte_words.block_bytes_in.Goals as goal
 use lib.Bits.{bit_and}

@@ -6,7 +6,8 @@ use Rattle.cell_ascii.specs.GridReaders.{IsCutRow}
 use Rattle.cell_ascii.specs.Reader.{at_place}
 use Rattle.cell_ascii.proofs.BufferedRowLemmas.{part-front}
 use Rattle.cell_ascii.proofs.ManyLemmas.{row_some}
-use Rattle.cell_ascii.proofs.RowReadLemmas.{implied, cut_fails, others_fail}
+use Rattle.cell_ascii_reading.proofs.LeadLemmas.{implied}
+use Rattle.cell_ascii.proofs.RowReadLemmas.{cut_fails, others_fail}
 use Rattle.cell_ascii.proofs.grid_reader.read_either.Goals as goal
 
 pub returns-in_err-read_row-clause-fault : goal.returns-in_err-read_row-clause-fault
@@ -21,11 +22,11 @@ returns-in_err-read_row-clause-fault g c =
     let is = c.in_ok-count.ensures in
     let cells = rw c.if-is_bytes.false at is.cells in
     let p = err_from_is_err_and c.from_residual-in_err-read_row.result c.from_residual-in_err-read_row.ensures.1 in
-    let cut = implied (λ x. IsCutRow u.header (at_place u x) f rest c.read_row.new.row) (λ x. many (cell_from u.header) (length rest) (at_place u x) ≡ Err f) (bytes_to_come u.ahead)
+    let cut = implied (λ x. IsCutRow u.header (at_place u x) f rest c.read_row.new.row) (λ x. many (cell_from u.header) (length rest) (at_place u x) ≡ Err f) (bytes_to_come u.ahead) (bytes_to_come c.read_row.new.cells.ahead)
     (λ x. cut_fails u.header (at_place u x) f rest c.read_row.new.row) c.in_err-read_row.ensures.cut in
     let all : i + length rest ≡ length c.args.row.now = omega (arith, length-take (length row - i) (drop i row), length-drop i row, is.front.count, c.read_bytes.auto.row) in
     rw (p.1, p.2, ← all)
-    (others_fail h (at_place s) (at_place u) (bytes_to_come s.ahead) (bytes_to_come u.ahead) i (length rest) f (take i row) cells (rw is.header at cut))
+    (others_fail h (at_place s) (at_place u) (bytes_to_come s.ahead) (bytes_to_come u.ahead) (bytes_to_come c.read_row.new.cells.ahead) i (length rest) f (take i row) cells (rw is.header at cut))
 
 pub returns-clause-row : goal.returns-clause-row
 returns-clause-row g c =

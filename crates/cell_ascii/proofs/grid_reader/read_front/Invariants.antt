@@ -1,6 +1,6 @@
 use Rattle.std.proofs.Common.{◌≡◌, ◌+◌, ◌-◌, ◌*◌, ◌≤◌, false, Ok, length, take}
-use Rattle.std.specs.Option.{option_map}
 use Rattle.cell_core_devices.specs.Asking.{hears}
+use Rattle.cell_core_devices.specs.Supposed.{Leads}
 use Rattle.cell_core_values.specs.SmallCells.{cells_of_bytes}
 use Rattle.cell_ascii_reading.specs.Ahead.{bytes_to_come}
 use Rattle.cell_ascii_meaning.specs.CellTexts.{cell_from, many}
@@ -13,7 +13,7 @@ invariant-cells g l =
     record {
       within : l.count ≤ length l.row;
       bytes : length l.row + 72 ≤ length l.bytes;
-      row : option_map (λ c. many (cell_from s.header) l.count (at_place s c)) (bytes_to_come s.ahead) ≡ option_map (λ d. Ok (cells_of_bytes (take l.count l.bytes), at_place l.cells d)) (bytes_to_come l.cells.ahead);
+      row : Leads (λ c. many (cell_from s.header) l.count (at_place s c)) (bytes_to_come s.ahead) (λ d. Ok (cells_of_bytes (take l.count l.bytes), at_place l.cells d)) (bytes_to_come l.cells.ahead);
       header : l.cells.header ≡ s.header;
       lines : l.cells.line ≤ s.line + l.count * 1048577;
       heard : l.cells.ahead.heard ≡ hears false s.ahead.heard;

@@ -1,6 +1,6 @@
 use Rattle.std.proofs.Common.{◌≡◌, ◌+◌, ◌-◌, ◌*◌, ◌≤◌, false, Ok, length, take, drop}
-use Rattle.std.specs.Option.{option_map}
 use Rattle.cell_core_devices.specs.Asking.{hears}
+use Rattle.cell_core_devices.specs.Supposed.{Leads}
 use Rattle.cell_ascii_reading.specs.Ahead.{bytes_to_come}
 use Rattle.cell_ascii_meaning.specs.CellTexts.{cell_from, many}
 use Rattle.cell_ascii.specs.Reader.{at_place}
@@ -11,7 +11,7 @@ invariant-cells g l =
     let s = l.fn.cells in
     record {
       within : l.i ≤ length l.row;
-      row : option_map (λ c. many (cell_from s.header) l.i (at_place s c)) (bytes_to_come s.ahead) ≡ option_map (λ d. Ok (take l.i l.row, at_place l.cells d)) (bytes_to_come l.cells.ahead);
+      row : Leads (λ c. many (cell_from s.header) l.i (at_place s c)) (bytes_to_come s.ahead) (λ d. Ok (take l.i l.row, at_place l.cells d)) (bytes_to_come l.cells.ahead);
       rest : drop l.i l.row ≡ drop l.i l.fn.row;
       header : l.cells.header ≡ s.header;
       lines : l.cells.line ≤ s.line + l.i * 1048577;

@@ -1,20 +1,22 @@
 use Rattle.std.proofs.lemmas.Result.{err_from_is_err_and}
-use Rattle.std.proofs.Common.{◌≡◌, ◌≢◌, ◌<◌, ◌≤◌, ◌+◌, ◌*◌, ◌∙◌, zero, suc, ℕ, arith, Bool, false, Ok, Err, Result}
+use Rattle.std.proofs.Common.{◌≡◌, ◌≢◌, ◌<◌, ◌≤◌, ◌+◌, ◌-◌, ◌*◌, ◌∙◌, zero, suc, ℕ, arith, Bool, false, Ok, Err, Result}
 use Rattle.std.proofs.Common.{List, refl, ap, sym, subst, length, length-append, length-drop, length-take, take}
 use Rattle.std.proofs.Common.{drop, ◌++◌, []}
 use Rattle.std.proofs.Math.Nat.{mul-le-mul_right}
-use Rattle.std.specs.Option.{option_map}
 use Rattle.cell_core_devices.specs.Asking.{hears}
 use Rattle.cell_core_devices.specs.Device.{Coming}
 use Rattle.cell_core.specs.Grid.{CellValue}
-use Rattle.cell_ascii_meaning.specs.CellTexts.{cell_from, many}
+use Rattle.cell_ascii_meaning.specs.CellTexts.{Reading, cell_from, many}
 use Rattle.cell_ascii_meaning.specs.Kinds.{IsOfText}
 use Rattle.cell_ascii_meaning.specs.declared.grid_fault.GridKind.{GridKind}
 use Rattle.cell_ascii_meaning.specs.declared.grid_fault.GridKind.TheVariants.{Memory, Failed}
 use Rattle.cell_ascii.specs.Reader.{rows_from}
 use Rattle.cell_ascii.specs.GridReaders.{reader_place, IsOfReading}
 use Rattle.cell_ascii_meaning.specs.GridTokens.{grid_fault}
-use Rattle.cell_ascii.proofs.CellLemmas.{more_read, none_read, all_read}
+use Rattle.cell_ascii_reading.specs.Ahead.{bytes_to_come}
+use Rattle.cell_ascii_reading.proofs.MapLemmas.{chain, map_same}
+use Rattle.cell_ascii_reading.proofs.LeadLemmas.{Contents, implied, always_holds, known_before}
+use Rattle.cell_ascii.proofs.CellLemmas.{with_front, more_read, none_read, all_read}
 use Rattle.cell_ascii.proofs.DataLemmas.{rows_fail}
 use Rattle.cell_ascii.proofs.ManyLemmas.{rows_read}
 use Rattle.cell_ascii.proofs.RowsLemmas.{rows_count}
@@ -76,14 +78,14 @@ rows-init g c =
     let cols = c.cols-cols.ensures.value ∙ ap (λ r. r.cols) c.region-region.ensures in
     let size = ap (λ n. c.rows_at_once-band.result * n) cols in
     record {
-      rows = none_read (many (cell_from h) h.region.cols) h.region.rows (reader_place s) s.coming rows none;
+      rows = none_read (many (cell_from h) h.region.cols) h.region.rows (reader_place s) (bytes_to_come s.ahead) rows none;
       header = refl;
       region = ap (λ b. b.region) c.new-builder.ensures ∙ c.region-region.ensures;
       count = no_rows rows s.rows_left h.region.rows none c.requires.0;
       cells = c.as_mut_slice-cells.ensures.len ∙ c.in-Ok.ensures.len ∙ size;
       bytes = c.as_mut_slice-bytes.ensures.len ∙ c.in-Ok-vec.ensures.len ∙ ap (λ n. n + 72) size;
       live = c.requires.1.0;
-      heard = ap (λ (failed : Bool). record { sure = s.heard.sure; failed = failed }) c.requires.1.1;
+      heard = ap (λ (failed : Bool). record { sure = s.ahead.heard.sure; failed = failed }) c.requires.1.1;
     }
 
 pub returns-in_err-is_bytes-clause-fault : goal.returns-in_err-is_bytes-clause-fault
@@ -104,10 +106,31 @@ returns-in_err-is_bytes-clause-fault g c =
     (λ n. length (take (some * n) c.rows.cells)) same
     ∙ width_of c.rows.cells some band h.region.cols fit is.cells in
     let p = err_from_is_err_and c.from_residual.result c.from_residual.ensures.1 in
+    let here : Contents = bytes_to_come s.ahead in
+    let there : Contents = bytes_to_come c.next_either.new.reader.ahead in
     rw (p.1, p.2)
-    (λ _. rows_fail h (λ (x : Coming). rows_from h (reader_place s x)) s.coming t.coming front h.region.rows
+    (implied (λ x. rows_from h (reader_place s x) ≡ Err f) (λ x. f.kind ≢ Memory → rows_from h (reader_place s x) ≡ Err f) here there (λ x e other. e)
+    (rows_fail h (λ (x : Coming). rows_from h (reader_place s x)) here (bytes_to_come t.ahead) there front h.region.rows
     (length front) some (reader_place t) f (within (length front) few is.count) is.rows
-    (rw (width, is.header) at c.in_err-is_bytes.ensures.fault))
+    (rw (width, is.header) at c.in_err-is_bytes.ensures.fault)))
+
+pub returns-in-Err-clause-fault : goal.returns-in-Err-clause-fault
+returns-in-Err-clause-fault g c =
+    let s = c.args.reader.now in
+    let t = c.rows.reader in
+    let u = c.next_either.new.reader in
+    let h = s.header in
+    let row = c.next_either.new.row in
+    let bytes = c.next_either.new.bytes in
+    let front = c.rows.builder.rows in
+    let n = length (take (c.min-count.result * c.cols-cols.result) c.rows.cells) in
+    always_holds (λ x. Memory ≢ Memory → rows_from h (reader_place s x) ≡ Err (grid_fault Memory 0)) (bytes_to_come s.ahead) (bytes_to_come u.ahead)
+    (λ x other. absurd (other refl))
+    (λ x some. known_before (λ d. rows_from h (reader_place s d))
+    (λ d. with_front front (many (many (cell_from h) h.region.cols) (h.region.rows - length front) (reader_place t d)))
+    (bytes_to_come s.ahead) (bytes_to_come t.ahead) c.rows.invariant.rows x
+    (known_before (λ d. many (cell_from t.header) n (reader_place t d)) (λ d. Ok (front_cells (n, c.in_ok-is_bytes.is_bytes) bytes row, reader_place u d))
+    (bytes_to_come t.ahead) (bytes_to_come u.ahead) c.in_ok-is_bytes.ensures.row x some))
 
 pub rows-preserved : goal.rows-preserved
 rows-preserved g c =
@@ -138,10 +161,10 @@ rows-preserved g c =
     (λ n. front ++ rows_of cols some (front_cells (n, is_bytes) bytes row)) (c.next_either.auto.row ∙ width) in
     let more : length (front ++ rows_of cols some cells) ≡ length front + some = longer front cols some cells in
     record {
-      rows = rw (grown, more) (more_read (many (cell_from h) cols) (λ (x : Coming). rows_from h (reader_place s x)) s.coming t.coming u.coming
+      rows = rw (grown, more) (more_read (many (cell_from h) cols) (λ (x : Coming). rows_from h (reader_place s x)) (bytes_to_come s.ahead) (bytes_to_come t.ahead) (bytes_to_come u.ahead)
           front h.region.rows (length front) some (reader_place t) (within (length front) few is.count) is.rows
           (rows_of cols some cells) (reader_place u)
-          (rows_read (cell_from h) (reader_place t) (reader_place u) t.coming u.coming cols some cells
+          (rows_read (cell_from h) (reader_place t) (reader_place u) (bytes_to_come t.ahead) (bytes_to_come u.ahead) cols some cells
           (rw (width, is.header) at c.in_ok-is_bytes.ensures.row)));
       header = c.next_either.ensures.header ∙ is.header;
       region = ap (λ b. b.region) c.in-Ok-push_rows.ensures ∙ is.region;
@@ -154,19 +177,24 @@ rows-preserved g c =
 
 pub returns-clause-rows : goal.returns-clause-rows
 returns-clause-rows g c =
+    let s = c.args.reader.now in
     let t = c.rows.reader in
-    let h = c.args.reader.now.header in
+    let h = s.header in
     let is = c.rows.invariant in
     let front = c.rows.builder.rows in
+    let last : Coming → Reading (List (List CellValue)) =
+    λ d. with_front front (many (many (cell_from h) h.region.cols) (h.region.rows - length front) (reader_place t d)) in
+    let read : Coming → Reading (List (List CellValue)) = λ d. Ok (c.finish.result.rows, reader_place t d) in
     let none : t.rows_left ≡ 0 = omega (arith, c.rows-test.false, c.rows_left.ensures) in
     let all : c.finish.result.rows ≡ front = ap (λ m. m.rows) c.finish.ensures in
     let region = c.cols-cols.ensures.region in
     record {
       region = ap (λ m. m.region) c.finish.ensures ∙ is.region;
       labels = ap (λ m. m.labels) c.finish.ensures;
-      rows = is.rows
-          ∙ all_read (many (cell_from h) h.region.cols) h.region.rows (length front) (reader_place t) t.coming front (no_more is.count none)
-          ∙ ap (λ rows. option_map (λ d. Ok (rows, reader_place t d)) t.coming) (sym all);
+      rows = chain (λ x. rows_from h (reader_place s x)) last read (bytes_to_come s.ahead) (bytes_to_come t.ahead) (bytes_to_come t.ahead) is.rows
+          (map_same last read (bytes_to_come t.ahead)
+          (λ d. all_read (many (cell_from h) h.region.cols) h.region.rows (length front) (reader_place t d) front (no_more is.count none)
+          ∙ ap (λ rows. Ok (rows, reader_place t d)) (sym all)));
       left = none;
       live = is.live;
       high = some_same region.rows_least (ap (λ r. r.rows) c.region-region.ensures);

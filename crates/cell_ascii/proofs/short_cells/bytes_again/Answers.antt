@@ -1,6 +1,6 @@
 use Rattle.std.proofs.Common.{◌≡◌, ◌+◌, ◌-◌, ap, ◌∙◌, sym, arith, length, take, drop, List, ℕ}
 use Rattle.std.proofs.lemmas.List.{take_rest}
-use Rattle.cell_ascii.proofs.LaneLemmas.{alike_longer}
+use Rattle.cell_ascii_lanes.proofs.LaneLemmas.{alike_longer}
 use Rattle.cell_ascii.proofs.short_cells.bytes_again.Goals as goal
 
 -- if `count` bytes repeat n places later, and `more` bytes after them do, all of them repeat

@@ -1,4 +1,4 @@
-use Rattle.cell_ascii.proofs.LaneLemmas.{none_differ, some_differ}
+use Rattle.cell_ascii_lanes.proofs.LaneLemmas.{none_differ, some_differ}
 use Rattle.cell_ascii.proofs.short_cells.front_alike.Goals as goal
 
 pub returns-then-differ-eq0-clause-alike : goal.returns-then-differ-eq0-clause-alike

@@ -4,7 +4,7 @@ use Rattle.cell_core_devices.specs.Device.{Coming}
 use Rattle.cell_ascii_reading.specs.Ahead.{bytes_to_come}
 use Rattle.cell_ascii_meaning.specs.Header.{header_from}
 use Rattle.cell_ascii_reading.proofs.OpeningLemmas.{header_goes, header_stops, header_fails, header_none}
-use Rattle.cell_ascii_reading.proofs.MapLemmas.{map_same}
+use Rattle.cell_ascii_reading.proofs.MapLemmas.{chain, map_same}
 use Rattle.cell_ascii_meaning.specs.GridTokens.{grid_fault}
 use Rattle.cell_ascii_meaning.specs.declared.grid_fault.GridKind.TheVariants.{BadHeader}
 use Rattle.cell_ascii_reading.proofs.header_reading.read_header.Goals as goal
@@ -52,4 +52,5 @@ returns-clause-header g c =
     let t = c.loop.scanner in
     let none : 10 - c.loop.counter ≡ 0 = omega arith in
     rw (c.bad_header.ensures, c.line.ensures)
-    ((rw none at c.loop.invariant.header) ∙ map_same (header_from 0 c.loop.keys t.line t.run) (λ (x : Coming). Err (grid_fault BadHeader t.line)) (bytes_to_come t.ahead) (header_none c.loop.keys t.line t.run))
+    (chain _ _ _ _ _ _ (rw none at c.loop.invariant.header) (map_same (header_from 0 c.loop.keys t.line t.run)
+    (λ (x : Coming). Err (grid_fault BadHeader t.line)) (bytes_to_come t.ahead) (header_none c.loop.keys t.line t.run)))

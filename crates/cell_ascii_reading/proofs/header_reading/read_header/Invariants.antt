@@ -1,6 +1,5 @@
 use Rattle.std.proofs.Common.{◌≡◌, ◌+◌, ◌-◌, ◌*◌, ◌<◌, ◌≤◌, false}
-use Rattle.std.specs.Option.{option_map}
-use Rattle.cell_ascii_reading.specs.Ahead.{bytes_to_come}
+use Rattle.cell_ascii_reading.specs.Ahead.{Agrees}
 use Rattle.cell_ascii_meaning.specs.Header.{header_from}
 use Rattle.cell_ascii_reading.proofs.header_reading.read_header.Given as goal
 
@@ -8,8 +7,8 @@ abbrev pub invariant-loop : goal.invariant-loop
 invariant-loop g l =
     let s = l.fn.scanner in
     record {
-      header : option_map (header_from 10 l.fn.keys s.line s.run) (bytes_to_come s.ahead)
-          ≡ option_map (header_from (10 - l.counter) l.keys l.scanner.line l.scanner.run) (bytes_to_come l.scanner.ahead);
+      header : Agrees (header_from 10 l.fn.keys s.line s.run) s.ahead
+          (header_from (10 - l.counter) l.keys l.scanner.line l.scanner.run) l.scanner.ahead;
       lines : l.scanner.line ≤ s.line + l.counter * 1048577;
       run : l.scanner.run ≤ 1048576;
       sure : l.scanner.ahead.heard.sure ≡ s.ahead.heard.sure;

@@ -1,7 +1,11 @@
-use Rattle.std.proofs.Common.{◌≡◌, ◌<◌, ◌≤◌, ◌+◌, ◌∙◌, length, ap, true, false}
+use Rattle.std.proofs.Common.{◌≡◌, ◌<◌, ◌≤◌, ◌+◌, ◌∙◌, length, ap, true, false, Err}
 use Rattle.std.specs.List.{list_any, position_or_len}
 use Rattle.cell_ascii_reading.specs.Ahead.{bytes_to_come}
+use Rattle.cell_ascii_meaning.specs.GridTokens.{grid_start}
 use Rattle.cell_ascii_meaning.specs.Header.{is_colon}
+use Rattle.cell_ascii_reading.specs.Opening.{line_read}
+use Rattle.cell_ascii_reading.specs.Scan.{start_seen}
+use Rattle.cell_ascii_reading.proofs.MapLemmas.{then_map}
 use Rattle.cell_ascii_reading.proofs.OpeningLemmas.{any_none, any_within, line_data, line_more, line_last, line_fails}
 use Rattle.cell_ascii_reading.proofs.header_reading.read_line.Goals as goal
 
@@ -57,3 +61,10 @@ returns-in-Err-read_key-clause-line g c =
     line_fails c.args.keys.now s.line s.run t.line u.word (bytes_to_come s.ahead) (bytes_to_come t.ahead) (bytes_to_come u.ahead)
     (rw c.in-Ok-Word.field-0-is at c.in-Ok-Word.ensures.starts) c.in-Ok.ensures.word some c.read_key.new.keys v.run (bytes_to_come v.ahead) c.in-Err-read_key.fault
     (rw c.read_word.ensures.line at c.in-Err-read_key.ensures.key)
+
+pub returns-in-Err-clause-line : goal.returns-in-Err-clause-line
+returns-in-Err-clause-line g c =
+    let s = c.args.scanner.now in
+    let t = c.skip_spaces.new.self in
+    then_map (line_read c.args.keys.now) (grid_start s.line s.run) (start_seen (Err c.in-Err.fault) t.line)
+    (bytes_to_come s.ahead) (bytes_to_come t.ahead) c.in-Err.ensures.starts

@@ -5,7 +5,7 @@ use Rattle.cell_ascii_reading.specs.Scan.{gap_seen}
 use Rattle.cell_ascii_reading.specs.declared.scanner.InLine.TheVariants.{Word, Feed, End}
 use Rattle.cell_ascii_meaning.specs.Header.{value_from}
 use Rattle.cell_ascii_reading.specs.Opening.{value_seen}
-use Rattle.cell_ascii_reading.proofs.MapLemmas.{map_same}
+use Rattle.cell_ascii_reading.proofs.MapLemmas.{chain, map_same}
 use Rattle.cell_ascii_reading.proofs.OpeningLemmas.{value_blanks, value_here}
 use Rattle.cell_ascii_reading.proofs.header_reading.read_value.Goals as goal
 
@@ -64,9 +64,10 @@ returns-in_err-read_word-in-Word-clause-value g c =
     err_from_is_err_and c.from_residual-in_err-read_word-in-Word.result
     c.from_residual-in_err-read_word-in-Word.ensures.1 in
     rw (p.1, p.2)
+    (chain _ _ _ _ _ _
     (value_blanks s.line c.args.start s.word (gap_seen (Ok Word) t.run) (bytes_to_come s.ahead) (bytes_to_come t.ahead) long
-    (rw (c.requires.run, c.in-Word.is) at c.in_ok-skip_blanks.ensures.gap)
-    ∙ (rw same at c.in_err-read_word-in-Word.ensures.word))
+    (rw (c.requires.run, c.in-Word.is) at c.in_ok-skip_blanks.ensures.gap))
+    (rw same at c.in_err-read_word-in-Word.ensures.word))
 
 pub returns-in_err-read_word-in-Word-clause-ok : goal.returns-in_err-read_word-in-Word-clause-ok
 returns-in_err-read_word-in-Word-clause-ok g c =
@@ -85,9 +86,11 @@ returns-in_ok-read_word-in-Word-clause-value g c =
     let t = c.skip_blanks.new.self in
     let long : length s.word ≤ c.args.start = rw c.word.ensures.value at c.if-start-word.false in
     let same : t.line ≡ s.line = rw c.in-Word.is at c.in_ok-skip_blanks.ensures.line in
-    value_blanks s.line c.args.start s.word (gap_seen (Ok Word) t.run) (bytes_to_come s.ahead) (bytes_to_come t.ahead) long
-    (rw (c.requires.run, c.in-Word.is) at c.in_ok-skip_blanks.ensures.gap)
-    ∙ (rw same at c.in_ok-read_word-in-Word.ensures.word)
+    chain _ _ _ _ _ _
+    (value_blanks s.line c.args.start s.word (gap_seen (Ok Word) t.run) (bytes_to_come s.ahead)
+    (bytes_to_come t.ahead) long
+    (rw (c.requires.run, c.in-Word.is) at c.in_ok-skip_blanks.ensures.gap))
+    (rw same at c.in_ok-read_word-in-Word.ensures.word)
 
 pub returns-in_ok-read_word-in-Word-clause-ok : goal.returns-in_ok-read_word-in-Word-clause-ok
 returns-in_ok-read_word-in-Word-clause-ok g c = record {

@@ -1,5 +1,5 @@
 use Rattle.std.proofs.Common.{◌≡◌, ◌∙◌, Bool, true, false, ap, sym, subst, rules}
-use Rattle.std.specs.Option.{IfSome}
+use Rattle.cell_core_devices.specs.Supposed.{Supposing}
 use Rattle.cell_ascii_reading.specs.Ahead.{bytes_to_come}
 use Rattle.cell_ascii.specs.Reader.{at_place}
 use Rattle.cell_ascii_meaning.specs.RowPlaces.{end_fault}
@@ -18,7 +18,7 @@ returns-clause-end g c =
     let none : i.rows_left ≡ 0 = left ∙ c.requires.done live in
     record {
       failed = λ failed. absurd (both failed live);
-      reported = subst (λ (r : ReaderValue). r.failed ≡ false → IfSome r.coming (λ x. fault_of_reading c.check_end.result ≡ end_fault (reader_place r x))) c.self.view_is
+      reported = subst (λ (r : ReaderValue). r.failed ≡ false → Supposing (bytes_to_come r.ahead) (bytes_to_come c.check_end.new.self.ahead) (λ x. fault_of_reading c.check_end.result ≡ end_fault (reader_place r x))) c.self.view_is
           (λ live. end_answers (at_place i.cells) i.rows_left (bytes_to_come i.cells.ahead) (bytes_to_come c.check_end.new.self.ahead) c.check_end.result none (c.self.invariant.placed live) c.check_end.ensures.end);
       memory = search rules;
       kinds = λ _. c.check_end.ensures.kind;

@@ -1,5 +1,5 @@
 use Rattle.std.proofs.Common.{◌≡◌, ◌-◌, ◌+◌, ◌<◌, ◌∙◌, ℕ, zero, suc, Bool, true, false, Some, None, Result, Ok, Err, refl, length, ap, sym, subst, arith}
-use Rattle.std.specs.Option.{IfSome}
+use Rattle.cell_core_devices.specs.Supposed.{Supposing}
 use Rattle.cell_core_devices.specs.Asking.{Heard, hears}
 use Rattle.cell_core_devices.specs.Device.{Coming}
 use Rattle.cell_ascii_reading.specs.Ahead.{bytes_to_come}
@@ -84,8 +84,8 @@ returns-then-self-eq0 g c =
       fails = rw live refl;
       memory = tt;
       kinds = λ _. tt;
-      heard = λ _. ap (λ (failed : Bool). record { sure = c.args.self.now.heard.sure; failed = failed })
-          (sym (ap (λ (r : ReaderValue). r.heard.failed) c.self.view_is) ∙ c.self.invariant.heard c.if-self.false);
+      heard = λ _. ap (λ (failed : Bool). record { sure = c.args.self.now.ahead.heard.sure; failed = failed })
+          (sym (ap (λ (r : ReaderValue). r.ahead.heard.failed) c.self.view_is) ∙ c.self.invariant.heard c.if-self.false);
     }
 
 pub returns-in-Ok : goal.returns-in-Ok
@@ -97,7 +97,7 @@ returns-in-Ok g c =
     record {
       failed = λ failed. absurd (both failed live);
       none = λ _ none. absurd (c.if-self-eq0.false (was ∙ none));
-      reported = subst (λ (r : ReaderValue). r.failed ≡ false → 0 < r.rows_left → IfSome r.coming (λ x. None ≡ cells_fault r.header (length c.args.row.now) (reader_place r x))) c.self.view_is
+      reported = subst (λ (r : ReaderValue). r.failed ≡ false → 0 < r.rows_left → Supposing (bytes_to_come r.ahead) (bytes_to_come c.read_row.new.cells.ahead) (λ x. None ≡ cells_fault r.header (length c.args.row.now) (reader_place r x))) c.self.view_is
           (λ live some. row_reported p.header (at_place p) (λ (x : Coming). i.rows_left ≡ 0 → p.pending ≡ None) (bytes_to_come p.ahead) (c.self.invariant.placed live)
           (length c.args.row.now) (at_place c.read_row.new.cells) (bytes_to_come c.read_row.new.cells.ahead) c.read_row.new.row c.in-Ok.ensures.row);
       row = rw (← c.self.view_is) (λ _. c.in-Ok.ensures.row);
@@ -110,7 +110,7 @@ returns-in-Ok g c =
       fails = rw live c.if-self.false;
       memory = tt;
       kinds = λ _. tt;
-      heard = λ _. c.in-Ok.ensures.heard ∙ ap (λ (r : ReaderValue). hears false r.heard) c.self.view_is;
+      heard = λ _. c.in-Ok.ensures.heard ∙ ap (λ (r : ReaderValue). hears false r.ahead.heard) c.self.view_is;
     }
 
 pub returns-in-Err : goal.returns-in-Err
@@ -122,9 +122,9 @@ returns-in-Err g c =
     record {
       failed = λ failed. absurd (both failed live);
       none = λ _ none. absurd (c.if-self-eq0.false (was ∙ none));
-      reported = subst (λ (r : ReaderValue). r.failed ≡ false → 0 < r.rows_left → IfSome r.coming (λ x. Some c.in-Err.fault ≡ cells_fault r.header (length c.args.row.now) (reader_place r x))) c.self.view_is
+      reported = subst (λ (r : ReaderValue). r.failed ≡ false → 0 < r.rows_left → Supposing (bytes_to_come r.ahead) (bytes_to_come c.read_row.new.cells.ahead) (λ x. Some c.in-Err.fault ≡ cells_fault r.header (length c.args.row.now) (reader_place r x))) c.self.view_is
           (λ live some. cut_reported p.header (at_place p) (λ (x : Coming). i.rows_left ≡ 0 → p.pending ≡ None) (bytes_to_come p.ahead) (c.self.invariant.placed live)
-          c.in-Err.fault c.args.row.now c.read_row.new.row c.in-Err.ensures.cut);
+          (bytes_to_come c.read_row.new.cells.ahead) c.in-Err.fault c.args.row.now c.read_row.new.row c.in-Err.ensures.cut);
       row = λ e. absurd (refused _ _ e);
       cut = rw (← c.self.view_is) (λ _. c.in-Err.ensures.cut);
       kept = λ _. c.in-Err.ensures.kept;
@@ -135,5 +135,5 @@ returns-in-Err g c =
       fails = rw live refl;
       memory = λ e. subst IsOfText e c.in-Err.ensures.kind;
       kinds = λ _. c.in-Err.ensures.kind;
-      heard = λ _. c.in-Err.ensures.heard ∙ ap (λ (r : ReaderValue). hears (is_read c.in-Err.fault.kind) r.heard) c.self.view_is;
+      heard = λ _. c.in-Err.ensures.heard ∙ ap (λ (r : ReaderValue). hears (is_read c.in-Err.fault.kind) r.ahead.heard) c.self.view_is;
     }

@@ -1,4 +1,4 @@
-use Rattle.std.proofs.Common.{false, sym, ◌∙◌, rules, w32, w64}
+use Rattle.std.proofs.Common.{sym, ◌∙◌, rules, w32, w64}
 use Rattle.std.specs.Int.RustNames.{FitsSigned}
 use Rattle.std.proofs.lemmas.Int.{to_z-of_z}
 use Rattle.cell_ascii_reading.proofs.NumberLemmas.{number_judged}

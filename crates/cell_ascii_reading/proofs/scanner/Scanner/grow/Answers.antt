@@ -10,6 +10,7 @@ use Rattle.cell_ascii_reading.specs.Ahead.{Ahead, bytes_to_come}
 use Rattle.cell_ascii_meaning.specs.declared.grid_fault.GridKind.TheVariants.{Read, LongToken}
 use Rattle.cell_ascii_meaning.proofs.TokenLemmas.{word-ends, word-fails, word-stops, word-long, word-more}
 use Rattle.cell_ascii_reading.proofs.ComingLemmas.{at_byte, past_byte, at_end}
+use Rattle.cell_ascii_reading.proofs.MapLemmas.{chain, unmoved}
 use Rattle.cell_ascii_reading.proofs.scanner.Scanner.grow.Goals as goal
 
 -- an error is not an `Ok`
@@ -31,16 +32,23 @@ returns-in_err-b-clause-word g c =
     let s = c.args.self.now in
     let t = c.peek.new.self in
     let p = err_from_is_err_and c.from_residual.result c.from_residual.ensures.1 in
-    rw (p.1, p.2, c.in_err-b.ensures.fault, c.in_err-b.ensures.same)
-    (at_end (word_from s.line s.word) (part_seen (Err (grid_fault Read s.line)) t.line t.word) (bytes_to_come s.ahead) true c.in_err-b.ensures.failed (word-fails s.line s.word c.requires))
+    rw (p.1, p.2, c.in_err-b.ensures.fault)
+    (chain _ _ _ _ _ _
+    (unmoved (word_from s.line s.word) (bytes_to_come s.ahead) (bytes_to_come t.ahead) c.in_err-b.ensures.same)
+    (at_end (word_from s.line s.word) (part_seen (Err (grid_fault Read s.line)) t.line t.word)
+    (bytes_to_come t.ahead) true c.in_err-b.ensures.failed (word-fails s.line s.word c.requires)))
 
 -- the text ended
 pub returns-in_default-clause-word : goal.returns-in_default-clause-word
 returns-in_default-clause-word g c =
     let s = c.args.self.now in
+    let t = c.peek.new.self in
     let end = rw c.in_default.is at c.in_ok-b.ensures.end in
-    rw (c.in_ok-b.ensures.scan, c.in_ok-b.ensures.same)
-    (at_end (word_from s.line s.word) (part_seen (Ok false) s.line s.word) (bytes_to_come s.ahead) false end (word-ends s.line s.word c.requires))
+    rw c.in_ok-b.ensures.scan
+    (chain _ _ _ _ _ _
+    (unmoved (word_from s.line s.word) (bytes_to_come s.ahead) (bytes_to_come t.ahead) c.in_ok-b.ensures.same)
+    (at_end (word_from s.line s.word) (part_seen (Ok false) s.line s.word) (bytes_to_come t.ahead) false end
+    (word-ends s.line s.word c.requires)))
 
 -- a space ends the word
 pub returns-then-is_space-clause-word : goal.returns-then-is_space-clause-word
@@ -48,8 +56,11 @@ returns-then-is_space-clause-word g c =
     let s = c.args.self.now in
     let buffered = rw c.in-Some.is at c.in_ok-b.ensures.byte in
     let space = sym c.is_space.ensures ∙ c.if-is_space.true in
-    rw (c.in_ok-b.ensures.scan, ← c.in_ok-b.ensures.same)
-    (at_byte (word_from s.line s.word) (part_seen (Ok false) s.line s.word) c.peek.new.self.ahead c.in-Some.b buffered (λ bs f. word-stops s.line s.word c.requires c.in-Some.b bs f space))
+    rw c.in_ok-b.ensures.scan
+    (chain _ _ _ _ _ _ (unmoved (word_from s.line s.word) (bytes_to_come s.ahead)
+    (bytes_to_come c.peek.new.self.ahead) c.in_ok-b.ensures.same)
+    (at_byte (word_from s.line s.word) (part_seen (Ok false) s.line s.word) c.peek.new.self.ahead c.in-Some.b buffered
+    (λ bs f. word-stops s.line s.word c.requires c.in-Some.b bs f space)))
 
 -- the word is too long
 pub returns-then-self-ge64-clause-word : goal.returns-then-self-ge64-clause-word
@@ -62,8 +73,12 @@ returns-then-self-ge64-clause-word g c =
     let full : 64 ≤ length s.word = omega (arith, length-take i.len i.word, ap length front) in
     let buffered = rw c.in-Some.is at c.in_ok-b.ensures.byte in
     let word = sym c.is_space.ensures ∙ c.if-is_space.false in
-    rw (line, ← c.in_ok-b.ensures.same)
-    (at_byte (word_from s.line s.word) (part_seen (Err (grid_fault LongToken s.line)) t.line t.word) t.ahead c.in-Some.b buffered (λ bs f. word-long s.line s.word c.requires c.in-Some.b bs f word full))
+    rw line
+    (chain _ _ _ _ _ _
+    (unmoved (word_from s.line s.word) (bytes_to_come s.ahead) (bytes_to_come t.ahead) c.in_ok-b.ensures.same)
+    (at_byte (word_from s.line s.word)
+    (part_seen (Err (grid_fault LongToken s.line)) t.line t.word) t.ahead c.in-Some.b buffered
+    (λ bs f. word-long s.line s.word c.requires c.in-Some.b bs f word full)))
 
 -- the word grows
 pub returns-clause-word : goal.returns-clause-word
@@ -78,10 +93,12 @@ returns-clause-word g c =
     let buffered = rw c.in-Some.is at c.in_ok-b.ensures.byte in
     let word = sym c.is_space.ensures ∙ c.if-is_space.false in
     let longer : take (i.len + 1) (set i.word i.len b) ≡ s.word ++ b ∷ [] = take_more_set i.word i.len b (omega arith) ∙ ap (λ w. w ++ b ∷ []) front in
-    rw (line, longer, ← c.in_ok-b.ensures.same)
+    rw (line, longer)
+    (chain _ _ _ _ _ _
+    (unmoved (word_from s.line s.word) (bytes_to_come s.ahead) (bytes_to_come t.ahead) c.in_ok-b.ensures.same)
     (past_byte (word_from s.line s.word) (part_seen (Ok true) s.line (s.word ++ b ∷ [])) t.ahead c.pass_byte.new.self b buffered
     (c.pass_byte.ensures.buffered ∙ ap (λ (a : Ahead). drop 1 a.buffered) ahead) (c.pass_byte.ensures.rest ∙ ap (λ (a : Ahead). a.rest) ahead)
-    (λ bs f. word-more s.line s.word c.requires b bs f word))
+    (λ bs f. word-more s.line s.word c.requires b bs f word)))
 
 pub returns-in_err-b-clause-line : goal.returns-in_err-b-clause-line
 returns-in_err-b-clause-line g c = ap (λ (v : Scan). v.line) c.peek.ensures.scan

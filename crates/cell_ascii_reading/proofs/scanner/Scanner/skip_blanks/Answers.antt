@@ -4,6 +4,7 @@ use Rattle.cell_ascii_meaning.specs.Kinds.{is_read}
 use Rattle.cell_ascii_meaning.specs.declared.grid_fault.GridFault.{GridFault}
 use Rattle.cell_ascii_reading.specs.declared.scanner.InLine.{InLine}
 use Rattle.cell_ascii_reading.specs.declared.scanner.InLine.TheVariants.{Word, Feed, End}
+use Rattle.cell_ascii_reading.proofs.MapLemmas.{chain, stays}
 use Rattle.cell_ascii_reading.proofs.StepLemmas.{room_still, smaller, step_reports}
 use Rattle.cell_ascii_reading.proofs.scanner.Scanner.skip_blanks.Goals as goal
 
@@ -19,7 +20,7 @@ err_end P r d one other = cc
 
 pub blanks-init : goal.blanks-init
 blanks-init g c = record {
-  gap = refl;
+  gap = stays _ _;
   line = refl;
   run = c.requires.run;
   word = refl;
@@ -42,7 +43,7 @@ pub blanks-preserved : goal.blanks-preserved
 blanks-preserved g c =
     let step = step_reports c.blanks.invariant.run (rw c.in-Ok-Blank.field-0-is at c.in-Ok-Blank.ensures.step) in
     record {
-      gap = c.blanks.invariant.gap ∙ step.gap;
+      gap = chain _ _ _ _ _ _ c.blanks.invariant.gap step.gap;
       line = step.line ∙ c.blanks.invariant.line;
       run = c.in-Ok-Blank.ensures.step.run;
       word = step.word ∙ c.blanks.invariant.word;
@@ -53,7 +54,7 @@ pub returns-in-Ok-Feed : goal.returns-in-Ok-Feed
 returns-in-Ok-Feed g c =
     let step = step_reports c.blanks.invariant.run (rw c.in-Ok-Feed.field-0-is at c.in-Ok-Feed.ensures.step) in
     record {
-      gap = c.blanks.invariant.gap ∙ step.gap;
+      gap = chain _ _ _ _ _ _ c.blanks.invariant.gap step.gap;
       line = step.line ∙ ap (λ (n : ℕ). n + 1) c.blanks.invariant.line;
       run = c.in-Ok-Feed.ensures.step.run;
       word = step.word ∙ c.blanks.invariant.word;
@@ -66,7 +67,7 @@ pub returns-in-Ok-Word : goal.returns-in-Ok-Word
 returns-in-Ok-Word g c =
     let step = step_reports c.blanks.invariant.run (rw c.in-Ok-Word.field-0-is at c.in-Ok-Word.ensures.step) in
     record {
-      gap = c.blanks.invariant.gap ∙ step.gap;
+      gap = chain _ _ _ _ _ _ c.blanks.invariant.gap step.gap;
       line = step.line ∙ c.blanks.invariant.line;
       run = c.in-Ok-Word.ensures.step.run;
       word = step.word ∙ c.blanks.invariant.word;
@@ -79,7 +80,7 @@ pub returns-in-Ok-End : goal.returns-in-Ok-End
 returns-in-Ok-End g c =
     let step = step_reports c.blanks.invariant.run (rw c.in-Ok-End.field-0-is at c.in-Ok-End.ensures.step) in
     record {
-      gap = c.blanks.invariant.gap ∙ step.gap;
+      gap = chain _ _ _ _ _ _ c.blanks.invariant.gap step.gap;
       line = step.line ∙ c.blanks.invariant.line;
       run = c.in-Ok-End.ensures.step.run;
       word = step.word ∙ c.blanks.invariant.word;
@@ -92,7 +93,7 @@ pub returns-in-Err : goal.returns-in-Err
 returns-in-Err g c =
     let step = step_reports c.blanks.invariant.run c.in-Err.ensures.step in
     record {
-      gap = c.blanks.invariant.gap ∙ step.gap;
+      gap = chain _ _ _ _ _ _ c.blanks.invariant.gap step.gap;
       line = step.line ∙ c.blanks.invariant.line;
       run = c.in-Err.ensures.step.run;
       word = step.word ∙ c.blanks.invariant.word;

@@ -4,6 +4,7 @@ use Rattle.cell_ascii_meaning.specs.Kinds.{is_read}
 use Rattle.cell_ascii_meaning.specs.declared.grid_fault.GridFault.{GridFault}
 use Rattle.cell_ascii_reading.specs.declared.scanner.Next.{Next}
 use Rattle.cell_ascii_reading.specs.declared.scanner.Next.TheVariants.{Word, End}
+use Rattle.cell_ascii_reading.proofs.MapLemmas.{chain, stays}
 use Rattle.cell_ascii_reading.proofs.StepLemmas.{room_left, smaller, lines_still, lines_end, further_still, further_same, same_line, step_reports}
 use Rattle.cell_ascii_reading.proofs.scanner.Scanner.skip_spaces.Goals as goal
 
@@ -16,7 +17,7 @@ err_end P r d one other = cc
 
 pub spaces-init : goal.spaces-init
 spaces-init g c = record {
-  starts = refl;
+  starts = stays _ _;
   lines = same_line _;
   run = c.requires.run;
   further = same_line _;
@@ -43,7 +44,7 @@ spaces-preserved-in-Ok-Blank g c =
     let t = c.step.new.self in
     let step = step_reports c.spaces.invariant.run (rw c.in-Ok-Blank.field-0-is at c.in-Ok-Blank.ensures.step) in
     record {
-      starts = c.spaces.invariant.starts ∙ step.starts;
+      starts = chain _ _ _ _ _ _ c.spaces.invariant.starts step.starts;
       lines = lines_still o.line o.run s.line s.run t.line t.run c.spaces.invariant.lines step.lines;
       run = c.in-Ok-Blank.ensures.step.run;
       further = further_still o.run s.run t.run c.spaces.invariant.further step.run;
@@ -63,7 +64,7 @@ spaces-preserved g c =
     let t = c.step.new.self in
     let step = step_reports c.spaces.invariant.run (rw c.in-Ok-Feed.field-0-is at c.in-Ok-Feed.ensures.step) in
     record {
-      starts = c.spaces.invariant.starts ∙ step.starts;
+      starts = chain _ _ _ _ _ _ c.spaces.invariant.starts step.starts;
       lines = lines_still o.line o.run s.line s.run t.line t.run c.spaces.invariant.lines step.lines;
       run = c.in-Ok-Feed.ensures.step.run;
       further = further_still o.run s.run t.run c.spaces.invariant.further step.run;
@@ -78,7 +79,7 @@ returns-in-Ok-Word g c =
     let t = c.step.new.self in
     let step = step_reports c.spaces.invariant.run (rw c.in-Ok-Word.field-0-is at c.in-Ok-Word.ensures.step) in
     record {
-      starts = c.spaces.invariant.starts ∙ step.starts;
+      starts = chain _ _ _ _ _ _ c.spaces.invariant.starts step.starts;
       lines = lines_end o.line o.run s.line s.run t.line t.run c.spaces.invariant.lines step.lines c.in-Ok-Word.ensures.step.run;
       run = c.in-Ok-Word.ensures.step.run;
       further = further_same o.run s.run t.run c.spaces.invariant.further step.run;
@@ -95,7 +96,7 @@ returns-in-Ok-End g c =
     let t = c.step.new.self in
     let step = step_reports c.spaces.invariant.run (rw c.in-Ok-End.field-0-is at c.in-Ok-End.ensures.step) in
     record {
-      starts = c.spaces.invariant.starts ∙ step.starts;
+      starts = chain _ _ _ _ _ _ c.spaces.invariant.starts step.starts;
       lines = lines_end o.line o.run s.line s.run t.line t.run c.spaces.invariant.lines step.lines c.in-Ok-End.ensures.step.run;
       run = c.in-Ok-End.ensures.step.run;
       further = further_same o.run s.run t.run c.spaces.invariant.further step.run;
@@ -112,7 +113,7 @@ returns-in-Err g c =
     let t = c.step.new.self in
     let step = step_reports c.spaces.invariant.run c.in-Err.ensures.step in
     record {
-      starts = c.spaces.invariant.starts ∙ step.starts;
+      starts = chain _ _ _ _ _ _ c.spaces.invariant.starts step.starts;
       lines = lines_end o.line o.run s.line s.run t.line t.run c.spaces.invariant.lines step.lines c.in-Err.ensures.step.run;
       run = c.in-Err.ensures.step.run;
       further = further_same o.run s.run t.run c.spaces.invariant.further step.run;

@@ -9,6 +9,7 @@ use Rattle.cell_ascii_reading.specs.Scan.{Scan}
 use Rattle.cell_ascii_reading.specs.declared.scanner.ScanStep.TheVariants.{Blank, Feed, Word, End}
 use Rattle.cell_ascii_meaning.specs.declared.grid_fault.GridKind.TheVariants.{Read, ReaderStuck}
 use Rattle.cell_ascii_reading.proofs.ComingLemmas.{at_byte, past_byte, at_end}
+use Rattle.cell_ascii_reading.proofs.MapLemmas.{chain, unmoved}
 use Rattle.cell_ascii_reading.proofs.StepLemmas.{has_room, no_room, step-byte, step-ends, step-fails}
 use Rattle.cell_ascii_reading.proofs.scanner.Scanner.step.Goals as goal
 
@@ -25,10 +26,13 @@ not_ten b e = grind (arith, nat_tests)
 pub returns-in_err-b-clause-step : goal.returns-in_err-b-clause-step
 returns-in_err-b-clause-step g c =
     let s = c.args.self.now in
+    let t = c.peek.new.self in
     let p = err_from_is_err_and c.from_residual.result c.from_residual.ensures.1 in
     rw (p.1, p.2, c.in_err-b.ensures.fault) (record {
-      value = rw c.in_err-b.ensures.same
-          (at_end (step_of s.line s.run) (λ d. (Err (grid_fault Read s.line), d)) (bytes_to_come s.ahead) true
+      value =
+          chain _ _ _ _ _ _
+          (unmoved (step_of s.line s.run) (bytes_to_come s.ahead) (bytes_to_come t.ahead) c.in_err-b.ensures.same)
+          (at_end (step_of s.line s.run) (λ d. (Err (grid_fault Read s.line), d)) (bytes_to_come t.ahead) true
           c.in_err-b.ensures.failed (step-fails s.line s.run));
       scan = c.peek.ensures.scan;
       run = rw c.peek.ensures.scan c.requires.run;
@@ -44,13 +48,16 @@ returns-in_err-b-clause-kind g c =
 pub returns-in_default-clause-step : goal.returns-in_default-clause-step
 returns-in_default-clause-step g c =
     let s = c.args.self.now in
+    let t = c.peek.new.self in
     let end = rw c.in_default.is at c.in_ok-b.ensures.end in
     record {
-      value = rw c.in_ok-b.ensures.same
-          (at_end (step_of s.line s.run) (λ d. (Ok End, d)) (bytes_to_come s.ahead) false end (step-ends s.line s.run));
+      value =
+          chain _ _ _ _ _ _
+          (unmoved (step_of s.line s.run) (bytes_to_come s.ahead) (bytes_to_come t.ahead) c.in_ok-b.ensures.same)
+          (at_end (step_of s.line s.run) (λ d. (Ok End, d)) (bytes_to_come t.ahead) false end (step-ends s.line s.run));
       scan = c.peek.ensures.scan;
       run = rw c.peek.ensures.scan c.requires.run;
-      end = rw c.peek.ensures.same end;
+      end = end;
     }
 
 -- a word begins
@@ -60,7 +67,9 @@ returns-then-not-is_space-clause-step g c =
     let buffered = rw c.in-Some.is at c.in_ok-b.ensures.byte in
     let word = sym c.is_space.ensures ∙ c.if-not-is_space.true in
     record {
-      value = rw (← c.in_ok-b.ensures.same)
+      value =
+          chain _ _ _ _ _ _ (unmoved (step_of s.line s.run) (bytes_to_come s.ahead)
+          (bytes_to_come c.peek.new.self.ahead) c.in_ok-b.ensures.same)
           (at_byte (step_of s.line s.run) (λ d. (Ok Word, d)) c.peek.new.self.ahead c.in-Some.b buffered
           (λ bs f. step-byte s.line s.run c.in-Some.b bs f word refl refl));
       scan = c.peek.ensures.scan;
@@ -77,10 +86,12 @@ returns-then-self-ge1048576-clause-step g c =
     let buffered = rw c.in-Some.is at c.in_ok-b.ensures.byte in
     let space = sym c.is_space.ensures ∙ c.if-not-is_space.false in
     record {
-      value = rw (ap (λ (v : Scan). v.line) was, ← c.in_ok-b.ensures.same)
+      value = rw (ap (λ (v : Scan). v.line) was)
+          (chain _ _ _ _ _ _ (unmoved (step_of s.line s.run) (bytes_to_come s.ahead)
+          (bytes_to_come c.peek.new.self.ahead) c.in_ok-b.ensures.same)
           (at_byte (step_of s.line s.run) (λ d. (Err (grid_fault ReaderStuck s.line), d)) c.peek.new.self.ahead
           c.in-Some.b buffered
-          (λ bs f. step-byte s.line s.run c.in-Some.b bs f space full refl));
+          (λ bs f. step-byte s.line s.run c.in-Some.b bs f space full refl)));
       scan = c.peek.ensures.scan;
       run = rw c.peek.ensures.scan c.requires.run;
       end = tt;
@@ -97,7 +108,9 @@ returns-then-b-eq10-clause-step g c =
     let buffered = rw c.in-Some.is at c.in_ok-b.ensures.byte in
     let space = sym c.is_space.ensures ∙ c.if-not-is_space.false in
     record {
-      value = rw (← c.in_ok-b.ensures.same)
+      value =
+          chain _ _ _ _ _ _ (unmoved (step_of s.line s.run) (bytes_to_come s.ahead)
+          (bytes_to_come c.peek.new.self.ahead) c.in_ok-b.ensures.same)
           (past_byte (step_of s.line s.run) (λ d. (Ok Feed, d)) c.peek.new.self.ahead c.pass_byte.new.self
           c.in-Some.b buffered buffered_then rest_then
           (λ bs f. step-byte s.line s.run c.in-Some.b bs f space room (is_ten c.in-Some.b c.if-b-eq10.true)));
@@ -117,7 +130,9 @@ returns-clause-step g c =
     let buffered = rw c.in-Some.is at c.in_ok-b.ensures.byte in
     let space = sym c.is_space.ensures ∙ c.if-not-is_space.false in
     record {
-      value = rw (← c.in_ok-b.ensures.same)
+      value =
+          chain _ _ _ _ _ _ (unmoved (step_of s.line s.run) (bytes_to_come s.ahead)
+          (bytes_to_come c.peek.new.self.ahead) c.in_ok-b.ensures.same)
           (past_byte (step_of s.line s.run) (λ d. (Ok Blank, d)) c.peek.new.self.ahead c.pass_byte.new.self
           c.in-Some.b buffered buffered_then rest_then
           (λ bs f. step-byte s.line s.run c.in-Some.b bs f space room (not_ten c.in-Some.b c.if-b-eq10.false)));
