@@ -1,9 +1,9 @@
 //! Tests of errors and their columns, and of how many arguments each function accepts.
 
-use crate::assertions::assert_same;
 use cell_calc_language::assignment::parse;
 use cell_calc_language::calc_fault::{CalcFault, CalcKind};
 use cell_core::name::{Name, Names};
+use cell_core_test_maps::assert_same;
 use std::alloc::Global;
 use std::test::Fail;
 

@@ -1,8 +1,8 @@
 //! Tests of texts with a thousand tokens, and of longer ones.
 
-use crate::assertions::assert_same;
 use crate::faults::fault_of;
 use cell_calc_language::calc_fault::{CalcFault, CalcKind};
+use cell_core_test_maps::assert_same;
 use std::alloc::Global;
 use std::test::Fail;
 

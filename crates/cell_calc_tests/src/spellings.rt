@@ -1,9 +1,9 @@
 //! Tests of tokens and of errors in their spelling.
 
-use crate::assertions::assert_same;
 use cell_calc_language::calc_fault::{CalcFault, CalcKind};
 use cell_calc_language::token::{Placed, Sign, Token};
 use cell_calc_language::tokens::tokens;
+use cell_core_test_maps::assert_same;
 use std::alloc::Global;
 use std::test::Fail;
 

@@ -1,6 +1,5 @@
 //! Tests of worked values of expressions over a map with three rows.
 
-use crate::assertions::assert_same;
 use crate::evaluation::values_along;
 use cell_calc::{Bound, CalcFault, CalcKind, Expr, parse, resolve};
 use cell_core::cell::Cell;
@@ -8,6 +7,7 @@ use cell_core::map::{CellMap, MapBuilder};
 use cell_core::name::{Name, Names};
 use cell_core::region::Region;
 use cell_core::shelf::Shelf;
+use cell_core_test_maps::assert_same;
 use rcell::map_of_values::evaluate;
 use std::alloc::Global;
 use std::process::Abort;

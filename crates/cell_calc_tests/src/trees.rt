@@ -1,11 +1,11 @@
 //! Tests of the trees of texts: levels, directions, calls and offsets.
 
-use crate::assertions::assert_same;
 use cell_calc_grammar::map_name::MapName;
 use cell_calc_grammar::step::Step;
 use cell_calc_language::assignment::parse;
 use cell_calc_language::function::Function;
 use cell_calc_language::operator::Operator;
+use cell_core_test_maps::assert_same;
 use std::alloc::{AllocGlobal, Global};
 use std::process::Abort;
 use std::test::Fail;

@@ -2,10 +2,10 @@
 
 ghost use Rattle.std.specs.Prelude.{◌≡◌};
 
-use crate::assertions::assert_same;
 use crate::tests::{NULL, at, bound_of, number_of, values, worked_map, worked_names};
 use cell_calc::RowWindow;
 use cell_core::name::{Name, Names};
+use cell_core_test_maps::assert_same;
 use std::alloc::Global;
 use std::process::Abort;
 use std::test::Fail;

@@ -1,6 +1,6 @@
 -- Lists of entries, and merges of tables.
 use Rattle.std.proofs.Common.{◌≡◌, ℕ, zero, suc, ◌+◌, ◌<◌, List, [], ◌∷◌, ◌++◌, map, Option, Some, None, true, false, cond, unwrap_or, refl, ap, sym, ◌∙◌, arith, zero-add, add-zero, subst}
-use Rattle.std.proofs.lemmas.List.Elements.{All-nil, All-head, All-tail}
+use Rattle.std.proofs.lemmas.List.Elements.{All-head, All-tail}
 use Rattle.std.proofs.lemmas.List.Sums.{sum_by-cons, sum_by-append}
 use Rattle.std.specs.Prelude.{sum_by, flat_map, All}
 use Rattle.std.specs.List.{AllByRecursion}
@@ -14,7 +14,7 @@ use Rattle.cell_stats_entries.specs.Listed.{entry_of, listed_of}
 use Rattle.cell_stats.specs.CategoryTables.{Pairs}
 use Rattle.cell_stats.proofs.TableLemmas.{found-listed, keys_of, stands}
 use Rattle.cell_parts.specs.TableParts.{count_in, IsMerge}
-use Rattle.cell_parts.specs.Merging.{IsListing, PartGroup, MergesMerge}
+use Rattle.cell_parts.specs.Merging.{IsListing, PartGroup, MergesMerge, SumsMerge}
 
 -- ---- the count of a combination is its listed count
 
@@ -24,7 +24,7 @@ none-behind x (e ∷ es) above =
     let here : entry_of x e ≡ 0 = ap (λ o. cond (is_eq o) e.1 0) above.0 in
     omega (arith, sum_by-cons (entry_of x) e es, here, none-behind x es above.1)
 
-pub listed-beside : (k : Combination) (es : Pairs) → IsStrictlySortedBy combination_cmp (keys_of es) → count_in k es ≡ listed_of k es
+listed-beside : (k : Combination) (es : Pairs) → IsStrictlySortedBy combination_cmp (keys_of es) → count_in k es ≡ listed_of k es
 unfolding IsStrictlySortedBy
 listed-beside k [] up = refl
 listed-beside k (e ∷ es) up =
@@ -41,7 +41,7 @@ none-or-some (Some m) n some is = ap Some (sym is)
 
 -- ---- merges, in terms of the counts of combinations
 
-pub IsMerge-from : (tables : List Pairs) (merged : Pairs) → IsListing merged → ((k : Combination) → count_in k merged ≡ sum_by (count_in k) tables) → IsMerge tables merged
+IsMerge-from : (tables : List Pairs) (merged : Pairs) → IsListing merged → ((k : Combination) → count_in k merged ≡ sum_by (count_in k) tables) → IsMerge tables merged
 IsMerge-from tables merged listing sums = record {
   ascending = listing.ascending;
   counted = λ k n. (
@@ -53,7 +53,7 @@ IsMerge-from tables merged listing sums = record {
   );
 }
 
-pub beside-merge : (tables : List Pairs) (merged : Pairs) → IsMerge tables merged → (k : Combination) → count_in k merged ≡ sum_by (count_in k) tables
+beside-merge : (tables : List Pairs) (merged : Pairs) → IsMerge tables merged → (k : Combination) → count_in k merged ≡ sum_by (count_in k) tables
 beside-merge tables merged merge k = by (find combination_cmp k merged) refl (sum_by (count_in k) tables) refl
   where
     by : (o : Option ℕ) → find combination_cmp k merged ≡ o → (n : ℕ) → sum_by (count_in k) tables ≡ n → unwrap_or o 0 ≡ n
@@ -93,14 +93,21 @@ merges-merge groups all pairs merge = record {
       (λ c. let both = h.0 c in (both.0, both.1 ∙ sums), λ p. h.1 (p.0, p.1 ∙ sym sums));
 }
 
--- ---- the merged table
+-- ---- sums of listed counts
 
-pub listing-none : IsListing []
-unfolding IsStrictlySortedBy
-listing-none = record { ascending = tt; no_zero = All-nil (λ (e : Combination × ℕ). 0 < e.1) }
+sums-listed : (k : Combination) (tables : List Pairs) → All IsListing tables →
+    sum_by (count_in k) tables ≡ sum_by (listed_of k) tables
+sums-listed k [] all = refl
+sums-listed k (table ∷ tables) all =
+    omega (
+      arith,
+      sum_by-cons (count_in k) table tables,
+      sum_by-cons (listed_of k) table tables,
+      listed-beside k table (All-head IsListing table tables all).ascending,
+      sums-listed k tables (All-tail IsListing table tables all),
+    )
 
-pub merge-none : IsMerge [] []
-merge-none = IsMerge-from [] [] listing-none (λ k. refl)
-
-pub merge-one : (table : Pairs) → IsListing table → IsMerge (table ∷ []) table
-merge-one table listing = IsMerge-from (table ∷ []) table listing (λ k. sym (sum_by-cons (count_in k) table [] ∙ add-zero (count_in k table)))
+pub sums-merge : SumsMerge
+sums-merge tables all sums listing same =
+    IsMerge-from tables sums listing
+    (λ k. listed-beside k sums listing.ascending ∙ same k ∙ sym (sums-listed k tables all))

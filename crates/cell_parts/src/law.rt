@@ -1,7 +1,7 @@
 //! Laws about tiles of maps.
 
 ghost use Rattle.cell_parts.specs.AreaParts.{AreasJoin, CutOutsAreTiles, FirstsAreFirsts, FirstsOfTheWhole, NumbersJoin};
-ghost use Rattle.cell_parts.specs.Merging.{MergesMerge};
+ghost use Rattle.cell_parts.specs.Merging.{MergesMerge, SumsMerge};
 ghost use Rattle.cell_parts.specs.Parts.{CutOutsAreParts, GridsCover};
 ghost use Rattle.cell_parts.specs.TableParts.{PartsAddUp, TablesMerge};
 
@@ -23,6 +23,12 @@ pub fn parts_add_up()
 /// The table of the full maps is the merge of the tables of the tiles, and no other list is.
 pub fn tables_merge()
     ensures { TablesMerge }
+{}
+
+/// If entries list each combination of tables once, in order, with the sum of its counts, they are the merge of the
+/// tables.
+pub fn sums_merge()
+    ensures { SumsMerge }
 {}
 
 /// Merging the merges of groups of tables gives the merge of all tables.

@@ -4,7 +4,8 @@
 //! - `table`: `Table` contains each combination that occurs with its count, in order; `all` returns its
 //!   entries, and `after` the entries after a combination
 //! - `format`: `Format`, the separator, the null text, labels (`-l`) and counts (`-c`)
-//! - `printing`: `write_table`; `printed_cells`: `write_cells`, one line per cell (`-1`)
+//! - `printing`: `write_table`, and `label_of_cell`, the label in a line; `printed_cells`: `write_cells`, one line per
+//!   cell (`-1`)
 //! - `law`: there is exactly one table; if nothing is left out, its counts add up to the number of
 //!   cells in the region
 //! - re-exported from `cell_stats_combinations`: `combination`, `combination_text`, `skip`

@@ -19,8 +19,8 @@ use cell_core::sink::Sink;
 use cell_stats_combinations::combination::Combo;
 use itoa::Buffer;
 
-// Returns the label of a cell of the map at index `place`.
-fn label_of<'a>(shelf: &'a Shelf, place: usize, cell: Cell) -> &'a [u8]
+/// Returns the label of a cell of the map at index `place`: `no data` for null, empty if its category has none.
+pub fn label_of_cell<'a>(shelf: &'a Shelf, place: usize, cell: Cell) -> &'a [u8]
     requires { place < length shelf.now.maps }
     ensures { result.now ≡ label_of_cell shelf.now.maps place cell }
 {
@@ -58,7 +58,12 @@ fn write_pick<W: Sink>(
     if !format.labels() {
         return;
     }
-    write_next(out, block, format.separator(), label_of(shelf, place, cell));
+    write_next(
+        out,
+        block,
+        format.separator(),
+        label_of_cell(shelf, place, cell),
+    );
 }
 
 // Writes a separator and a cell of a map, followed by its label if labels are printed.

@@ -4,30 +4,4 @@
 #![tactic(auto)]
 
 #[cfg(test)]
-mod areas_compared;
-#[cfg(test)]
-mod areas_maps;
-#[cfg(test)]
-mod areas_worked;
-#[cfg(test)]
-mod assertions;
-#[cfg(test)]
-mod compared;
-#[cfg(test)]
-mod flood;
-#[cfg(test)]
-mod growths;
-#[cfg(test)]
-mod lines;
-#[cfg(test)]
-mod maps;
-#[cfg(test)]
-mod patches_worked;
-#[cfg(test)]
-mod printed;
-#[cfg(test)]
-mod shapes;
-#[cfg(test)]
-mod tables;
-#[cfg(test)]
-mod worked;
+mod tests;

@@ -12,4 +12,4 @@ pub returns : goal.returns
 returns g c =
     let on = sym c.labels.ensures ∙ c.if-not-labels.false in
     let both = appends_then c.write_cell.ensures c.write_next.ensures in
-    rw (← pick_text-with c.args.format.now c.args.shelf.now.maps c.args.place c.args.cell on) (rw (c.null_text.ensures, c.separator.ensures, c.label_of.ensures) at both)
+    rw (← pick_text-with c.args.format.now c.args.shelf.now.maps c.args.place c.args.cell on) (rw (c.null_text.ensures, c.separator.ensures, c.label_of_cell.ensures) at both)

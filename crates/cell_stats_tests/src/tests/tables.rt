@@ -2,9 +2,9 @@
 
 ghost use Rattle.std.specs.Prelude.{◌<◌};
 
-use crate::assertions::assert_same;
-use crate::maps::{G, X, are_picks, shelf_of};
+use super::maps::{G, X, are_picks, shelf_of};
 use cell_core::shelf::Shelf;
+use cell_core_test_maps::assert_same;
 use cell_core_test_maps::maps::NULL;
 use cell_stats::combination::Combo;
 use cell_stats::combination_text::ComboFault;

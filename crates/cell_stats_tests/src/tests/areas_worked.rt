@@ -2,7 +2,7 @@
 
 ghost use Rattle.std.specs.Prelude.{◌<◌, IfOk};
 
-use crate::areas_maps::expect_numbers;
+use super::areas_maps::expect_numbers;
 use cell_cats_areas::clump::{Joining, clump};
 use cell_core::cell::Cell;
 use cell_core::map::MapBuilder;

@@ -2,8 +2,8 @@
 
 ghost use Rattle.std.specs.Prelude.{◌<◌};
 
-use crate::areas_maps::expect_numbers;
-use crate::flood::numbers_by_flood;
+use super::areas_maps::expect_numbers;
+use super::flood::numbers_by_flood;
 use cell_cats_areas::clump::Joining;
 use cell_core_test_maps::maps::NULL;
 use std::alloc::{AllocGlobal, Global};

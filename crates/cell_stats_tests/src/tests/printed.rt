@@ -1,10 +1,10 @@
 //! Tests of the printed text of tables and cells, with worked maps.
 
-use crate::assertions::assert_same;
-use crate::maps::{G, X, add, are_picks, filled, shelf_of};
+use super::maps::{G, X, add, are_picks, filled, shelf_of};
 use cell_core::block::OutputBlock;
 use cell_core::shelf::Shelf;
 use cell_core::sink::{MemorySink, WriteFault};
+use cell_core_test_maps::assert_same;
 use cell_core_test_maps::maps::NULL;
 use cell_stats::combination::Combo;
 use cell_stats::format::Format;

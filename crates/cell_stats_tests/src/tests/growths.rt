@@ -3,9 +3,9 @@
 //! In a normal run every allocation succeeds. tools/hostile makes allocations fail in turn, one per run, and checks
 //! that the call is repeated in some of the runs.
 
-use crate::assertions::{assert_holds, assert_same};
 use cell_cats::rules::{LineKind, RuleFault, Rules};
 use cell_core::cell::Cell;
+use cell_core_test_maps::assert_same;
 use std::alloc::AllocGlobal;
 use std::process::Abort;
 use std::test::Fail;
@@ -36,7 +36,7 @@ fn add_line<R: Abort + AllocGlobal + Eprint>(
         let _ = eprintln!(rt; "made again");
         assert_same!(rt; fault, RuleFault::Memory);
         assert_same!(rt; new_category(rules, category), before, "the line {line:?}");
-        assert_holds!(rt;
+        assert!(rt;
             rules.add_line(line) == Ok(LineKind::Rule),
             "the line {line:?}"
         );

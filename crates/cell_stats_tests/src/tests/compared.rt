@@ -1,10 +1,10 @@
 //! Tests random rules against a plain check of every rule: overlapping ranges in either order, rules for `*` in any
 //! place, and the smallest and the largest category.
 
-use crate::assertions::{assert_holds, assert_same};
 use cell_cats::reclassing::reclass;
 use cell_cats::rules::Rules;
 use cell_core::cell::Cell;
+use cell_core_test_maps::assert_same;
 use cell_core_test_maps::maps::{NULL, categories_of, map_of};
 use std::alloc::{AllocGlobal, Global};
 use std::process::Abort;
@@ -110,7 +110,7 @@ fn random_rules(rt: HostRuntime) -> Result<(), Fail> {
         let mut rules = Rules::new(rt.alloc());
         for _ in 0..MOST_RULES {
             let line = rule(rt.alloc(), &mut seed)?;
-            assert_holds!(rt;
+            assert!(rt;
                 rules.add_line(line.as_bytes()).is_ok(),
                 "the line {line:?}"
             );

@@ -1,9 +1,9 @@
 //! Tests of each form of a rule line.
 
-use crate::assertions::{assert_holds, assert_same};
-use crate::growths::new_category;
+use super::growths::new_category;
 use cell_cats::rules::{LineKind, RuleFault, Rules};
 use cell_core::cell::Cell;
+use cell_core_test_maps::assert_same;
 use std::process::Abort;
 use std::test::Fail;
 
@@ -78,19 +78,19 @@ const BAD: [(&[u8], RuleFault); 34] = [
 fn good_lines(rt: HostRuntime) -> Result<(), Fail> {
     for (line, kind) in &GOOD {
         let mut rules = Rules::new(rt.alloc());
-        assert_holds!(rt; rules.add_line(*line) == Ok(*kind), "the line {line:?}");
+        assert!(rt; rules.add_line(*line) == Ok(*kind), "the line {line:?}");
     }
     Ok(())
 }
 
 // Checks that a rule that is added after an invalid line is the only rule.
 fn expect_one_rule<R: Abort>(rt: &R, rules: &mut Rules, line: &[u8]) {
-    assert_holds!(rt;
+    assert!(rt;
         rules.add_line(b"1 = 2") == Ok(LineKind::Rule),
         "a line after {line:?}"
     );
     let null = rules.apply(Cell::null()).get();
-    assert_holds!(rt; null != Some(2), "null after {line:?}");
+    assert!(rt; null != Some(2), "null after {line:?}");
     let found = (new_category(rules, 1), new_category(rules, 3));
     assert_same!(rt; found, (Some(2), None), "a category, and no more rules after {line:?}");
 }
@@ -99,7 +99,7 @@ fn expect_one_rule<R: Abort>(rt: &R, rules: &mut Rules, line: &[u8]) {
 fn bad_lines(rt: HostRuntime) -> Result<(), Fail> {
     for (line, fault) in &BAD {
         let mut rules = Rules::new(rt.alloc());
-        assert_holds!(rt; rules.add_line(*line) == Err(*fault), "the line {line:?}");
+        assert!(rt; rules.add_line(*line) == Err(*fault), "the line {line:?}");
         expect_one_rule(&rt, &mut rules, *line);
     }
     Ok(())

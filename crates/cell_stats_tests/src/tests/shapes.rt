@@ -2,7 +2,7 @@
 
 ghost use Rattle.std.specs.Prelude.{◌<◌};
 
-use crate::areas_maps::expect_numbers;
+use super::areas_maps::expect_numbers;
 use cell_cats_areas::clump::Joining;
 use std::alloc::Global;
 use std::test::Fail;

@@ -1,8 +1,8 @@
 //! Tests of the patches of a worked map, whose measures were found by hand.
 
-use crate::assertions::assert_same;
-use crate::maps::filled;
+use super::maps::filled;
 use cell_cats_areas::clump::{Joining, clump_with};
+use cell_core_test_maps::assert_same;
 use cell_core_test_maps::maps::NULL;
 use cell_patches::measuring::patches_of;
 use cell_patches::patch::Patch;

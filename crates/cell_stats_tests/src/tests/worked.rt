@@ -1,8 +1,8 @@
 //! Tests with worked maps.
 
-use crate::assertions::{assert_holds, assert_same};
 use cell_cats::reclassing::reclass;
 use cell_cats::rules::Rules;
+use cell_core_test_maps::assert_same;
 use cell_core_test_maps::maps::{NULL, categories_of, map_of};
 use std::alloc::AllocGlobal;
 use std::process::Abort;
@@ -136,7 +136,7 @@ const CASES: [Case; 15] = [
 fn expect_case<R: Abort + AllocGlobal>(rt: &R, case: &Case) -> Result<(), Fail> {
     let mut rules = Rules::new(rt.alloc());
     for line in case.lines {
-        assert_holds!(rt; rules.add_line(*line).is_ok(), "the line {line:?}");
+        assert!(rt; rules.add_line(*line).is_ok(), "the line {line:?}");
     }
     let map = map_of(rt.alloc(), case.given, 4)?.ok_or("no map")?;
     let made = reclass(rt.alloc(), &map, &rules)?;
@@ -163,7 +163,7 @@ fn worked_maps(rt: HostRuntime) -> Result<(), Fail> {
 #[test]
 fn labels_of_the_given_map_go(rt: HostRuntime) -> Result<(), Fail> {
     let mut rules = Rules::new(rt.alloc());
-    assert_holds!(rt; rules.add_line(b"* = *").is_ok());
+    assert!(rt; rules.add_line(b"* = *").is_ok());
     let mut map = map_of(rt.alloc(), &LEGEND, 4)?.ok_or("no map")?;
     map.set_label(1, b"forest")?;
     let made = reclass(rt.alloc(), &map, &rules)?;
