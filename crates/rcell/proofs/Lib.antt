@@ -1,5 +1,6 @@
 -- Lemmas that several proofs share.
 pub mod WindowLemmas
+pub mod KnownLemmas
 pub mod LoadingLemmas
 pub mod TextLemmas
 pub mod OutputLemmas

@@ -1,8 +1,12 @@
 -- Adding one more grid to the shelf.
-use Rattle.std.proofs.Common.{◌≡◌, ◌≢◌, ℕ, zero, suc, ◌+◌, Bool, true, false, cond, List, [], ◌∷◌, ◌++◌, length, take, Option, Some, None, Result, Ok, Err, IsSome, IfOk, IfErr, slice_get, refl, ap, sym, subst, ◌∙◌, arith, add-one}
+use Rattle.std.proofs.Common.{◌≡◌, ◌≢◌, ℕ, zero, suc, ◌+◌, Bool, true, false, cond, List, [], ◌∷◌, ◌++◌, length, take}
+use Rattle.std.proofs.Common.{drop, Option, Some, None, Result, Ok, Err, IsSome, slice_get, refl, ap, sym}
+use Rattle.std.proofs.Common.{subst, ◌∙◌, arith, add-one}
+use Rattle.std.proofs.Math.Seq.{drop-nil}
 use Rattle.std.specs.List.{position_from}
-use Rattle.std.specs.Prelude.{IfSome}
+use Rattle.std.specs.Option.{IsSomeAnd}
 use Rattle.cell_core_devices.specs.Device.{Coming}
+use Rattle.cell_core_devices.specs.Supposed.{Supposed, Supposing, to_come}
 use Rattle.cell_core.specs.Grid.{Grid}
 use Rattle.cell_core_values.specs.Name.{place_of}
 use Rattle.cell_core_values.specs.Region.{RegionValue}
@@ -12,15 +16,12 @@ use Rattle.cell_core.specs.ShelfRefused.{IsMapRefused}
 use Rattle.cell_core.specs.declared.shelf.ShelfFault.{ShelfFault}
 use Rattle.cell_core.specs.declared.shelf.ShelfFault.TheVariants.{Exists, OtherRegion, Memory}
 use Rattle.cell_ascii_meaning.specs.CellTexts.{grid_of}
-use Rattle.cell_ascii_meaning.specs.declared.grid_fault.GridFault.{GridFault}
-use Rattle.cell_ascii_meaning.specs.declared.grid_fault.GridKind.TheVariants as kinds
-use Rattle.rcell.specs.Sources.{Named, Report}
+use Rattle.rcell.specs.Sources.{Agree, Named, Suppose}
 use Rattle.rcell.specs.RunFaults.{IsOfInput, AnswersInput}
 use Rattle.rcell.specs.parts.Refused.{of_shelf, IsGridFault}
 use Rattle.rcell.specs.Loading.{shelf_with_map, shelf_placed, with_grid, shelf_from, then_grids}
 use Rattle.rcell.specs.declared.run_fault.RunFault.{RunFault}
 use Rattle.rcell.specs.declared.run_fault.RunFault.TheVariants.{GridRegion, GridTwice}
-use Rattle.rcell.specs.declared.run_fault.RunFault.TheVariants as faults
 
 pub differs : (t : Bool) → (t ≡ true → ⊥) → t ≡ false
 differs true apart = absurd (apart refl)
@@ -73,72 +74,90 @@ first_placed r grid region shelf name map is same reported =
     ∙ ap (λ r. Ok (record { region = r; names = name ∷ []; maps = map ∷ [] })) same in
     subst (λ (x : Result ShelfValue RunFault). AnswersInput (λ s. s) r x) first reported
 
--- placing a map that was read from a grid places the grid
-pub grid_placed : (given : Option Coming) (placed : Result ShelfValue RunFault) (grid : ℕ)
-    (shelf : Option ShelfValue) (name : List ℕ) (map : Grid)
-    → IfSome given (λ c. grid_of c ≡ Ok map) → AnswersInput (λ s. s) placed (shelf_placed grid shelf name map)
-    → IfSome given (λ c. AnswersInput (λ s. s) placed (with_grid grid shelf name (grid_of c)))
-grid_placed None placed grid shelf name map read reported = tt
-grid_placed (Some c) placed grid shelf name map read reported =
-    subst (λ (m : Result Grid GridFault). AnswersInput (λ s. s) placed (with_grid grid shelf name m)) (sym read) reported
+-- a property of the content of a source holds for the content that is supposed
+pub at_supposed : (given : Option Coming) (c : Coming) (P : Coming → Type 0) → given ≡ Some c → IsSomeAnd given P → P c
+at_supposed given c P same is = rw same at is
 
--- a grid that cannot be read is rejected with its error
-pub grid_unread : (given : Option Coming) (grid : ℕ) (shelf : Option ShelfValue) (name : List ℕ) (fault : GridFault)
-    → IfSome given (λ c. fault.kind ≢ kinds.Memory → grid_of c ≡ Err fault)
-    → IfSome given (λ c. AnswersInput {A = ShelfValue} (λ s. s) (Err (faults.Grid grid fault)) (with_grid grid shelf name (grid_of c)))
-grid_unread None grid shelf name fault reported = tt
-grid_unread (Some c) grid shelf name fault reported = λ input. ap (with_grid grid shelf name) (reported input)
+module _ {R : Type 0} (supposed : R → Supposed) where
+  -- if the reads of all sources agreed with the contents, so did the reads of the first sources and of the last one
+  pub agree_split : (hs : List Coming) (sources : List R) (last : R) → Agree supposed hs (sources ++ last ∷ [])
+      → Agree supposed hs sources × Agree supposed (drop (length sources) hs) (last ∷ [])
+  agree_split [] [] last agree = (tt, tt)
+  agree_split [] (s ∷ sources) last agree = (tt, tt)
+  agree_split (h ∷ hs) [] last agree = (tt, agree)
+  agree_split (h ∷ hs) (s ∷ sources) last agree = let rest = agree_split hs sources last agree.1 in
+      ((agree.0, rest.0), rest.1)
 
-module _ {R : Type 0} (coming : R → Option Coming) (grid : ℕ) (shelf : Option ShelfValue) (g : List ℕ × R) (rest : List (List ℕ × R)) where
-  -- a property of the content of the first grid holds for the known content
-  one_known : (n : Named) (P : Coming → Type 0) → coming g.1 ≡ Some n.1 → IfSome (coming g.1) P → P n.1
-  one_known n P same one = rw same at one
+  module _ (grid : ℕ) (shelf : Option ShelfValue) (g : List ℕ × R) (source : R) (rest : List (List ℕ × R)) where
+    more : (next : ShelfValue) (hs : List Coming) (named : List Named) → Suppose supposed hs (g ∷ rest) named
+        → Agree supposed hs (source ∷ [])
+        → Supposing (to_come (supposed g.1)) (to_come (supposed source))
+        (λ c. with_grid grid shelf g.0 (grid_of c) ≡ Ok next)
+        → (others : List Named) × (Suppose supposed (drop 1 hs) rest others
+        × (shelf_from grid shelf named ≡ shelf_from (grid + 1) (Some next) others))
+    unfolding shelf_from
+    more next [] named suppose agree one = absurd suppose
+    more next (h ∷ hs) [] suppose agree one = absurd suppose
+    more next (h ∷ hs) (n ∷ named) suppose agree one =
+        let first : with_grid grid shelf g.0 (grid_of n.1) ≡ Ok next =
+        at_supposed (to_come (supposed g.1) h) n.1 (λ c. with_grid grid shelf g.0 (grid_of c) ≡ Ok next) suppose.0.1
+        (one h agree.0) in (
+          named,
+          (
+            suppose.1,
+            ap (then_grids (λ s. shelf_from (grid + 1) (Some s) named))
+                (ap (λ name. with_grid grid shelf name (grid_of n.1)) (sym suppose.0.0) ∙ first),
+          ),
+        )
 
-  more : (next : ShelfValue) (named : List Named) → Report coming (g ∷ rest) named
-      → IfSome (coming g.1) (λ c. with_grid grid shelf g.0 (grid_of c) ≡ Ok next)
-      → (others : List Named) × (Report coming rest others
-      × (shelf_from grid shelf named ≡ shelf_from (grid + 1) (Some next) others))
-  unfolding shelf_from
-  more next [] report one = absurd report
-  more next (n ∷ named) report one =
-      let first : with_grid grid shelf g.0 (grid_of n.1) ≡ Ok next =
-      one_known n (λ c. with_grid grid shelf g.0 (grid_of c) ≡ Ok next) report.0.1 one in (
-        named,
-        (
-          report.1,
-          ap (then_grids (λ s. shelf_from (grid + 1) (Some s) named))
-              (ap (λ name. with_grid grid shelf name (grid_of n.1)) (sym report.0.0) ∙ first),
-        ),
-      )
+    fails : (f : RunFault) (hs : List Coming) (named : List Named) → Suppose supposed hs (g ∷ rest) named
+        → Agree supposed hs (source ∷ []) → IsOfInput f
+        → Supposing (to_come (supposed g.1)) (to_come (supposed source))
+        (λ c. IsOfInput f → with_grid grid shelf g.0 (grid_of c) ≡ Err f) → shelf_from grid shelf named ≡ Err f
+    unfolding shelf_from
+    fails f [] named suppose agree input one = absurd suppose
+    fails f (h ∷ hs) [] suppose agree input one = absurd suppose
+    fails f (h ∷ hs) (n ∷ named) suppose agree input one =
+        let first : with_grid grid shelf g.0 (grid_of n.1) ≡ Err f =
+        at_supposed (to_come (supposed g.1) h) n.1 (λ c. IsOfInput f → with_grid grid shelf g.0 (grid_of c) ≡ Err f)
+        suppose.0.1 (one h agree.0) input in
+        ap (then_grids (λ s. shelf_from (grid + 1) (Some s) named))
+        (ap (λ name. with_grid grid shelf name (grid_of n.1)) (sym suppose.0.0) ∙ first)
 
-  fails : (f : RunFault) (named : List Named) → Report coming (g ∷ rest) named → IsOfInput f
-      → IfSome (coming g.1) (λ c. IsOfInput f → with_grid grid shelf g.0 (grid_of c) ≡ Err f) → shelf_from grid shelf named ≡ Err f
-  unfolding shelf_from
-  fails f [] report input one = absurd report
-  fails f (n ∷ named) report input one =
-      let first : with_grid grid shelf g.0 (grid_of n.1) ≡ Err f =
-      one_known n (λ c. IsOfInput f → with_grid grid shelf g.0 (grid_of c) ≡ Err f) report.0.1 one input in
-      ap (then_grids (λ s. shelf_from (grid + 1) (Some s) named))
-      (ap (λ name. with_grid grid shelf name (grid_of n.1)) (sym report.0.0) ∙ first)
+    -- one more grid is placed, and the loading continues with the others
+    pub shelf_more : (gs : List (List ℕ × R)) (next : ShelfValue) (hs : List Coming) (named : List Named)
+        → gs ≡ g ∷ rest
+        → Suppose supposed hs gs named → Agree supposed hs (source ∷ [])
+        → Supposing (to_come (supposed g.1)) (to_come (supposed source))
+        (λ c. with_grid grid shelf g.0 (grid_of c) ≡ Ok next)
+        → (others : List Named) × (Suppose supposed (drop 1 hs) rest others
+        × (shelf_from grid shelf named ≡ shelf_from (grid + 1) (Some next) others))
+    shelf_more gs next hs named is suppose agree one = more next hs named (rw is at suppose) agree one
 
-  -- one more grid is placed, and the loading continues with the others
-  pub shelf_more : (gs : List (List ℕ × R)) (next : ShelfValue) (named : List Named) → gs ≡ g ∷ rest
-      → Report coming gs named
-      → IfSome (coming g.1) (λ c. with_grid grid shelf g.0 (grid_of c) ≡ Ok next)
-      → (others : List Named) × (Report coming rest others
-      × (shelf_from grid shelf named ≡ shelf_from (grid + 1) (Some next) others))
-  shelf_more gs next named is report one = more next named (rw is at report) one
+    -- a rejected grid ends the loading
+    pub shelf_fails : (gs : List (List ℕ × R)) (f : RunFault) (hs : List Coming) (named : List Named) → gs ≡ g ∷ rest
+        → Suppose supposed hs gs named → Agree supposed hs (source ∷ []) → IsOfInput f
+        → Supposing (to_come (supposed g.1)) (to_come (supposed source))
+        (λ c. IsOfInput f → with_grid grid shelf g.0 (grid_of c) ≡ Err f) → shelf_from grid shelf named ≡ Err f
+    shelf_fails gs f hs named is suppose agree input one = fails f hs named (rw is at suppose) agree input one
 
-  -- a rejected grid ends the loading
-  pub shelf_fails : (gs : List (List ℕ × R)) (f : RunFault) (named : List Named) → gs ≡ g ∷ rest → Report coming gs named → IsOfInput f
-      → IfSome (coming g.1) (λ c. IsOfInput f → with_grid grid shelf g.0 (grid_of c) ≡ Err f) → shelf_from grid shelf named ≡ Err f
-  shelf_fails gs f named is report input one = fails f named (rw is at report) input one
+  -- when no grids are left, all are placed
+  pub none_left : (gs : List (List ℕ × R)) (hs : List Coming) (named : List Named) → gs ≡ []
+      → Suppose supposed hs gs named → named ≡ []
+  none_left gs hs named none suppose = by hs named (rw none at suppose)
+    where
+      by : (hs : List Coming) (named : List Named) → Suppose supposed hs [] named → named ≡ []
+      by hs [] suppose = refl
+      by [] (n ∷ named) suppose = absurd suppose
+      by (h ∷ hs) (n ∷ named) suppose = absurd suppose
 
--- when no grids are left, all are placed
-pub none_left : {R : Type 0} (coming : R → Option Coming) (gs : List (List ℕ × R)) (named : List Named) → gs ≡ []
-    → Report coming gs named → named ≡ []
-none_left coming gs [] none report = refl
-none_left coming gs (n ∷ named) none report = absurd (let t : Report coming [] (n ∷ named) = rw none at report in t)
+drop_suc : {A : Type 0} (n : ℕ) (xs : List A) → drop (suc n) xs ≡ drop 1 (drop n xs)
+drop_suc {A} n [] = ap (drop 1) (sym (drop-nil {A = A} n))
+drop_suc zero (x ∷ xs) = refl
+drop_suc (suc n) (x ∷ xs) = drop_suc n xs
+
+pub drop_one : {A : Type 0} (n : ℕ) (xs : List A) → drop (n + 1) xs ≡ drop 1 (drop n xs)
+drop_one n xs = rw add-one (drop_suc n xs)
 
 pub shelf_all : (grid : ℕ) (shelf : Option ShelfValue) → shelf_from grid shelf [] ≡ Ok shelf
 unfolding shelf_from

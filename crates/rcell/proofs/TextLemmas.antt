@@ -1,11 +1,13 @@
 -- Reading the text of a script, block by block.
-use Rattle.std.proofs.Common.{◌≡◌, ℕ, zero, suc, ◌+◌, ◌-◌, ◌≤◌, ◌<◌, true, false, List, ◌++◌, length, take, drop, Option, Some, None, Result, Ok, Err, IfSome, refl, ap, sym, ◌∙◌, arith, append_assoc, append-nil, length-append, take-append-drop}
+use Rattle.std.proofs.Common.{◌≡◌, ℕ, zero, suc, ◌+◌, ◌-◌, ◌≤◌, ◌<◌, true, false, List, [], ◌++◌, length, take, drop}
+use Rattle.std.proofs.Common.{Option, Some, None, Result, Ok, Err, IfSome, refl, ap, sym, ◌∙◌, arith, append_assoc}
+use Rattle.std.proofs.Common.{append-nil, length-append, take-append-drop}
 use Rattle.std.proofs.lemmas.List.{length-take-le}
 use Rattle.std.specs.Prelude.{nat_lt, min}
-use Rattle.std.specs.Option.{option_map}
+use Rattle.std.specs.Option.{option_map, IsSome, IsSomeAnd}
 use Rattle.std.proofs.lemmas.Bool.Decides.{nat_tests}
 use Rattle.cell_core_devices.specs.declared.device.DeviceFault.{DeviceFault}
-use Rattle.cell_core_devices.specs.Device.{Coming, Takes, after_bytes}
+use Rattle.cell_core_devices.specs.Device.{Coming, Keeps, after_bytes}
 use Rattle.rcell.specs.RunFaults.{AnswersInput}
 use Rattle.rcell.specs.ScriptText.{script_text}
 use Rattle.rcell.specs.declared.run_fault.RunFault.{RunFault}
@@ -18,50 +20,103 @@ text_after text c = script_text (record { bytes = text ++ c.bytes; fails = c.fai
 joined : (text : List ℕ) (c : Coming) (n : ℕ) (block : List ℕ) → take n block ≡ take n c.bytes → text_after text c ≡ text_after (text ++ take n block) (after_bytes c n)
 joined text c n block same = ap (λ bs. script_text (record { bytes = bs; fails = c.fails })) (sym (append_assoc text (take n block) (drop n c.bytes) ∙ ap (λ bs. text ++ bs) (ap (λ f. f ++ drop n c.bytes) same ∙ take-append-drop n c.bytes)))
 
+-- the content that is supposed, if any, is the text that was read and the bytes to come
+abbrev pub Leaves : Option Coming → List ℕ → Option Coming → Type 0
+Leaves all text left = IfSome left (λ d. option_map script_text all ≡ Some (text_after text d))
+
+-- before the first read, all bytes are to come
+pub begun : (all : Option Coming) → Leaves all [] all
+begun None = tt
+begun (Some c) = refl
+
+-- a source whose reads agree now also agreed before
+still : (r : Result ℕ DeviceFault) (block : List ℕ) (old new : Option Coming) → Keeps old new r block → IsSome new
+    → IsSome old
+still r block None new kept some = let no : ⊥ = cc in absurd no
+still r block (Some c) new kept some = refl
+
+one_more : (all : Option Coming) (c d : Coming) (n : ℕ) (block text : List ℕ) → Leaves all text (Some c)
+    → Keeps {E = DeviceFault} (Some c) (Some d) (Ok n) block → Leaves all (text ++ take n block) (Some d)
+one_more all c d n block text leaves gives =
+    let rest : d ≡ after_bytes c n = cc in
+    leaves ∙ ap Some (joined text c n block gives.bytes) ∙ ap (λ (e : Coming). Some
+    (text_after (text ++ take n block) e)) (sym rest)
+
 -- one more block is read
-pub block_more : (old new : Option Coming) (n : ℕ) (block text : List ℕ) → Takes {E = DeviceFault} old new (Ok n) block → option_map (text_after text) old ≡ option_map (text_after (text ++ take n block)) new
-block_more None new n block text takes = rw takes refl
-block_more (Some c) new n block text takes = rw takes.rest (ap Some (joined text c n block takes.bytes))
+pub block_more : (all old new : Option Coming) (n : ℕ) (block text : List ℕ) → Leaves all text old
+    → Keeps {E = DeviceFault} old new (Ok n) block → Leaves all (text ++ take n block) new
+block_more all None None n block text leaves kept = tt
+block_more all None (Some d) n block text leaves kept = cc
+block_more all (Some c) None n block text leaves kept = tt
+block_more all (Some c) (Some d) n block text leaves kept = one_more all c d n block text leaves kept
 
-reported : (all left : Option Coming) (text : List ℕ) (x : Result (List ℕ) RunFault) → option_map script_text all ≡ option_map (text_after text) left → ((c : Coming) → left ≡ Some c → text_after text c ≡ x) → IfSome all (λ c. script_text c ≡ x)
-reported None left text x e h = tt
-reported (Some c) None text x e h = cc
-reported (Some c) (Some d) text x e h = let same : script_text c ≡ text_after text d = cc in same ∙ h d refl
+reported : (all left : Option Coming) (text : List ℕ) (x : Result (List ℕ) RunFault) → Leaves all text left
+    → IsSome left → ((c : Coming) → left ≡ Some c → text_after text c ≡ x) → IsSomeAnd all (λ c. script_text c ≡ x)
+reported all None text x e some h = cc
+reported None (Some d) text x e some h = cc
+reported (Some c) (Some d) text x e some h = let same : script_text c ≡ text_after text d = cc in same ∙ h d refl
 
-anyway : (all : Option Coming) (P : Coming → Type 0) (Q : Type 0) → IfSome all P → IfSome all (λ c. Q → P c)
-anyway None P Q is = tt
+anyway : (all : Option Coming) (P : Coming → Type 0) (Q : Type 0) → IsSomeAnd all P → IsSomeAnd all (λ c. Q → P c)
+anyway None P Q is = absurd is
 anyway (Some c) P Q is = λ _. is
 
+known_after : (all left : Option Coming) (text : List ℕ) → Leaves all text left → IsSome left → IsSome all
+known_after all None text e some = cc
+known_after None (Some d) text e some = cc
+known_after (Some c) (Some d) text e some = refl
+
 -- after an error of memory, nothing is known about the text
-pub no_memory : (all : Option Coming) → IfSome all (λ c. AnswersInput {A = List ℕ} (λ t. t) (Err (Memory 0)) (script_text c))
-no_memory None = tt
-no_memory (Some c) = λ input. absurd input
+pub no_memory : (n : ℕ) (block : List ℕ) (all old new : Option Coming) (text : List ℕ) → Leaves all text old
+    → Keeps {E = DeviceFault} old new (Ok n) block → IsSome new
+    → IsSomeAnd all (λ c. AnswersInput {A = List ℕ} (λ t. t) (Err (Memory 0)) (script_text c))
+no_memory n block all old new text e kept some = by all (known_after all old text e
+    (still (Ok n) block old new kept some))
+  where
+    by : (o : Option Coming) → IsSome o → IsSomeAnd o (λ c. AnswersInput {A = List ℕ} (λ t. t) (Err (Memory 0))
+        (script_text c))
+    by None known = cc
+    by (Some c) known = λ input. absurd input
 
 not_long : (text : List ℕ) → length text ≤ 1048576 → nat_lt 1048576 (length text) ≡ false
 not_long text short = grind (arith, nat_tests)
 
 -- the text ends at the end of its source
-pub text_ends : (all old new : Option Coming) (n : ℕ) (block text : List ℕ) → option_map script_text all ≡ option_map (text_after text) old → length text ≤ 1048576 → n ≡ 0 → Takes {E = DeviceFault} old new (Ok n) block → IfSome all (λ c. script_text c ≡ Ok text)
-text_ends all old new n block text e short none takes = reported all old text (Ok text) e (λ c is. at c (rw is at takes))
+pub text_ends : (all old new : Option Coming) (n : ℕ) (block text : List ℕ) → Leaves all text old
+    → length text ≤ 1048576 → n ≡ 0 → Keeps {E = DeviceFault} old new (Ok n) block → IsSome new
+    → IsSomeAnd all (λ c. script_text c ≡ Ok text)
+text_ends all old new n block text e short none kept some = reported all old text (Ok text) e
+    (still (Ok n) block old new kept some) (λ c is. at c new some (rw is at kept))
   where
-    at : (c : Coming) → Takes {E = DeviceFault} (Some c) new (Ok n) block → text_after text c ≡ Ok text
-    at c gives = rw (gives.end none, gives.ends none, append-nil text, not_long text short) refl
+    at : (c : Coming) (left : Option Coming) → IsSome left → Keeps {E = DeviceFault} (Some c) left (Ok n) block
+        → text_after text c ≡ Ok text
+    at c None some gives = cc
+    at c (Some d) some gives = rw (gives.end none, gives.ends none, append-nil text, not_long text short) refl
 
 -- a read that fails is an error
-pub text_fails : (all old new : Option Coming) (fault : DeviceFault) (block text : List ℕ) → option_map script_text all ≡ option_map (text_after text) old → length text ≤ 1048576 → Takes old new (Err fault) block → IfSome all (λ c. AnswersInput {A = List ℕ} (λ t. t) (Err ScriptRead) (script_text c))
-text_fails all old new fault block text e short takes =
-    anyway all (λ c. script_text c ≡ Err ScriptRead) _ (reported all old text (Err ScriptRead) e (λ c is. at c (rw is at takes)))
+pub text_fails : (all old new : Option Coming) (fault : DeviceFault) (block text : List ℕ) → Leaves all text old
+    → length text ≤ 1048576 → Keeps old new (Err fault) block → IsSome new
+    → IsSomeAnd all (λ c. AnswersInput {A = List ℕ} (λ t. t) (Err ScriptRead) (script_text c))
+text_fails all old new fault block text e short kept some =
+    anyway all (λ c. script_text c ≡ Err ScriptRead) _ (reported all old text (Err ScriptRead) e
+    (still (Err fault) block old new kept some) (λ c is. at c new some (rw is at kept)))
   where
-    at : (c : Coming) → Takes {E = DeviceFault} (Some c) new (Err fault) block → text_after text c ≡ Err ScriptRead
-    at c gives = rw (gives.none, gives.fails, append-nil text, not_long text short) refl
+    at : (c : Coming) (left : Option Coming) → IsSome left → Keeps {E = DeviceFault} (Some c) left (Err fault) block
+        → text_after text c ≡ Err ScriptRead
+    at c None some gives = cc
+    at c (Some d) some gives = rw (gives.none, gives.fails, append-nil text, not_long text short) refl
 
 -- a text of more than 1048576 bytes is rejected
-pub text_long : (all old new : Option Coming) (n : ℕ) (block text : List ℕ) → option_map script_text all ≡ option_map (text_after text) old → 1048576 < length text + n → Takes {E = DeviceFault} old new (Ok n) block → IfSome all (λ c. AnswersInput {A = List ℕ} (λ t. t) (Err ScriptSize) (script_text c))
-text_long all old new n block text e long takes =
-    anyway all (λ c. script_text c ≡ Err ScriptSize) _ (reported all old text (Err ScriptSize) e (λ c is. at c (rw is at takes)))
+pub text_long : (all old new : Option Coming) (n : ℕ) (block text : List ℕ) → Leaves all text old
+    → 1048576 < length text + n → Keeps {E = DeviceFault} old new (Ok n) block → IsSome new
+    → IsSomeAnd all (λ c. AnswersInput {A = List ℕ} (λ t. t) (Err ScriptSize) (script_text c))
+text_long all old new n block text e long kept some =
+    anyway all (λ c. script_text c ≡ Err ScriptSize) _ (reported all old text (Err ScriptSize) e
+    (still (Ok n) block old new kept some) (λ c is. at c new some (rw is at kept)))
   where
-    at : (c : Coming) → Takes {E = DeviceFault} (Some c) new (Ok n) block → text_after text c ≡ Err ScriptSize
-    at c gives =
+    at : (c : Coming) (left : Option Coming) → IsSome left → Keeps {E = DeviceFault} (Some c) left (Ok n) block
+        → text_after text c ≡ Err ScriptSize
+    at c None some gives = cc
+    at c (Some d) some gives =
         let past : nat_lt 1048576 (length (text ++ c.bytes)) ≡ true = let l = length-append text c.bytes in let m = gives.count in grind (arith, nat_tests) in
         rw past refl
 

@@ -1,6 +1,7 @@
 -- What a run reads, makes, writes and reports.
 pub mod Making
 pub mod Sources
+pub mod SourcesLaw
 pub mod RunFaults
 pub mod Loading
 pub mod ScriptText

@@ -10,7 +10,7 @@ ghost use Rattle.rcell.specs.Output.{command_text};
 ghost use Rattle.rcell.specs.runs.Execution.{stops_write, Stops};
 ghost use Rattle.rcell.specs.runs.Outcomes.{IsDone};
 
-use crate::making::{make_classes, make_numbers, make_values};
+use crate::making::make_map;
 use crate::tables::write_stats;
 use cell_ascii::writer::write_grid;
 use cell_core::block::OutputBlock;
@@ -56,34 +56,23 @@ fn out_of_memory(line: u64, written: u64) -> Stopped
     }
 }
 
-// Executes a statement. Allocates all memory before it writes the first byte.
-fn execute_statement<W: Sink>(
+// Executes a command. Allocates all memory before it writes the first byte.
+fn execute_command<W: Sink>(
     alloc: Global,
     shelf: &mut Shelf,
-    statement: &Statement,
+    command: &Command,
     block: &mut OutputBlock,
     out: &mut W,
 ) -> Result<(), Memory>
-    requires { FitsCommand shelf.old.names statement.now.command }
-    ensures after { OnOk result (IsShelfAfter shelf.old statement.now.command shelf.new) }
+    requires { FitsCommand shelf.old.names command.now }
+    ensures after { OnOk result (IsShelfAfter shelf.old command.now shelf.new) }
     ensures ok { OnOk result
-        (Appends W.taken W.faults out.old block.old (command_text shelf.old statement.now.command)
+        (Appends W.taken W.faults out.old block.old (command_text shelf.old command.now)
         out.new block.new) }
     ensures err { OnErr result ((out.new ≡ out.old) × (block.new ≡ block.old)) }
 {
     let _maps = shelf.len();
-    match &statement.command {
-        Command::Mapcalc { target, bound } => make_values(alloc, shelf, target, bound),
-        Command::Reclass {
-            place,
-            target,
-            rules,
-        } => make_classes(alloc, shelf, *place, target, rules),
-        Command::Clump {
-            place,
-            target,
-            joining,
-        } => make_numbers(alloc, shelf, *place, target, *joining),
+    match command {
         Command::Stats { places, options } => {
             write_stats(alloc, shelf, places.as_slice(), options, block, out)
         }
@@ -91,6 +80,9 @@ fn execute_statement<W: Sink>(
             write_grid(out, block, shelf.map(*place), null_text.bytes());
             Ok(())
         }
+        Command::Mapcalc { .. } => make_map(alloc, shelf, command),
+        Command::Reclass { .. } => make_map(alloc, shelf, command),
+        Command::Clump { .. } => make_map(alloc, shelf, command),
     }
 }
 
@@ -117,7 +109,7 @@ pub fn execute<W: Sink>(
 {
     let mut block = OutputBlock::new();
     for statement in statements {
-        match execute_statement(alloc, shelf, statement, &mut block, out) {
+        match execute_command(alloc, shelf, &statement.command, &mut block, out) {
             Ok(()) => block.empty(out),
             Err(_) => return Err(out_of_memory(statement.line, block.written())),
         }

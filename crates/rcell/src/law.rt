@@ -1,9 +1,11 @@
 //! Laws of the output.
 
 ghost use Rattle.rcell.specs.OutputLaw.{OneOutput, PartsJoin};
+ghost use Rattle.rcell.specs.SourcesLaw.{KnownAgree};
 ghost use Rattle.rcell.specs.StatsLaw.{CountsCoverTheRegion, TablesAreAppended};
 
 use cell_cats_areas::law::clumping_is_one;
+use cell_core::source::Source;
 use cell_stats::law::{counts_add_up, table_lists_what_occurs};
 
 /// Statements over a shelf have exactly one output.
@@ -35,3 +37,9 @@ pub fn counts_cover_the_region()
     table_lists_what_occurs();
     counts_add_up();
 }
+
+/// If the bytes of the sources of a run are known, the reads agree with them. So the clauses of `run` on supposed
+/// contents hold for the known bytes.
+pub fn known_sources_agree<R: Source>()
+    ensures { KnownAgree R.coming R.supposed }
+{}

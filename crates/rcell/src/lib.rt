@@ -3,14 +3,16 @@
 //! works on sources and sinks, and opens no files.
 //!
 //! - `run`, in private `running`: reads all grids, then the script, and then executes the statements
-//! - `outcome`: `Outcome`: the exit status, the number of bytes written, and the `RunFault` (in `run_fault`). The
-//!   status is 1 for bad input, 3 if memory runs out, 4 if a read or write fails
+//! - `outcome`: `Ran`: the outcome of a run, and its sources after their last reads. `Outcome`: the exit status, the
+//!   number of bytes written, and the `RunFault` (in `run_fault`). The status is 1 for bad input, 3 if memory runs out,
+//!   4 if a read or write fails
 //! - `report`: `fault_line`, the error line `rcell: SOURCE:LINE: TEXT`
 //! - `loading`, `script_bytes`: read the grids onto a shelf, and the bytes of the script
 //! - `making`, `map_of_values`: make the maps of statements; `evaluate` makes the map of an expression
 //! - `execution`: `execute` executes the statements in order
 //! - private: `tables` writes the output of r.stats
-//! - `law`: there is exactly one output, and the outputs of two parts of a script are concatenated
+//! - `law`: there is exactly one output, and the outputs of two parts of a script are concatenated; known sources agree
+//!   with every supposed content
 //!
 //! ```
 //! let mut named = Vec::new(alloc);
@@ -22,7 +24,7 @@
 //! if named.is_empty() {
 //!     Err("no grid")?;
 //! }
-//! Ok(run(alloc, source(alloc, script, false)?, named, out))
+//! Ok(run(alloc, source(alloc, script, false)?, named, out).outcome)
 //! ```
 #![tactic(auto)]
 
@@ -39,7 +41,7 @@ pub mod script_bytes;
 pub(crate) mod tables;
 
 pub use map_of_values::evaluate;
-pub use outcome::{Outcome, RunFault};
+pub use outcome::{Outcome, Ran, RunFault};
 pub use rcell_script::script_fault::{ScriptFault, ScriptKind};
 pub use rcell_script::script_parsing::parse_script;
 pub use running::run;

@@ -1,20 +1,22 @@
 //! Reads the grids onto a shelf.
 
-ghost use Rattle.std.specs.Prelude.{ℕ, ◌≡◌, ◌+◌, ◌<◌, List, IfOk, IfErr, IfSome, Some, length, vec_len};
+ghost use Rattle.std.specs.Prelude.{ℕ, ◌≡◌, ◌≢◌, ◌+◌, ◌<◌, List, All, IfOk, IfErr, Some, length, vec_len};
 ghost use Rattle.cell_core_values.specs.Name.{place_of};
 ghost use Rattle.cell_ascii_meaning.specs.CellTexts.{grid_of};
 ghost use Rattle.rcell.specs.RunFaults.{AnswersInput, IsBeforeExecution, NamesItsGrid};
 ghost use Rattle.rcell.specs.Loading.{shelf_with_map, shelf_placed, with_grid, shelf_of};
-ghost use Rattle.rcell.specs.Sources.{Named, Report};
+ghost use Rattle.cell_core_devices.specs.Device.{Coming};
+ghost use Rattle.cell_core_devices.specs.Supposed.{Supposing, to_come};
+ghost use Rattle.rcell.specs.Sources.{Agree, Named, Suppose};
 ghost use Rattle.rcell.specs.parts.Refused.{of_shelf, IsGridFault};
 
 use crate::run_fault::RunFault;
-use cell_ascii::grid_reader::read_map;
+use cell_ascii::grid_reader::{MapRead, read_map};
 use cell_core::map::CellMap;
 use cell_core::memory::Memory;
 use cell_core::name::{Name, Names};
 use cell_core::shelf::{Shelf, ShelfFault};
-use cell_core::source::Source;
+use cell_core::source::{Asked, Source};
 use std::alloc::Global;
 
 // Returns the error for a grid that the shelf rejects.
@@ -65,6 +67,13 @@ fn shelf_or_new(
     }
 }
 
+// The shelf with one more grid, and the source of the grid after its last read.
+#[derive(Drop)]
+struct GridAdded<R> {
+    shelf: Result<Shelf, RunFault>,
+    source: R,
+}
+
 // Reads a complete grid, and adds it to the shelf.
 fn shelf_with_grid<R: Source + Drop>(
     alloc: Global,
@@ -72,16 +81,32 @@ fn shelf_with_grid<R: Source + Drop>(
     grid: usize,
     name: Name,
     source: R,
-) -> Result<Shelf, RunFault>
-    ensures answer { IfSome (R.coming source)
-        (λ c. AnswersInput (λ s. s) result (with_grid grid shelf name (grid_of c))) }
-    ensures whose { IfErr result (IsGridFault grid) }
+) -> GridAdded<R>
+    ensures answer { Supposing (to_come (R.supposed source)) (to_come (R.supposed result.source))
+        (λ c. AnswersInput (λ s. s) result.shelf (with_grid grid shelf name (grid_of c))) }
+    ensures whose { IfErr result.shelf (IsGridFault grid) }
+    ensures asked { R.asked source ≡ Asked.Going → R.asked result.source ≢ Asked.Again }
 {
-    let map = match read_map(alloc, source) {
-        Ok(map) => map,
-        Err(fault) => return Err(RunFault::Grid { grid, fault }),
-    };
-    shelf_or_new(alloc, shelf, grid, name, map)
+    let MapRead { map, source } = read_map(alloc, source);
+    match map {
+        Ok(map) => GridAdded {
+            shelf: shelf_or_new(alloc, shelf, grid, name, map),
+            source,
+        },
+        Err(fault) => GridAdded {
+            shelf: Err(RunFault::Grid { grid, fault }),
+            source,
+        },
+    }
+}
+
+/// A shelf of grids, and the sources of the grids that were read.
+#[derive(Drop)]
+pub struct Loaded<R> {
+    /// The shelf, or the first error.
+    pub shelf: Result<Shelf, RunFault>,
+    /// The sources of the grids that were read, in order, after their last reads.
+    pub sources: Vec<R>,
 }
 
 /// Reads the full text of each grid, in order, and adds the maps to a shelf.
@@ -94,24 +119,47 @@ fn shelf_with_grid<R: Source + Drop>(
 /// - otherwise [`RunFault::GridTwice`] if its name is already on the shelf
 /// - otherwise [`RunFault::GridRegion`] if its region differs from the first grid's
 /// - otherwise [`RunFault::Memory`] with line 0 if memory runs out
-pub fn load<R: Source + Drop>(alloc: Global, grids: Vec<(Name, R)>) -> Result<Shelf, RunFault>
+pub fn load<R: Source + Drop>(alloc: Global, grids: Vec<(Name, R)>) -> Loaded<R>
     requires { 0 < vec_len grids }
-    ensures answer { (named : List Named) → Report R.coming grids.items named
-        → AnswersInput (λ s. Some s) result (shelf_of named) }
-    ensures early { IfErr result IsBeforeExecution }
-    ensures reported { IfErr result (NamesItsGrid (length grids.items)) }
+    ensures answer { (named : List Named) (hs : List Coming)
+        → Suppose R.supposed hs grids.items named → Agree R.supposed hs result.sources.items
+        → AnswersInput (λ s. Some s) result.shelf (shelf_of named) }
+    ensures early { IfErr result.shelf IsBeforeExecution }
+    ensures reported { IfErr result.shelf (NamesItsGrid (length grids.items)) }
+    // No source is read again after its end or a read error.
+    ensures asked { All (λ g. R.asked g.1 ≡ Asked.Going) grids.items
+        → All (λ s. R.asked s ≢ Asked.Again) result.sources.items }
 {
     let mut shelf = None;
+    let mut sources = Vec::new(alloc);
     let mut grid = 0;
     for (name, source) in grids {
-        match shelf_with_grid(alloc, shelf, grid, name, source) {
+        let GridAdded {
+            shelf: added,
+            source,
+        } = shelf_with_grid(alloc, shelf, grid, name, source);
+        if sources.push(source).is_err() {
+            return Loaded {
+                shelf: Err(RunFault::Memory { line: 0 }),
+                sources,
+            };
+        }
+        match added {
             Ok(more) => shelf = Some(more),
-            Err(fault) => return Err(fault),
+            Err(fault) => {
+                return Loaded {
+                    shelf: Err(fault),
+                    sources,
+                };
+            }
         }
         grid += 1;
     }
     match shelf {
-        Some(shelf) => Ok(shelf),
+        Some(shelf) => Loaded {
+            shelf: Ok(shelf),
+            sources,
+        },
         None => unreachable!(),
     }
 }

@@ -3,6 +3,8 @@
 ghost use Rattle.std.specs.Prelude.{◌≡◌, ◌≤◌, ◌<◌, None, length, OnOk, OnErr};
 ghost use Rattle.cell_calc_binding.specs.Reach.{top_of};
 ghost use Rattle.cell_core_values.specs.Name.{place_of};
+ghost use Rattle.rcell_script_commands.specs.FittingCommands.{FitsCommand};
+ghost use Rattle.rcell.specs.After.{IsShelfAfter};
 ghost use Rattle.rcell.specs.Making.{IsWithValues, IsWithClasses, IsWithNumbers, with_map};
 
 use crate::map_of_values::evaluate;
@@ -14,6 +16,7 @@ use cell_core::map::CellMap;
 use cell_core::memory::Memory;
 use cell_core::name::Name;
 use cell_core::shelf::{Shelf, ShelfFault};
+use rcell_script::statement::Command;
 use std::alloc::Global;
 
 // Adds a map of the shelf's region at the end, with an unused name.
@@ -34,17 +37,8 @@ fn put_last(alloc: Global, shelf: &mut Shelf, target: &Name, made: CellMap) -> R
     }
 }
 
-/// r.mapcalc: makes the map of an expression's values.
-///
-/// # Errors
-///
-/// Returns [`Memory`] if memory runs out. The shelf is then unchanged.
-pub fn make_values(
-    alloc: Global,
-    shelf: &mut Shelf,
-    target: &Name,
-    bound: &Bound,
-) -> Result<(), Memory>
+// r.mapcalc: makes the map of an expression's values.
+fn make_values(alloc: Global, shelf: &mut Shelf, target: &Name, bound: &Bound) -> Result<(), Memory>
     requires maps { top_of bound.now ≤ length shelf.old.maps }
     requires free { place_of target.now shelf.old.names ≡ None }
     ensures ok { OnOk result (IsWithValues shelf.old target.now bound.now shelf.new) }
@@ -54,12 +48,8 @@ pub fn make_values(
     put_last(alloc, shelf, target, made)
 }
 
-/// r.reclass: makes a map by reclassifying another map.
-///
-/// # Errors
-///
-/// Returns [`Memory`] if memory runs out. The shelf is then unchanged.
-pub fn make_classes(
+// r.reclass: makes a map by reclassifying another map.
+fn make_classes(
     alloc: Global,
     shelf: &mut Shelf,
     place: usize,
@@ -75,12 +65,8 @@ pub fn make_classes(
     put_last(alloc, shelf, target, made)
 }
 
-/// r.clump: makes the map of another map's clump numbers.
-///
-/// # Errors
-///
-/// Returns [`Memory`] if memory runs out. The shelf is then unchanged.
-pub fn make_numbers(
+// r.clump: makes the map of another map's clump numbers.
+fn make_numbers(
     alloc: Global,
     shelf: &mut Shelf,
     place: usize,
@@ -95,4 +81,32 @@ pub fn make_numbers(
     let made = clump_with(alloc, shelf.map(place), joining)?;
     let _region = made.region();
     put_last(alloc, shelf, target, made)
+}
+
+/// Adds the map that a command makes to the shelf. A command that writes its result leaves the shelf unchanged.
+///
+/// # Errors
+///
+/// Returns [`Memory`] if memory runs out. The shelf is then unchanged.
+pub fn make_map(alloc: Global, shelf: &mut Shelf, command: &Command) -> Result<(), Memory>
+    requires { FitsCommand shelf.old.names command.now }
+    ensures ok { OnOk result (IsShelfAfter shelf.old command.now shelf.new) }
+    ensures err { OnErr result (shelf.new ≡ shelf.old) }
+{
+    let _maps = shelf.len();
+    match command {
+        Command::Mapcalc { target, bound } => make_values(alloc, shelf, target, bound),
+        Command::Reclass {
+            place,
+            target,
+            rules,
+        } => make_classes(alloc, shelf, *place, target, rules),
+        Command::Clump {
+            place,
+            target,
+            joining,
+        } => make_numbers(alloc, shelf, *place, target, *joining),
+        Command::Stats { .. } => Ok(()),
+        Command::OutAscii { .. } => Ok(()),
+    }
 }

@@ -18,6 +18,17 @@ pub struct Outcome {
     pub fault: Option<RunFault>,
 }
 
+/// The outcome of a run, and its sources after their last reads.
+#[derive(Drop)]
+pub struct Ran<R> {
+    /// The outcome of the run.
+    pub outcome: Outcome,
+    /// The source of the script.
+    pub script: R,
+    /// The sources of the grids that were read, in order.
+    pub grids: Vec<R>,
+}
+
 fn grid_status(kind: GridKind) -> u8
     ensures { result ≡ grid_status kind }
 {

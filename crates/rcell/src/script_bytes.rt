@@ -1,6 +1,7 @@
 //! Reads the text of a script.
 
-ghost use Rattle.std.specs.Prelude.{◌≡◌, IfErr, IfSome};
+ghost use Rattle.std.specs.Prelude.{◌≡◌, IfErr};
+ghost use Rattle.cell_core_devices.specs.Supposed.{Supposing, to_come};
 ghost use Rattle.rcell.specs.RunFaults.{AnswersInput, IsOfScript};
 ghost use Rattle.rcell.specs.ScriptText.{script_text};
 ghost use Rattle.rcell.specs.parts.Asked.{asked_by};
@@ -19,17 +20,8 @@ const MOST_BYTES: usize = 1048576;
 /// - [`RunFault::ScriptSize`] if it has more than 1,048,576 bytes
 /// - [`RunFault::ScriptRead`] if its reader fails before that
 /// - [`RunFault::Memory`] with line 0 if memory runs out
-pub fn read_script<R: Source + Drop>(alloc: Global, mut source: R) -> Result<Vec<u8>, RunFault>
-    ensures answer { IfSome (R.coming source)
-        (λ c. AnswersInput (λ text. text.items) result (script_text c)) }
-    ensures whose { IfErr result IsOfScript }
-{
-    read_text(alloc, &mut source)
-}
-
-// Reads a source to its end, or to one byte beyond the maximum length of a script.
-fn read_text<R: Source>(alloc: Global, source: &mut R) -> Result<Vec<u8>, RunFault>
-    ensures answer { IfSome (R.coming source.old)
+pub fn read_script<R: Source>(alloc: Global, source: &mut R) -> Result<Vec<u8>, RunFault>
+    ensures answer { Supposing (to_come (R.supposed source.old)) (to_come (R.supposed source.new))
         (λ c. AnswersInput (λ text. text.items) result (script_text c)) }
     ensures whose { IfErr result IsOfScript }
     // The end of the source and a read error are reported, and the source is not read again after them.

@@ -1,11 +1,11 @@
 -- Files that are opened one after another, and what is known after each.
 use Rattle.std.proofs.Common.{Bor, ℕ, IfSome, List, [], ◌∷◌, ◌++◌, ◌≡◌, ◌<◌, ◌+◌, ◌∙◌, ap, sym}
-use Rattle.std.proofs.Common.{refl, take, length, Bool, Option, None, Some, arith, subst, get_or, map, zero, suc}
+use Rattle.std.proofs.Common.{refl, take, length, Bool, Option, None, Some, arith, subst, get_or, zero, suc}
 use Rattle.std.specs.List.{AllZip}
 use Rattle.std.proofs.lemmas.List.{append_assoc, append-nil, take_all, take_more}
 use Rattle.cell_core_devices.specs.Device.{Coming}
 use Rattle.clap.specs.Walk.{Text, texts}
-use Rattle.rcell_command.specs.Processes.{ErrorLine, GivesFile, OpensFiles, OpensSomeFiles}
+use Rattle.rcell_command.specs.Processes.{ErrorLine, OpensFiles, OpensSomeFiles}
 use Rattle.rcell_command.specs.Processes.{HasReported, IsTold, error_lines, grown}
 use Rattle.rcell_command.specs.Reported.{PlaceValue}
 

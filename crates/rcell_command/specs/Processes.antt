@@ -2,6 +2,7 @@
 use Rattle.std.specs.Prelude.{ℕ, ◌≡◌, Bool, false, List, [], ◌∷◌}
 use Rattle.std.specs.Prelude.{◌++◌, Option, None, Some, IfSome, if◌then◌else◌, bytes_eq, take}
 use Rattle.cell_core_devices.specs.Device.{Coming}
+use Rattle.cell_core_devices.specs.Supposed.{Known, Lost, Supposed}
 use Rattle.rcell_command.specs.Reported.{PlaceValue, status_of}
 
 -- the known list with more items appended, if it is known
@@ -66,3 +67,8 @@ text_of_file file = record { bytes = file.1; fails = false }
 abbrev pub file_of : List (List ℕ × List ℕ) → List ℕ → Option Coming
 file_of [] path = None
 file_of (file ∷ files) path = if bytes_eq file.0 path then Some (text_of_file file) else file_of files path
+
+-- only the known content is supposed, and nothing if there is none
+abbrev pub known_or_lost : Option Coming → Supposed
+known_or_lost None = Lost
+known_or_lost (Some text) = Known text

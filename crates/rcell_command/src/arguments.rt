@@ -11,32 +11,6 @@ ghost use Rattle.rcell_command.specs.parts.ClapWords.{FindsAll, command_line};
 use clap::error::ErrorKind;
 use clap::{Arg, ArgAction, ArgMatches, Command};
 use std::alloc::{AllocError, Global};
-use std::rt::Env;
-use std::{env, io};
-
-/// Returns the words of the command line, starting with the program's own name.
-///
-/// # Errors
-///
-/// Returns `usage` if a word is not UTF-8, or `memory` if memory runs out.
-pub fn words_given<R: Env + AllocGlobal, E: Copy>(
-    rt: &R,
-    memory: E,
-    usage: E,
-) -> Result<Vec<String>, E>
-    ensures { IfErr result (λ error. error ≢ memory → error ≡ usage) }
-{
-    let given = match env::args(rt) {
-        Ok(given) => given,
-        Err(fault) => {
-            return match fault.kind() {
-                io::ErrorKind::OutOfMemory => Err(memory),
-                _ => Err(usage),
-            };
-        }
-    };
-    given.collect(rt.alloc()).map_err(|_| memory)
-}
 
 fn begins_with_hyphen(word: &str) -> bool
     ensures { result ≡ begins_with_hyphen word.now }

@@ -160,13 +160,15 @@ fn copies(alloc: Global, texts: &[String]) -> Result<Vec<String>, AllocError>
 impl Process for MemoryProcess {
     ghost use Rattle.std.specs.Prelude.{Some, map};
     ghost use Rattle.std.specs.String.{string_bytes};
-    ghost use Rattle.rcell_command.specs.Processes.{file_of};
+    ghost use Rattle.rcell_command.specs.Processes.{file_of, known_or_lost};
 
     type File = MemorySource;
 
     ghost words = { λ p. Some (map string_bytes p.words.items) };
 
     ghost files = { λ p. file_of p.files.items };
+
+    ghost supposed_file = { λ p path. known_or_lost (file_of p.files.items path) };
 
     ghost opened = { λ p. Some (map string_bytes p.opened.items) };
 

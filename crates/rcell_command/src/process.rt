@@ -17,6 +17,7 @@ use std::fmt::Display;
 /// The ghost members may be unknown, for example for the running process. For a process in memory, all are known.
 pub trait Process {
     ghost use Rattle.cell_core_devices.specs.Device.{Coming};
+    ghost use Rattle.cell_core_devices.specs.Supposed.{Supposed};
     ghost use Rattle.cell_core_devices.specs.declared.source.Asked.{Asked};
     ghost use Rattle.rcell_command.specs.Processes.{ErrorLine};
 
@@ -28,6 +29,9 @@ pub trait Process {
 
     /// The contents of the file with a path.
     ghost files: { Self → List ℕ → Option Coming };
+
+    /// What decides the content of the file with a path: it may be any content, or only the known one.
+    ghost supposed_file: { Self → List ℕ → Supposed };
 
     /// The paths of the files that were opened, in order.
     ghost opened: { Self → Option (List (List ℕ)) };
@@ -58,6 +62,10 @@ pub trait Process {
         // The source has not been read yet, so it has neither ended nor failed.
         ensures asked { IfOk result (λ source. Self.File.asked source ≡ Asked.Going) }
         ensures gives { IfOk result (GivesFile (files self.old) Self.File.coming path.now) }
+        // The source returns the content of the file. If this is not known, it is supposed to be any content.
+        ensures supposed { IfOk result
+            (λ source. Self.File.supposed source ≡ supposed_file self.old path.now) }
+        ensures same { supposed_file self.new ≡ supposed_file self.old }
         ensures opens { OnOk result
             (OpensFiles files opened errors failed self.old self.new (path.now ∷ [])) }
         ensures unopened { OnErr result

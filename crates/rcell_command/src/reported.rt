@@ -2,7 +2,7 @@
 
 ghost use Rattle.std.specs.Prelude.{◌≡◌, Option};
 ghost use Rattle.rcell_command.specs.Processes.{HasReported};
-ghost use Rattle.rcell_command.specs.Reported.{PlaceValue, on_line, status_of};
+ghost use Rattle.rcell_command.specs.Reported.{PlaceValue, on_line};
 
 use crate::process::Process;
 use crate::shown::Shown;
@@ -50,19 +50,6 @@ pub trait Reported: fmt::Display {
 
 /// Prints the line `PROGRAM: SOURCE:LINE: TEXT` for an error (profile) to standard error. Returns the exit
 /// status, which is 0 if there is no error. The status does not depend on whether standard error accepts the line.
-pub fn report<R: Eprint, T: Reported>(rt: &R, program: &str, reported: &T) -> u8
-    ensures { result ≡ status_of (T.place reported.now) }
-{
-    let Some(place) = reported.place() else {
-        return 0;
-    };
-    let source = Shown { text: place.source };
-    let line = place.line;
-    let _ = eprintln!(rt; "{program}: {source}:{line}: {reported}");
-    place.status
-}
-
-/// Does the work of `report` for a `Process`. The contract states all effects on the process.
 pub fn report_error<P: Process, T: Reported>(process: &mut P, program: &str, reported: &T) -> u8
     ensures { HasReported P.opened P.errors P.failed process.old process.new program.now
         (T.place reported.now) result }

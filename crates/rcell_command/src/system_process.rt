@@ -38,8 +38,9 @@ impl<'a> Env for WordsOnly<'a> {
 
 /// The running process: the words of its command line, the system's files, and standard error.
 ///
-/// Nothing is known about them, because std's `args`, `open_file` and `eprintln` promise nothing. Tests check that the
-/// words are the process's arguments, that a source returns the bytes of the file, and that a line is printed.
+/// Nothing is known about them, because std's `args`, `open_file` and `eprintln` promise nothing. So a file is supposed
+/// to have any content, and clauses compare it with the bytes that the reads return. Tests check that the words are the
+/// process's arguments, that a source returns the bytes of the file, and that a line is printed.
 #[derive(Drop)]
 pub struct SystemProcess<'a> {
     rt: &'a HostRuntime,
@@ -56,13 +57,17 @@ impl<'a> SystemProcess<'a> {
 }
 
 impl<'a> Process for SystemProcess<'a> {
-    ghost use Rattle.std.specs.Prelude.{None};
+    ghost use Rattle.std.specs.Prelude.{None, []};
+    ghost use Rattle.cell_core_devices.specs.Supposed.{After};
+    ghost use Rattle.cell_core_devices.specs.declared.source.Asked.{Asked};
 
     type File = ReadSource<File>;
 
     ghost words = { λ _. None };
 
     ghost files = { λ _ _. None };
+
+    ghost supposed_file = { λ _ _. After [] Asked.Going };
 
     ghost opened = { λ _. None };
 

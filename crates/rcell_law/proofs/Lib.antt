@@ -1,4 +1,4 @@
--- Lemmas on runs over the parts of maps.
+-- Lemmas on scripts and outputs.
 pub mod Plain
 pub mod Judged
 pub mod BareLemmas
@@ -10,17 +10,6 @@ pub mod GrownLemmas
 pub mod CutLemmas
 pub mod LineLemmas
 pub mod JoinedLemmas
+pub mod DenotedLemmas
 pub mod RangeLemmas
 pub mod RunMapLemmas
-pub mod AddedLemmas
-pub mod CellLemmas
-pub mod GridSizeLemmas
-pub mod JoinLemmas
-pub mod NumberLemmas
-pub mod PartRunLemmas
-pub mod ReadLemmas
-pub mod RunLemmas
-pub mod ScriptRunLemmas
-pub mod SizeLemmas
-pub mod TableLemmas
-pub mod TileLemmas

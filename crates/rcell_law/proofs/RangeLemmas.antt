@@ -25,7 +25,7 @@ use Rattle.cell_calc_binding.specs.Offsets.{item_at, cell_in}
 use Rattle.cell_calc_binding.specs.Formula.{Formula, Number, Map, Negated, Not, Binary, Call, Formulas, NoTrees}
 use Rattle.cell_calc_binding.specs.Formula.{Then}
 use Rattle.cell_calc_binding.specs.Value.{value, argument_values}
-use Rattle.cell_join_law.proofs.RangeLemmas.{AllInRange, InRange, number-in}
+use Rattle.rcell_law.proofs.DenotedLemmas.{AllInRange, InRange, number-in}
 
 -- ---- operators
 

@@ -57,8 +57,8 @@ use Rattle.rcell_law.specs.RunMaps.{RunMapsAreWritable}
 use Rattle.rcell_law.proofs.ExistLemmas.{classes_filled}
 use Rattle.rcell_script.specs.ReclassRules.{AreRules}
 use Rattle.rcell_script.specs.ReclassRules as rules
-use Rattle.cell_join_law.proofs.RangeLemmas.{InRange, AllInRange, accepted-region, all-apart, cells-in}
-use Rattle.cell_join_law.proofs.RangeLemmas.{denoted-filled, denoted-in, number-in}
+use Rattle.rcell_law.proofs.DenotedLemmas.{InRange, AllInRange, accepted-region, all-apart, cells-in}
+use Rattle.rcell_law.proofs.DenotedLemmas.{denoted-filled, denoted-in, number-in}
 use Rattle.rcell_law.proofs.RangeLemmas.{IsPosition, HasCategories, HaveCategories, value_in}
 
 -- ---- rules

@@ -1,27 +1,34 @@
 -- How the work of the program ends, and its outcome for files that are known.
-use Rattle.std.proofs.Common.{ℕ, zero, suc, Bool, true, false, List, [], ◌∷◌, Option, None, Some, IfSome, ◌≡◌, ◌≢◌}
-use Rattle.std.proofs.Common.{◌<◌, ◌||◌, ◌∙◌, if◌then◌else◌, ap, sym, refl, subst, drop, map, take, length, codes, unwrap_or, slice_get, arith}
+use Rattle.std.proofs.Common.{All, ℕ, zero, suc, Bool, true, false, List, [], ◌∷◌, Option, None, Some, IfSome, ◌≡◌, ◌≢◌}
+use Rattle.std.proofs.Common.{◌<◌, ◌∙◌, if◌then◌else◌, ap, sym, refl, subst, drop, map, take, length, codes, arith}
 use Rattle.std.specs.List.{AllZip}
-use Rattle.std.specs.Option.{option_map}
+use Rattle.std.specs.Option.{option_map, IsSomeAnd}
+use Rattle.std.proofs.lemmas.List.Elements.{All-head, All-tail}
 use Rattle.std.proofs.lemmas.Option.{same_Some}
 use Rattle.cell_core.specs.Shelf.{ShelfValue}
 use Rattle.cell_core_devices.specs.Device.{Coming, Faults, has_failed}
+use Rattle.cell_core_devices.specs.Supposed.{Supposed, to_come}
 use Rattle.clap.specs.Walk.{Text}
-use Rattle.rcell.specs.Sources.{Named, Report}
+use Rattle.rcell.specs.Sources.{Named, Report, Suppose}
+use Rattle.rcell.specs.SourcesLaw.{contents_of}
 use Rattle.rcell.specs.declared.outcome.Outcome.{Outcome}
+use Rattle.rcell.specs.declared.outcome.Ran.{Ran}
 use Rattle.rcell.specs.declared.run_fault.RunFault.{RunFault}
 use Rattle.rcell.specs.runs.Accepted.{IsAccepted}
-use Rattle.rcell.specs.runs.Statuses.{fault_status, status_after}
+use Rattle.rcell.specs.runs.Statuses.{status_after}
+use Rattle.rcell.proofs.runs.EndLemmas.{none_at_zero}
 use Rattle.rcell_command.specs.CommandWords.{has_hyphen_word}
-use Rattle.rcell_command.specs.Processes.{ErrorLine, GivesFile, OpensFiles, OpensSomeFiles, HasReported, IsTold, grown}
+use Rattle.rcell_command.specs.Processes.{ErrorLine, GivesFile, OpensSomeFiles, HasReported, IsTold, grown}
 use Rattle.rcell_command.specs.Reported.{PlaceValue, status_of}
 use Rattle.rcell_command.proofs.ProcessLemmas.{known_gives, nowhere, opened_none, opens_after, told_after, told_at}
 use Rattle.rcell_program.specs.CommandLine.{IsRequest, first_bad, grid_name, grid_names}
 use Rattle.rcell_program.specs.CommandLine.{grid_path, grid_paths, is_misuse, refusal_of, script_path}
 use Rattle.rcell_program.specs.Refusals.{IsOfOpening, grid_path_at, refusal_place, run_place}
-use Rattle.rcell_program.specs.Work.{AreTexts, EndsWork, IsDoneWork, IsReason}
-use Rattle.rcell_program.specs.Work.{IsWork, Rejected, Ran, WorkEnd, end_place}
+use Rattle.rcell_program.specs.OpenedGrids.{AreFiles}
+use Rattle.rcell_program.specs.Work.{AreTexts, EndsWork, IsDoneOverFiles, IsDoneWork, IsReason, MayBeInAnyFile}
+use Rattle.rcell_program.specs.Work.{HasRun, IsWork, Rejected, WorkEnd, end_place, run_in_end}
 use Rattle.rcell_program.specs.declared.refusal.Refusal.{Refusal}
+use Rattle.rcell_program.specs.declared.worked.Worked.{Worked}
 use Rattle.rcell_program.specs.declared.refusal.Refusal.TheVariants.{Usage, GridWord, Memory, ScriptFile, GridFile}
 use Rattle.rcell_program.proofs.WordLemmas.{or_true}
 use Rattle.rcell_script.specs.declared.statement.Statement.{Statement}
@@ -132,6 +139,24 @@ reports files coming (word ∷ words) (grid ∷ grids) (n ∷ named) names gives
           others gives.1 are.1,
     )
 
+-- the sources of the grids are supposed to hold the content of their files
+pub supposes : {F : Type 0} (file : Text → Supposed) (supposed : F → Supposed) (words : List Text) (grids : List (Text
+    × F)) (named : List Named)
+    → map (λ grid. grid.0) grids ≡ map grid_name words → AreFiles file supposed (map grid_path words) grids
+    → AllZip (λ word n. (grid_name word ≡ n.0) × (to_come (file (grid_path word)) n.1 ≡ Some n.1)) words named
+    → Suppose supposed (contents_of named) grids named
+supposes file supposed [] [] [] names files are = tt
+supposes file supposed [] [] (n ∷ named) names files are = absurd are
+supposes file supposed [] (grid ∷ grids) named names files are = absurd files
+supposes file supposed (word ∷ words) [] named names files are = absurd files
+supposes file supposed (word ∷ words) (grid ∷ grids) [] names files are = absurd are
+supposes file supposed (word ∷ words) (grid ∷ grids) (n ∷ named) names files are =
+    let first : grid.0 ≡ grid_name word = cc in
+    let others : map (λ grid. grid.0) grids ≡ map grid_name words = cc in (
+      (first ∙ are.0.0, ap (λ (s : Supposed). to_come s n.1) files.0 ∙ are.0.1),
+      supposes file supposed words grids named others files.1 are.1,
+    )
+
 -- a known file is not missing
 not_missing : (files : Text → Option Coming) (words : List Text) (named : List Named) (grid : ℕ)
     → AllZip (λ word n. (grid_name word ≡ n.0) × (files (grid_path word) ≡ Some n.1)) words named
@@ -162,54 +187,117 @@ pub all_paths : (words : List Text) (script : Text) (names paths : List Text) �
 all_paths words script names paths asked = ap (λ first. first ∷ paths) asked.of_script ∙ ap (λ others. script_path
     words ∷ others) asked.of_paths
 
-done_by : {P W : Type 0} (files : P → List ℕ → Option Coming) (opened : P → Option (List (List ℕ))) (errors : P →
+done_by : {F P W : Type 0} (files : P → List ℕ → Option Coming) (file : P → List ℕ → Supposed) (supposed : F → Supposed)
+    (opened : P → Option (List (List ℕ))) (errors : P →
     Option (List ErrorLine)) (failed : P → Bool) (taken : W → Option (List ℕ)) (faults : W → Faults) (old new : P)
-    (out now : W) (given : List Text) (end : WorkEnd) (status : ℕ) (named : List Named) (text : Coming) (shelf :
+    (out now : W) (given : List Text) (end : WorkEnd F) (status : ℕ) (named : List Named) (text : Coming) (shelf :
     ShelfValue) (statements : List Statement)
-    → EndsWork (files old) given (opened old) (opened new) taken faults out now end → IsTold errors failed old new
+    → EndsWork (files old) (file old) supposed given (opened old) (opened new) taken faults out now end
+    → IsTold errors failed old new
     (codes "rcell") (end_place (grid_names given) end) status
     → refusal_of given ≡ None → AreTexts (files old) given named text → IsAccepted named text shelf statements →
     status ≢ 3 → has_failed (faults now) ≡ false
     → IsDoneWork shelf statements (script_path given ∷ grid_paths given) (opened old) (opened new) (errors old)
     (errors new) (taken out) (taken now) status
-done_by files opened errors failed taken faults old new out now given (Rejected Usage) status named text shelf
+done_by files file supposed opened errors failed taken faults old new out now given (Rejected Usage) status named text
+    shelf
     statements ends told good are accepted memory well = let bad : Some Usage ≡ None = sym ends.reason ∙ good in cc
-done_by files opened errors failed taken faults old new out now given (Rejected (GridWord place)) status named text
+done_by files file supposed opened errors failed taken faults old new out now given (Rejected (GridWord place)) status
+    named text
     shelf statements ends told good are accepted memory well = let bad : Some (GridWord place) ≡ None = sym
     ends.reason ∙ good in cc
-done_by files opened errors failed taken faults old new out now given (Rejected Memory) status named text shelf
+done_by files file supposed opened errors failed taken faults old new out now given (Rejected Memory) status named text
+    shelf
     statements ends told good are accepted memory well = absurd (memory told.status_is)
-done_by files opened errors failed taken faults old new out now given (Rejected ScriptFile) status named text shelf
+done_by files file supposed opened errors failed taken faults old new out now given (Rejected ScriptFile) status named
+    text shelf
     statements ends told good are accepted memory well = let bad : None ≡ Some text = sym ends.reason ∙ are.script in cc
-done_by files opened errors failed taken faults old new out now given (Rejected (GridFile grid)) status named text
+done_by files file supposed opened errors failed taken faults old new out now given (Rejected (GridFile grid)) status
+    named text
     shelf statements ends told good are accepted memory well =
     absurd (not_missing (files old) (drop 1 given) named grid are.grids ends.reason.0 ends.reason.1)
-done_by files opened errors failed taken faults old new out now given (Ran outcome) status named text shelf statements
+done_by files file supposed opened errors failed taken faults old new out now given (HasRun ran) status named text shelf
+    statements
     ends told good are accepted memory well =
-    let same = told.status_is ∙ status_same (grid_names given) outcome.fault outcome refl ends.status in
+    let same = told.status_is ∙ status_same (grid_names given) ran.outcome.fault ran.outcome refl ends.status in
     let all = (ends.over named text are).headline shelf statements accepted (λ three. memory (same ∙ three)) well in
     record {
       output = all.1.1.text;
       of_script = all.1.1.output;
       written = all.1.1.taken;
       opens = ends.opens;
-      silent = told.silent (no_place (grid_names given) outcome all.1.0);
+      silent = told.silent (no_place (grid_names given) ran.outcome all.1.0);
       good = same ∙ all.0;
     }
 
-module _ {P W : Type 0} {words : P → Option (List (List ℕ))} {files : P → List ℕ → Option Coming} {opened : P → Option
+-- an error before a run has a status other than 0
+refusal_not_zero : {X : Type 0} (names : List Text) (refusal : Refusal)
+    → status_of (Some (refusal_place names refusal)) ≡
+    0 → X
+refusal_not_zero names Usage good = cc
+refusal_not_zero names (GridWord place) good = cc
+refusal_not_zero names Memory good = cc
+refusal_not_zero names ScriptFile good = cc
+refusal_not_zero names (GridFile grid) good = cc
+
+-- contents that any file may have, under the names of the grids, are contents of the files that the words name
+in_files : (file : Text → Supposed) (words : List Text) (named : List Named)
+    → map (λ n. n.0) named ≡ map grid_name words
+    → All (λ n. MayBeInAnyFile file n.1) named
+    → AllZip (λ word n. (grid_name word ≡ n.0) × (to_come (file (grid_path word)) n.1 ≡ Some n.1)) words named
+in_files file [] [] names are = tt
+in_files file [] (n ∷ named) names are = cc
+in_files file (word ∷ words) [] names are = cc
+in_files file (word ∷ words) (n ∷ named) names are =
+    let first : grid_name word ≡ n.0 = cc in
+    let others : map (λ n. n.0) named ≡ map grid_name words = cc in
+    let head = All-head (λ (n : Named). MayBeInAnyFile file n.1) n named are in
+    let tail = All-tail (λ (n : Named). MayBeInAnyFile file n.1) n named are in
+    ((first, head (grid_path word)), in_files file words named others tail)
+
+-- at status 0, there was a run, and it wrote the output for all contents with which the reads agreed
+over_files : {F P W : Type 0} (files : P → List ℕ → Option Coming) (file : P → List ℕ → Supposed) (supposed : F →
+    Supposed) (opened : P → Option (List (List ℕ))) (errors : P → Option (List ErrorLine)) (failed : P → Bool)
+    (taken : W → Option (List ℕ)) (faults : W → Faults) (old new : P) (out now : W) (worked : Worked F)
+    (given : List Text) (end : WorkEnd F) → worked.ran ≡ run_in_end end
+    → IfSome worked.ran (λ ran. worked.names.items ≡ grid_names given)
+    → EndsWork (files old) (file old) supposed given (opened old) (opened new) taken faults out now end
+    → IsTold errors failed old new (codes "rcell") (end_place (grid_names given) end) worked.status → worked.status ≡ 0
+    → IsSomeAnd worked.ran (IsDoneOverFiles (file old) supposed worked.names.items (taken out) (taken now))
+over_files files file supposed opened errors failed taken faults old new out now worked given (Rejected refusal) same
+    names ends told good =
+    refusal_not_zero (grid_names given) refusal (sym told.status_is ∙ good)
+over_files {F} files file supposed opened errors failed taken faults old new out now worked given (HasRun ran) same
+    names ends told good =
+    let status = sym (status_same (grid_names given) ran.outcome.fault ran.outcome refl ends.status) ∙ sym
+    told.status_is ∙ good in
+    let read : worked.names.items ≡ grid_names given = subst (λ (all : Option (Ran F)). IfSome all (λ ran.
+    worked.names.items ≡ grid_names given)) same names in
+    rw same (record {
+      done = λ named text are agreed.
+          (ends.agreed named text (record {
+            script = are.script (script_path given);
+            grids = in_files (file old) (drop 1 given) named (are.named_so ∙ read) are.grids;
+          }) agreed).done (none_at_zero ran.outcome.fault (sym ends.status ∙ status));
+    })
+
+module _ {F P W : Type 0} {words : P → Option (List (List ℕ))} {files : P → List ℕ → Option Coming}
+    {file : P → List ℕ → Supposed} {supposed : F → Supposed} {opened : P → Option
     (List (List ℕ))} {errors : P → Option (List ErrorLine)} {failed : P → Bool} {taken : W → Option (List ℕ)} {faults
     : W → Faults} where
   -- no run was started because the words could not be read or do not ask for a run
-  pub rejected : {old new : P} {out : W} (given : List Text) (refusal : Refusal) (status : ℕ) → IfSome (words old) (λ
-      all. given ≡ drop 1 all) → IsReason (files old) given refusal
+  pub rejected : {old new : P} {out : W} (given : List Text) (refusal : Refusal) (worked : Worked F)
+      → IfSome (words old) (λ
+      all. given ≡ drop 1 all) → worked.ran ≡ None → IsReason (files old) given refusal
       → ◌≡◌ {A = Option PlaceValue} (Some (refusal_place [] refusal)) (Some (refusal_place (grid_names given) refusal))
-      → HasReported opened errors failed old new (codes "rcell") (Some (refusal_place [] refusal)) status
-      → IsWork words files opened errors failed old new taken faults out out status
-  rejected {old} {new} given refusal status known reason place reported = record {
+      → HasReported opened errors failed old new (codes "rcell") (Some (refusal_place [] refusal)) worked.status
+      → IsWork words files file supposed opened errors failed old new taken faults out out worked
+  rejected {old} {new} given refusal worked known none reason place reported = record {
     given = given;
     known = known;
     end = Rejected refusal;
+    ran = none;
+    names = rw none tt;
     ends = record {
       reason = reason;
       count = 0;
@@ -221,17 +309,20 @@ module _ {P W : Type 0} {words : P → Option (List (List ℕ))} {files : P → 
 
   -- no run was started because a file could not be opened
   pub unopened : {old mid new : P} {out : W} (given : List Text) (script : Text) (names paths shown : List Text)
-      (refusal : Refusal) (status : ℕ) → IfSome (words old) (λ all. given ≡ drop 1 all)
+      (refusal : Refusal) (worked : Worked F) → IfSome (words old) (λ all. given ≡ drop 1 all) → worked.ran ≡ None
       → IsRequest given script names paths → refusal_of given ≡ None → IsOfOpening (files old) script paths refusal →
       OpensSomeFiles files opened errors failed old mid (script ∷ paths)
       → shown ≡ names → HasReported opened errors failed mid new (codes "rcell") (Some (refusal_place shown refusal))
-      status
-      → IsWork words files opened errors failed old new taken faults out out status
-  unopened {old} {mid} {new} given script names paths shown refusal status known asked good reason some same reported
+      worked.status
+      → IsWork words files file supposed opened errors failed old new taken faults out out worked
+  unopened {old} {mid} {new} given script names paths shown refusal worked known none asked good reason some same
+      reported
       = record {
         given = given;
         known = known;
         end = Rejected refusal;
+        ran = none;
+        names = rw none tt;
         ends = record {
           reason = reason_files (files old) given script names paths refusal asked good reason;
           count = some.count;
@@ -244,19 +335,31 @@ module _ {P W : Type 0} {words : P → Option (List (List ℕ))} {files : P → 
       }
 
   -- the outcome for words and files that are known
-  pub headline_of : {old new : P} {out now : W} {status : ℕ} → IsWork words files opened errors failed old new taken
-      faults out now status
+  pub headline_of : {old new : P} {out now : W} {worked : Worked F} → IsWork words files file supposed opened errors
+      failed old new taken
+      faults out now worked
       → (all : List Text) (named : List Named) (text : Coming) (shelf : ShelfValue) (statements : List Statement)
       → words old ≡ Some all → refusal_of (drop 1 all) ≡ None → AreTexts (files old) (drop 1 all) named text →
-      IsAccepted named text shelf statements → status ≢ 3 → has_failed (faults now) ≡ false
+      IsAccepted named text shelf statements → worked.status ≢ 3 → has_failed (faults now) ≡ false
       → IsDoneWork shelf statements (script_path (drop 1 all) ∷ grid_paths (drop 1 all)) (opened old) (opened new)
-      (errors old) (errors new) (taken out) (taken now) status
-  headline_of {old} {new} {out} {now} {status} is all named text shelf statements known good are accepted memory well =
+      (errors old) (errors new) (taken out) (taken now) worked.status
+  headline_of {old} {new} {out} {now} {worked} is all named text shelf statements known good are accepted memory well =
       let same : is.given ≡ drop 1 all = same_given (words old) known is.known in
       subst (λ given. refusal_of given ≡ None → AreTexts (files old) given named text
       → IsDoneWork shelf statements (script_path given ∷ grid_paths given) (opened old) (opened new) (errors old)
-      (errors new) (taken out) (taken now) status)
+      (errors new) (taken out) (taken now) worked.status)
       same
-      (λ good are. done_by files opened errors failed taken faults old new out now is.given is.end status named text
+      (λ good are. done_by files file supposed opened errors failed taken faults old new out now is.given is.end
+      worked.status named text
       shelf statements is.ends is.told good are accepted memory well)
       good are
+
+  -- at status 0, the output for all contents with which the reads agreed was written
+  pub done_over_files : {old new : P} {out now : W} {worked : Worked F}
+      → IsWork words files file supposed opened errors failed old new taken
+      faults out now worked
+      → worked.status ≡ 0
+      → IsSomeAnd worked.ran (IsDoneOverFiles (file old) supposed worked.names.items (taken out) (taken now))
+  done_over_files {old} {new} {out} {now} {worked} is good =
+      over_files files file supposed opened errors failed taken faults old new out now worked is.given is.end is.ran
+      is.names is.ends is.told good

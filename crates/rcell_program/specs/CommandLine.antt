@@ -1,5 +1,5 @@
 -- The request in a command line: rcell SCRIPT NAME=PATH... (profile).
-use Rattle.std.specs.Prelude.{ℕ, Bool, false, List, [], ◌∷◌, ◌++◌, ◌==◌, ◌≡◌, ◌≢◌, ◌+◌, ◌&&◌, ◌||◌}
+use Rattle.std.specs.Prelude.{ℕ, Bool, List, [], ◌∷◌, ◌++◌, ◌==◌, ◌≡◌, ◌≢◌, ◌+◌, ◌&&◌, ◌||◌}
 use Rattle.std.specs.Prelude.{drop, map, if◌then◌else◌, length, nat_lt, None, Option, Some, Result, Ok, Err, option_map, codes}
 use Rattle.std.specs.List.{after_first, before_first}
 use Rattle.cell_core_values.specs.Letters.{byte}

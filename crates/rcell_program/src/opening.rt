@@ -4,7 +4,7 @@ ghost use Rattle.std.specs.Prelude.{◌≡◌, ◌≢◌, ◌<◌, ℕ, List, []
 ghost use Rattle.clap.specs.Walk.{texts};
 ghost use Rattle.cell_core_devices.specs.declared.source.Asked.{Asked};
 ghost use Rattle.rcell_command.specs.Processes.{GivesFile, OpensFiles, OpensSomeFiles};
-ghost use Rattle.rcell_program.specs.OpenedGrids.{AreOpened};
+ghost use Rattle.rcell_program.specs.OpenedGrids.{AreFiles, AreOpened};
 ghost use Rattle.rcell_program.specs.Refusals.{IsOfOpening};
 
 use crate::command_words::RunRequest;
@@ -36,6 +36,9 @@ fn open_grid<P: Process>(
     ensures asked { IfOk result (λ opened. P.File.asked opened.1 ≡ Asked.Going) }
     ensures gives { IfOk result
         (λ opened. GivesFile (P.files process.old) P.File.coming path.now opened.1) }
+    ensures supposed { IfOk result
+        (λ opened. P.File.supposed opened.1 ≡ P.supposed_file process.old path.now) }
+    ensures same { P.supposed_file process.new ≡ P.supposed_file process.old }
     ensures opens { OnOk result
         (OpensFiles P.files P.opened P.errors P.failed process.old process.new
         (path.now ∷ [])) }
@@ -73,6 +76,9 @@ fn open_grids<P: Process>(
     ensures opened { IfOk result (λ grids. AreOpened
         (P.files process.old) P.File.coming P.File.asked
         request.now.names.items (texts request.now.paths.items) grids.items) }
+    ensures supposed { IfOk result (λ grids. AreFiles
+        (P.supposed_file process.old) P.File.supposed
+        (texts request.now.paths.items) grids.items) }
     ensures opens { OnOk result
         (OpensFiles P.files P.opened P.errors P.failed process.old process.new
         (texts request.now.paths.items)) }
@@ -116,6 +122,12 @@ pub fn open_files<P: Process>(
         (P.files process.old) P.File.coming P.File.asked
         request.now.names.items (texts request.now.paths.items)
         opened.grids.items) }
+    // The sources return the contents of the files at their paths, as far as these are known or supposed.
+    ensures supposed { IfOk result (λ opened. P.File.supposed opened.script
+        ≡ P.supposed_file process.old request.now.script.now) }
+    ensures files { IfOk result (λ opened. AreFiles
+        (P.supposed_file process.old) P.File.supposed
+        (texts request.now.paths.items) opened.grids.items) }
     ensures opens { OnOk result
         (OpensFiles P.files P.opened P.errors P.failed process.old process.new
         (request.now.script.now ∷ texts request.now.paths.items)) }

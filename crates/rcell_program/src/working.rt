@@ -1,6 +1,6 @@
 //! Does the work of the program in a process.
 
-ghost use Rattle.std.specs.Prelude.{◌≡◌, ◌≢◌, ◌∷◌, ℕ, List, false, drop, Some, None, codes};
+ghost use Rattle.std.specs.Prelude.{◌≡◌, ◌≢◌, ◌∷◌, ℕ, List, All, false, drop, Some, None, IfSome, IsSomeAnd, codes};
 ghost use Rattle.cell_core.specs.Shelf.{ShelfValue};
 ghost use Rattle.cell_core_devices.specs.Device.{Coming, has_failed};
 ghost use Rattle.rcell.specs.Sources.{Named};
@@ -8,15 +8,17 @@ ghost use Rattle.rcell.specs.runs.Accepted.{IsAccepted};
 ghost use Rattle.rcell_command.specs.Processes.{HasReported};
 ghost use Rattle.rcell_program.specs.CommandLine.{grid_paths, refusal_of, script_path};
 ghost use Rattle.rcell_program.specs.Refusals.{refusal_place};
-ghost use Rattle.rcell_program.specs.Work.{AreTexts, IsDoneWork, IsWork};
+ghost use Rattle.rcell_program.specs.Work.{AreTexts, IsDoneOverFiles, IsDoneWork, IsWork};
 ghost use Rattle.rcell_script.specs.declared.statement.Statement.{Statement};
 
 use crate::command_words::read_words;
 use crate::opening::open_files;
 use crate::refusal::{Refusal, RefusalReport};
 use crate::run_report::RunReport;
+use crate::worked::Worked;
 use cell_core::name::Name;
 use cell_core::sink::Sink;
+use cell_core::source::Asked;
 use rcell::run;
 use rcell_command::process::Process;
 use rcell_command::reported::report_error;
@@ -25,22 +27,42 @@ use std::alloc::Global;
 // The program's name in error lines.
 const PROGRAM: &str = "rcell";
 
-// Reports an error before a run, and returns the exit status.
-fn refuse<P: Process>(process: &mut P, refusal: Refusal, names: &[Name]) -> u8
-    ensures { HasReported P.opened P.errors P.failed process.old process.new (codes "rcell")
-        (Some (refusal_place names.now refusal)) result }
+// Reports an error before a run.
+fn refused<P: Process>(
+    alloc: Global,
+    process: &mut P,
+    refusal: Refusal,
+    names: &[Name],
+) -> Worked<P::File>
+    ensures reported { HasReported P.opened P.errors P.failed process.old process.new
+        (codes "rcell") (Some (refusal_place names.now refusal)) result.status }
+    ensures ran { result.ran ≡ None }
 {
-    report_error(process, PROGRAM, &RefusalReport { refusal, names })
+    let status = report_error(process, PROGRAM, &RefusalReport { refusal, names });
+    Worked {
+        status,
+        names: Vec::new(alloc),
+        ran: None,
+    }
 }
 
-/// Executes the request in the process's arguments, and returns the exit status. Opens the files that the words name,
-/// runs the script over the grids, writes the output to `out`, and reports the error, if any.
-pub fn work<P: Process, W: Sink>(alloc: Global, process: &mut P, out: &mut W) -> u8
+/// Executes the request in the process's arguments. Opens the files that the words name, runs the script over the grids,
+/// writes the output to `out`, and reports the error, if any.
+pub fn work<P: Process, W: Sink>(alloc: Global, process: &mut P, out: &mut W) -> Worked<P::File>
     // The words are the process's arguments. The files that they name were opened, in order. `out` has accepted
     // exactly what a run over these files writes. Standard error contains exactly the line for the error, and the exit
     // status is the error's.
-    ensures work { IsWork P.words P.files P.opened P.errors P.failed process.old process.new
-        W.taken W.faults out.old out.new result }
+    ensures work { IsWork P.words P.files P.supposed_file P.File.supposed P.opened P.errors
+        P.failed process.old process.new W.taken W.faults out.old out.new result }
+    // If the exit status is 0, there was a run. For any contents that any file may have, with which the reads of the
+    // opened files agreed, `out` has accepted exactly the output for these contents under the returned names.
+    ensures files { result.status ≡ 0 → IsSomeAnd result.ran
+        (IsDoneOverFiles (P.supposed_file process.old) P.File.supposed result.names.items
+        (W.taken out.old) (W.taken out.new)) }
+    // No returned source was read after its end or an error, so there are contents with which its reads agreed.
+    ensures asked { IfSome result.ran (λ ran.
+        All (λ s. P.File.asked s ≢ Asked.Again) ran.grids.items
+        × (P.File.asked ran.script ≢ Asked.Again)) }
     // If the words and files are known, a script over grids of one region is accepted, memory suffices and the sink
     // does not fail, exactly the output of its statements is written, standard error is empty, and the status is 0.
     ensures headline { (words : List (List ℕ)) (named : List Named) (text : Coming)
@@ -48,24 +70,30 @@ pub fn work<P: Process, W: Sink>(alloc: Global, process: &mut P, out: &mut W) ->
         → P.words process.old ≡ Some words → refusal_of (drop 1 words) ≡ None
         → AreTexts (P.files process.old) (drop 1 words) named text
         → IsAccepted named text shelf statements
-        → result ≢ 3 → has_failed (W.faults out.new) ≡ false
+        → result.status ≢ 3 → has_failed (W.faults out.new) ≡ false
         → IsDoneWork shelf statements (script_path (drop 1 words) ∷ grid_paths (drop 1 words))
         (P.opened process.old) (P.opened process.new) (P.errors process.old)
-        (P.errors process.new) (W.taken out.old) (W.taken out.new) result }
+        (P.errors process.new) (W.taken out.old) (W.taken out.new) result.status }
 {
     let words = match process.words(alloc, Refusal::Memory, Refusal::Usage) {
         Ok(words) => words,
-        Err(refusal) => return refuse(process, refusal, &[]),
+        Err(refusal) => return refused(alloc, process, refusal, &[]),
     };
     let request = match read_words(alloc, &words) {
         Ok(request) => request,
-        Err(refusal) => return refuse(process, refusal, &[]),
+        Err(refusal) => return refused(alloc, process, refusal, &[]),
     };
     let opened = match open_files(alloc, process, &request) {
         Ok(opened) => opened,
-        Err(refusal) => return refuse(process, refusal, &request.names),
+        Err(refusal) => return refused(alloc, process, refusal, &request.names),
     };
-    let outcome = run(alloc, opened.script, opened.grids, out);
+    let ran = run(alloc, opened.script, opened.grids, out);
+    let outcome = ran.outcome;
     let names = request.names.as_slice();
-    report_error(process, PROGRAM, &RunReport { outcome, names })
+    let status = report_error(process, PROGRAM, &RunReport { outcome, names });
+    Worked {
+        status,
+        names: request.names,
+        ran: Some(ran),
+    }
 }

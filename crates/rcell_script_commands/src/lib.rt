@@ -4,7 +4,8 @@
 //! - `heads`: `head_of` reads a line, given the known names. Returns a `Head` or a `ScriptKind`
 //! - `command`: `Command`, what a statement does, with the indices of its maps on the shelf
 //! - `script_fault`: `ScriptKind`, an error; `ScriptFault`, an error and its line
-//! - one private module per command: `r_mapcalc`, `r_reclass`, `r_clump`, `r_stats`, `r_out_ascii`
+//! - one module per command: private `r_reclass`, `r_clump`, `r_stats`, `r_out_ascii`; `r_mapcalc`, whose
+//!   `assignment_text` returns a line with blanks in place of the command name
 //! - `options`: `options_of` reads words as `Options`; `maps`: the maps that options name; `null_text`: the null texts
 //!   of grids and tables; `option_fault`: `OptionFault`
 //! - specs/CommandSpelling.antt: which line spells which command; specs/Options.antt: which options words spell; one
@@ -30,7 +31,7 @@ pub mod null_text;
 pub mod option_fault;
 pub mod options;
 mod r_clump;
-mod r_mapcalc;
+pub mod r_mapcalc;
 mod r_out_ascii;
 mod r_reclass;
 mod r_stats;

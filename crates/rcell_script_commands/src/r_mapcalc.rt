@@ -39,8 +39,12 @@ fn after_command<'a>(line: &'a [u8]) -> &'a [u8]
     after_word(after_blanks(line))
 }
 
-// Returns the line with blanks in place of the command name, so that columns do not change.
-fn assignment_text(alloc: Global, line: &[u8]) -> Result<Vec<u8>, Memory>
+/// Returns the line with blanks in place of the command name, so that columns do not change.
+///
+/// # Errors
+///
+/// Returns [`Memory`] if memory runs out.
+pub fn assignment_text(alloc: Global, line: &[u8]) -> Result<Vec<u8>, Memory>
     ensures text { IfOk result (λ text. text.items ≡ assignment_text line.now) }
     ensures length { IfOk result (λ text. length text.items ≡ length line.now) }
 {

@@ -1,16 +1,17 @@
 //! Tests runs whose sources fail, are cut off or never end, and counts how many times a sink is flushed.
 
-ghost use Rattle.std.specs.Prelude.{◌≡◌, ◌≤◌, length, IfOk};
+ghost use Rattle.std.specs.Prelude.{◌≡◌, length};
 
-use crate::assertions::assert_same;
 use crate::runs::FIVE_COMMANDS;
 use cell_ascii::grid_fault::{GridFault, GridKind};
 use cell_core::device::DeviceFault;
 use cell_core::name::Name;
 use cell_core::sink::{Flushes, MemorySink, Sink};
-use cell_core::source::{Asked, Source};
+use cell_core::source::ReadSource;
+use cell_core_test_maps::assert_same;
 use rcell::{Outcome, RunFault, run};
 use std::alloc::{AllocGlobal, Global};
+use std::io::{self, ErrorKind, Read};
 use std::process::Abort;
 use std::test::Fail;
 
@@ -55,13 +56,12 @@ fn fill_by_turns(buf: &mut [u8], turns: [u8; 2], is_second: bool) -> bool
     is_second
 }
 
-// A source of some bytes, whose ghost members are unknown.
+// A reader of some bytes, and of what follows them. Its ghost members are unknown.
 #[derive(Drop)]
 struct Unknown<'a> {
     bytes: &'a [u8],
     then: Then<'a>,
     is_second: bool,
-    asked: Asked,
 }
 
 impl<'a> Unknown<'a> {
@@ -70,15 +70,12 @@ impl<'a> Unknown<'a> {
             bytes,
             then,
             is_second: false,
-            asked: Asked::Going,
         }
     }
+}
 
-    // Returns the result of a read.
-    fn give(&mut self, buf: &mut [u8]) -> Result<usize, DeviceFault>
-        ensures count { IfOk result (λ n. n ≤ length buf.new) }
-        ensures asked { self.new.asked ≡ self.old.asked }
-    {
+impl<'a> Read for Unknown<'a> {
+    fn read(&mut self, buf: &mut [u8]) -> io::Result<usize> {
         if !self.bytes.is_empty() {
             let count = self.bytes.len().min(buf.len());
             let (first, rest) = self.bytes.split_at(count);
@@ -88,7 +85,7 @@ impl<'a> Unknown<'a> {
         }
         match self.then {
             Then::Ends => Ok(0),
-            Then::Fails => Err(DeviceFault),
+            Then::Fails => Err(ErrorKind::Other.into()),
             Then::EndsOnce(rest) => {
                 self.bytes = rest;
                 self.then = Then::Ends;
@@ -97,27 +94,13 @@ impl<'a> Unknown<'a> {
             Then::FailsOnce(rest) => {
                 self.bytes = rest;
                 self.then = Then::Ends;
-                Err(DeviceFault)
+                Err(ErrorKind::Other.into())
             }
             Then::Turns(turns) => {
                 self.is_second = fill_by_turns(buf, turns, self.is_second);
                 Ok(buf.len())
             }
         }
-    }
-}
-
-impl<'a> Source for Unknown<'a> {
-    ghost use Rattle.std.specs.Prelude.{None};
-
-    ghost coming = { λ _. None };
-
-    ghost asked = { λ s. s.asked };
-
-    fn take(&mut self, buf: &mut [u8]) -> Result<usize, DeviceFault> {
-        let answer = self.give(buf);
-        self.asked = self.asked.after_answer(answer);
-        answer
     }
 }
 
@@ -185,8 +168,8 @@ fn run_sources<'a, W: Sink>(
     out: &mut W,
 ) -> Result<Outcome, Fail> {
     let name = Name::read(alloc, b"g")?;
-    let grids = vec![in alloc; (name, grid)]?;
-    Ok(run(alloc, script, grids, out))
+    let grids = vec![in alloc; (name, ReadSource::new(grid))]?;
+    Ok(run(alloc, ReadSource::new(script), grids, out).outcome)
 }
 
 // Runs a script over one grid, `g`. Returns the outcome and the sink.
@@ -410,12 +393,12 @@ fn run_grids<'a, W: Sink>(
     let mut named = Vec::new(alloc);
     for (name, text) in grids {
         let name = Name::read(alloc, *name)?;
-        named.push((name, Unknown::new(*text, then)))?;
+        named.push((name, ReadSource::new(Unknown::new(*text, then))))?;
     }
     if named.is_empty() {
         Err("no grid")?;
     }
-    Ok(run(alloc, script, named, out))
+    Ok(run(alloc, ReadSource::new(script), named, out).outcome)
 }
 
 const ONE_GRID: &[(&[u8], &[u8])] = &[(b"g", GRID)];

@@ -1,9 +1,9 @@
 //! Tests which error of a script is reported, and where.
 
-use crate::assertions::assert_same;
 use cell_calc_language::calc_fault::{CalcFault, CalcKind};
 use cell_cats::rules::RuleFault;
 use cell_core::name::{Name, Names};
+use cell_core_test_maps::assert_same;
 use cell_stats_combinations::combination_text::ComboFault;
 use rcell_script::script_fault::{ScriptFault, ScriptKind};
 use rcell_script::script_parsing::parse_script;

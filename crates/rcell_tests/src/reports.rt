@@ -1,11 +1,11 @@
 //! Tests the line that reports each error.
 
-use crate::assertions::assert_same;
 use cell_ascii::grid_fault::{GridFault, GridKind};
 use cell_calc::{CalcFault, CalcKind};
 use cell_cats::rules::RuleFault;
 use cell_core::name::Name;
 use cell_core::region::RegionFault;
+use cell_core_test_maps::assert_same;
 use cell_stats::combination_text::ComboFault;
 use rcell::outcome::{Outcome, RunFault, status_of};
 use rcell::report::fault_line;

@@ -1,10 +1,10 @@
 //! Tests full runs in memory: the output, its length, the status and the error.
 
-use crate::assertions::assert_same;
 use cell_ascii::grid_fault::{GridFault, GridKind};
 use cell_core::name::Name;
 use cell_core::sink::MemorySink;
-use cell_core::source::MemorySource;
+use cell_core::source::{MemorySource, Source};
+use cell_core_test_maps::assert_same;
 use rcell::{Outcome, RunFault, ScriptFault, ScriptKind, run};
 use std::alloc::{AllocGlobal, Global};
 use std::process::Abort;
@@ -51,7 +51,7 @@ fn run_texts(
     if named.is_empty() {
         Err("no grid")?;
     }
-    Ok(run(alloc, source(alloc, script, false)?, named, out))
+    Ok(run(alloc, source(alloc, script, false)?, named, out).outcome)
 }
 
 fn sink(alloc: Global, room: usize) -> Result<MemorySink, Fail> {
@@ -290,7 +290,7 @@ fn run_one(
 ) -> Result<(Outcome, usize), Fail> {
     let grids = vec![in alloc; (Name::read(alloc, b"g")?, grid)]?;
     let mut out = sink(alloc, 100)?;
-    let outcome = run(alloc, script, grids, &mut out);
+    let outcome = run(alloc, script, grids, &mut out).outcome;
     Ok((outcome, out.bytes().len()))
 }
 
@@ -349,4 +349,31 @@ fn makes_two_thousand_maps(rt: HostRuntime) -> Result<(), Fail> {
         &script,
         b"-6 -6 1\n2 2 2\n* * 1\n",
     )
+}
+
+// The second grid has another region, so neither the third grid nor the script is read.
+#[test]
+fn the_sources_that_were_read_come_back(rt: HostRuntime) -> Result<(), Fail> {
+    let alloc = rt.alloc();
+    let grids = vec![in alloc;
+        (Name::read(alloc, b"a")?, source(alloc, GRID, false)?),
+        (Name::read(alloc, b"b")?, source(alloc, FOUR_CELLS, false)?),
+        (Name::read(alloc, b"c")?, source(alloc, GRID, false)?),
+    ]?;
+    let mut out = sink(alloc, 100)?;
+    let ran = run(
+        alloc,
+        source(alloc, b"r.stats -c input=a", false)?,
+        grids,
+        &mut out,
+    );
+    let fault = Some(RunFault::GridRegion { grid: 1 });
+    assert_same!(rt; (ran.outcome.fault, ran.grids.len()), (fault, 2));
+    let mut bytes = [0u8; 7];
+    let mut script = ran.script;
+    assert_same!(rt; script.take(&mut bytes), Ok(7));
+    for mut grid in ran.grids {
+        assert_same!(rt; grid.take(&mut bytes), Ok(0));
+    }
+    Ok(())
 }

@@ -1,9 +1,9 @@
 //! Tests which statements a script has.
 
-use crate::assertions::assert_same;
 use crate::faults::one_grid;
 use cell_cats_areas::clump::Joining;
 use cell_core::cell::Cell;
+use cell_core_test_maps::assert_same;
 use cell_stats_combinations::combination::Combo;
 use cell_stats_combinations::skip::Skip;
 use rcell_script::script_parsing::parse_script;

@@ -14,11 +14,39 @@ use Rattle.rcell.specs.declared.outcome.Outcome.{Outcome}
 use Rattle.rcell.specs.parts.Ends.{IsRunEnd, run_ended, fault_of_end, after_execution, after_stop}
 use Rattle.rcell.specs.runs.Execution.{is_write, stops_write, Stops}
 use Rattle.rcell.specs.runs.Outcomes.{Failing, IsDone}
-use Rattle.rcell.specs.runs.Statuses.{fault_status}
+use Rattle.cell_ascii_meaning.specs.declared.grid_fault.GridKind.{GridKind}
+use Rattle.cell_ascii_meaning.specs.declared.grid_fault.GridKind.TheVariants as grid_kinds
+use Rattle.rcell_script_commands.specs.declared.script_fault.ScriptKind.{ScriptKind}
+use Rattle.rcell_script_commands.specs.declared.script_fault.ScriptKind.TheVariants as script_kinds
+use Rattle.rcell.specs.runs.Statuses.{grid_status, script_status, fault_status, status_after}
 use Rattle.rcell.proofs.runs.ExecutionLemmas.{done_within, line_above}
 
 pub not_none : {X : Type 0} → true ≡ false → X
 not_none none = cc
+
+grid_not_zero : {X : Type 0} (kind : GridKind) → grid_status kind ≡ 0 → X
+grid_not_zero grid_kinds.Read zero = cc
+grid_not_zero grid_kinds.Memory zero = cc
+grid_not_zero kind zero = cc
+
+script_not_zero : {X : Type 0} (kind : ScriptKind) → script_status kind ≡ 0 → X
+script_not_zero script_kinds.Memory zero = cc
+script_not_zero kind zero = cc
+
+-- no error has status 0
+pub not_zero : {X : Type 0} (fault : RunFault) → fault_status fault ≡ 0 → X
+not_zero (faults.GridTwice grid) zero = cc
+not_zero (faults.GridRegion grid) zero = cc
+not_zero (faults.Grid grid fault) zero = grid_not_zero fault.kind zero
+not_zero faults.ScriptRead zero = cc
+not_zero faults.ScriptSize zero = cc
+not_zero (faults.Script fault) zero = script_not_zero fault.kind zero
+not_zero (faults.Memory line) zero = cc
+not_zero faults.Write zero = cc
+
+pub none_at_zero : (fault : Option RunFault) → status_after fault ≡ 0 → IsNone fault
+none_at_zero None zero = refl
+none_at_zero (Some fault) zero = not_zero fault zero
 
 module _ (shelf : ShelfValue) (statements : List Statement) (numbered : All (λ s. 0 < s.line) statements) (before now : Option (List ℕ)) (old between new : Faults) (fails : Bool) where
   stopped_ends : (stop : RunStop) (written : ℕ) → Stops shelf statements before now written stop → between ≡ after_put old (is_write stop) → new ≡ after_stop between stop fails

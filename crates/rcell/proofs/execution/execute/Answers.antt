@@ -15,8 +15,8 @@ loop-statement-init g c = record {
   held = ap (λ (b : BlockValue). b.held) c.new-block.ensures.value;
 }
 
-pub execute_statement-requires : goal.execute_statement-requires
-execute_statement-requires g c =
+pub execute_command-requires : goal.execute_command-requires
+execute_command-requires g c =
     let known = c.loop-statement.shelf.names in
     let s = c.statement-item.result in
     (fits_more c.args.statements.now c.loop-statement.statement-index s c.loop-statement-test.true c.statement-item.is known (known_after known s.command) c.loop-statement.invariant.fits refl).0
@@ -33,7 +33,7 @@ loop-statement-preserved g c =
     let good = sym c.has_failed.ensures ∙ c.if-has_failed.false in
     record {
       executed = executed_more statements i s test read inv.executed refl refl c.in-Ok.ensures.after (rw (append-nil (command_text c.loop-statement.shelf s.command)) at both);
-      fits = (fits_more statements i s test read c.loop-statement.shelf.names c.execute_statement.new.shelf.names inv.fits (names_after c.loop-statement.shelf s.command c.execute_statement.new.shelf c.in-Ok.ensures.after)).1;
+      fits = (fits_more statements i s test read c.loop-statement.shelf.names c.execute_command.new.shelf.names inv.fits (names_after c.loop-statement.shelf s.command c.execute_command.new.shelf c.in-Ok.ensures.after)).1;
       good = good;
       held = c.empty.ensures.held good;
     }

@@ -1,5 +1,3 @@
-use Rattle.std.proofs.Common.{ap, ◌∙◌}
-use Rattle.cell_calc_categories.specs.MapValues.{HasValues}
 use Rattle.rcell.specs.parts.WindowsSet.{picked_maps}
 use Rattle.rcell.proofs.map_of_values.evaluate_fast.Goals as goal
 

@@ -1,6 +1,9 @@
-use Rattle.std.proofs.Common.{◌≡◌, ℕ, List, Option, Some, Result, Ok, Err, refl}
-use Rattle.std.specs.Prelude.{IfSome}
+use Rattle.std.proofs.Common.{◌≡◌, ◌≢◌, ◌∙◌, ℕ, List, Option, Some, None, Result, Ok, Err, refl, sym}
+use Rattle.std.specs.Global.{Global}
+use Rattle.std.specs.Prelude.{Vec}
+use Rattle.std.specs.Option.{IsSomeAnd}
 use Rattle.cell_core_devices.specs.Device.{Coming}
+use Rattle.cell_core_devices.specs.Supposed.{to_come}
 use Rattle.rcell_script.specs.ReadScripts.{IsScriptFault}
 use Rattle.rcell_script.specs.ScriptLaw.{OneScript, NoFaultOfAScript}
 use Rattle.rcell_script.specs.Scripts.{IsScript}
@@ -9,13 +12,19 @@ use Rattle.rcell_script.specs.declared.statement.Statement.{Statement}
 use Rattle.rcell.specs.RunFaults.{IsOfInput}
 use Rattle.rcell.specs.ScriptText.{script_text}
 use Rattle.rcell.specs.declared.run_fault.RunFault.{RunFault}
-use Rattle.rcell.specs.declared.run_fault.RunFault.TheVariants.{Script}
+use Rattle.rcell.specs.declared.run_fault.RunFault.TheVariants.{GridTwice, GridRegion, Grid, ScriptRead, ScriptSize}
+use Rattle.rcell.specs.declared.run_fault.RunFault.TheVariants.{Script, Memory, Write}
+use Rattle.rcell.specs.parts.Asked.{asked_by}
+use Rattle.cell_core_devices.specs.declared.source.Asked.{Asked}
+use Rattle.cell_core_devices.specs.declared.source.Asked.TheVariants.{Again}
 use Rattle.rcell.specs.runs.Endings.{ReadsScript, IsScriptRefusal}
 use Rattle.rcell.proofs.running.read_statements.Goals as goal
 
--- a property of the content of a source holds for the known content
-at_known : (coming : Option Coming) (given : Coming) (P : Coming → Type 0) → coming ≡ Some given → IfSome coming P → P given
-at_known coming given P same is = rw same at is
+-- what follows from a property of the content of a source, if it is supposed to have one
+then_supposed : {P Q : Coming → Type 0} (given : Option Coming) → ((c : Coming) → P c → Q c) → IsSomeAnd given P
+    → IsSomeAnd given Q
+then_supposed None implied is = absurd is
+then_supposed (Some c) implied is = implied c is
 
 one_text : {text other : List ℕ} {read : Result (List ℕ) RunFault} → read ≡ Ok text → read ≡ Ok other → other ≡ text
 one_text bytes others = cc
@@ -37,35 +46,93 @@ module _ (known names : List (List ℕ)) (text now : List ℕ) (script : Coming)
   no_fault none statements fault reads is =
       none known text statements fault (rw (one_text bytes reads.bytes) at reads.denoted) (rw (are_names, is_text) at is)
 
+pub returns-in-Err-clause-read : goal.returns-in-Err-clause-read
+returns-in-Err-clause-read g c = λ h some.
+    then_supposed {P = λ s. IsOfInput c.in-Err.fault → script_text s ≡ Err c.in-Err.fault}
+    (to_come (g.R.Source.supposed c.args.script.now) h) (λ given refused. tt) (c.in-Err.ensures.answer h some)
+
 pub returns-in-Err-clause-fault : goal.returns-in-Err-clause-fault
-returns-in-Err-clause-fault g c = λ given reports input.
-    let refused = at_known (g.R.Source.coming c.args.script) given (λ s. IsOfInput c.in-Err.fault → script_text s ≡ Err c.in-Err.fault) reports c.in-Err.ensures.answer input in
-    record { refusal = rw refused refl; none = λ statements reads. not_both refused reads.bytes }
+returns-in-Err-clause-fault g c = λ h some.
+    then_supposed {P = λ s. IsOfInput c.in-Err.fault → script_text s ≡ Err c.in-Err.fault}
+    (to_come (g.R.Source.supposed c.args.script.now) h)
+    (λ given refused input. record {
+      refusal = rw (refused input) refl;
+      none =
+          λ statements reads. not_both (refused input) reads.bytes;
+    })
+    (c.in-Err.ensures.answer h some)
+
+pub returns-in_default-clause-read : goal.returns-in_default-clause-read
+returns-in_default-clause-read g c = λ h some.
+    then_supposed {P = λ s. script_text s ≡ Ok c.in-Ok.text.items} (to_come (g.R.Source.supposed c.args.script.now) h)
+    (λ given bytes. tt) (c.in-Ok.ensures.answer h some)
 
 pub returns-in_default-clause-fault : goal.returns-in_default-clause-fault
-returns-in_default-clause-fault g c = λ given reports input. absurd input
+returns-in_default-clause-fault g c = λ h some.
+    then_supposed {P = λ s. script_text s ≡ Ok c.in-Ok.text.items} (to_come (g.R.Source.supposed c.args.script.now) h)
+    (λ given bytes input. absurd input) (c.in-Ok.ensures.answer h some)
 
 pub returns-in-Ok-parse_script-clause-read : goal.returns-in-Ok-parse_script-clause-read
-returns-in-Ok-parse_script-clause-read g c = λ given reports.
-    let bytes = at_known (g.R.Source.coming c.args.script) given (λ s. script_text s ≡ Ok c.in-Ok.text.items) reports c.in-Ok.ensures.answer in
+returns-in-Ok-parse_script-clause-read g c = λ h some.
     let value = c.deref.ensures.value in
     let names = c.in-Ok-shelf_names.ensures.names in
     let denoted = c.in-Ok-parse_script.ensures.ok in
-    record {
-      reads = reads_of _ _ _ _ _ bytes value names c.in-Ok-parse_script.script denoted;
-      only = λ statements. only_one _ _ _ _ _ bytes value names c.one_script.ensures c.in-Ok-parse_script.script statements denoted;
-    }
+    then_supposed {P = λ s. script_text s ≡ Ok c.in-Ok.text.items} (to_come (g.R.Source.supposed c.args.script.now) h)
+    (λ given bytes. record {
+      reads = reads_of _ _ _ _ given bytes value names c.in-Ok-parse_script.script denoted;
+      only = λ statements. only_one _ _ _ _ given bytes value names c.one_script.ensures c.in-Ok-parse_script.script
+          statements denoted;
+    }) (c.in-Ok.ensures.answer h some)
+
+pub returns-in-Ok-parse_script-clause-fault : goal.returns-in-Ok-parse_script-clause-fault
+returns-in-Ok-parse_script-clause-fault g c = λ h some.
+    then_supposed {P = λ s. script_text s ≡ Ok c.in-Ok.text.items} (to_come (g.R.Source.supposed c.args.script.now) h)
+    (λ given bytes. tt) (c.in-Ok.ensures.answer h some)
+
+pub returns-clause-read : goal.returns-clause-read
+returns-clause-read g c = λ h some.
+    then_supposed {P = λ s. script_text s ≡ Ok c.in-Ok.text.items} (to_come (g.R.Source.supposed c.args.script.now) h)
+    (λ given bytes. tt) (c.in-Ok.ensures.answer h some)
 
 pub returns-clause-fault : goal.returns-clause-fault
-returns-clause-fault g c = λ given reports input.
-    let bytes = at_known (g.R.Source.coming c.args.script) given (λ s. script_text s ≡ Ok c.in-Ok.text.items) reports c.in-Ok.ensures.answer in
+returns-clause-fault g c = λ h some.
     let value = c.deref.ensures.value in
     let names = c.in-Ok-shelf_names.ensures.names in
+    then_supposed {P = λ s. script_text s ≡ Ok c.in-Ok.text.items} (to_come (g.R.Source.supposed c.args.script.now) h)
+    (λ given bytes input.
     let fault = c.in-Err-parse_script.ensures.err input in
     record {
       refusal = refused_by _ _ _ _ given bytes value names c.in-Err-parse_script.fault fault;
-      none = λ statements reads. no_fault _ _ _ _ _ bytes value names c.no_fault_of_a_script.ensures statements c.in-Err-parse_script.fault reads fault;
-    }
+      none = λ statements reads. no_fault _ _ _ _ given bytes value names c.no_fault_of_a_script.ensures statements
+          c.in-Err-parse_script.fault reads fault;
+    }) (c.in-Ok.ensures.answer h some)
 
 pub returns-clause-whose : goal.returns-clause-whose
 returns-clause-whose g c = record { early = tt; reported = λ grids. c.in-Err-parse_script.ensures.memory }
+
+asked_once : {X : Type 0} (r : Result X RunFault) → asked_by r ≢ Again
+asked_once (Ok x) = λ same. cc
+asked_once (Err (GridTwice grid)) = λ same. cc
+asked_once (Err (GridRegion grid)) = λ same. cc
+asked_once (Err (Grid grid fault)) = λ same. cc
+asked_once (Err ScriptRead) = λ same. cc
+asked_once (Err ScriptSize) = λ same. cc
+asked_once (Err (Script fault)) = λ same. cc
+asked_once (Err (Memory line)) = λ same. cc
+asked_once (Err Write) = λ same. cc
+
+-- the source was read to its end, to a read error, or to neither
+once : {X : Type 0} (r : Result X RunFault) {asked : Asked} → asked ≡ asked_by r → asked ≢ Again
+once r is = λ again. asked_once r (sym is ∙ again)
+
+pub returns-in-Err-clause-asked : goal.returns-in-Err-clause-asked
+returns-in-Err-clause-asked g c = λ going. once {X = Vec ℕ Global} (Err c.in-Err.fault) (c.in-Err.ensures.asked going)
+
+pub returns-in_default-clause-asked : goal.returns-in_default-clause-asked
+returns-in_default-clause-asked g c = λ going. once (Ok c.in-Ok.text) (c.in-Ok.ensures.asked going)
+
+pub returns-in-Ok-parse_script-clause-asked : goal.returns-in-Ok-parse_script-clause-asked
+returns-in-Ok-parse_script-clause-asked g c = λ going. once (Ok c.in-Ok.text) (c.in-Ok.ensures.asked going)
+
+pub returns-clause-asked : goal.returns-clause-asked
+returns-clause-asked g c = λ going. once (Ok c.in-Ok.text) (c.in-Ok.ensures.asked going)

@@ -1,15 +1,15 @@
-use Rattle.std.proofs.Common.{◌≡◌, ◌<◌, ℕ, Option, Some, None, Result, Ok, Err, length, refl, sym, ◌∙◌, arith}
+use Rattle.std.proofs.Common.{◌≡◌, ◌≢◌, ◌<◌, ℕ, Option, Some, None, Result, Ok, Err, length, refl, sym, ◌∙◌, arith}
 use Rattle.std.specs.Prelude.{IfSome, IsNone}
 use Rattle.rcell.specs.RunFaults.{IsBeforeExecution, IsInExecution, IsOfInput, NamesItsGrid}
 use Rattle.rcell.specs.declared.run_fault.RunFault.{RunFault}
 use Rattle.rcell.specs.declared.run_fault.RunFault.TheVariants.{GridTwice, GridRegion, Grid, ScriptRead, ScriptSize, Script, Memory, Write}
-use Rattle.cell_ascii_meaning.specs.declared.grid_fault.GridKind.{GridKind}
-use Rattle.cell_ascii_meaning.specs.declared.grid_fault.GridKind.TheVariants as grid_kinds
-use Rattle.rcell_script_commands.specs.declared.script_fault.ScriptKind.{ScriptKind}
-use Rattle.rcell_script_commands.specs.declared.script_fault.ScriptKind.TheVariants as script_kinds
-use Rattle.rcell.specs.runs.Statuses.{grid_status, script_status, fault_status, status_after}
+use Rattle.rcell.specs.runs.Statuses.{status_after}
 use Rattle.cell_core_devices.specs.Device.{has_failed}
-use Rattle.rcell.proofs.runs.EndLemmas.{not_none, sound, write}
+use Rattle.cell_core_devices.specs.declared.source.Asked.{Asked}
+use Rattle.cell_core_devices.specs.declared.source.Asked.TheVariants.{Going, Again}
+use Rattle.rcell.specs.parts.StatementsRead.{ReadsOnly, RefusesScript}
+use Rattle.rcell.proofs.LoadingLemmas.{at_supposed}
+use Rattle.rcell.proofs.runs.EndLemmas.{not_none, not_zero, sound, write}
 use Rattle.rcell.proofs.runs.AcceptedLemmas.{when_accepted}
 use Rattle.rcell.proofs.runs.WrittenLemmas.{input_unless_memory, read_written, read_refused}
 use Rattle.rcell.proofs.running.run.Goals as goal
@@ -60,123 +60,137 @@ late_reported grids (Script fault) late = absurd late
 late_reported grids (Memory line) late = tt
 late_reported grids Write late = tt
 
-grid_not_zero : {X : Type 0} (kind : GridKind) → grid_status kind ≡ 0 → X
-grid_not_zero grid_kinds.Read zero = cc
-grid_not_zero grid_kinds.Memory zero = cc
-grid_not_zero kind zero = cc
-
-script_not_zero : {X : Type 0} (kind : ScriptKind) → script_status kind ≡ 0 → X
-script_not_zero script_kinds.Memory zero = cc
-script_not_zero kind zero = cc
-
-not_zero : {X : Type 0} (fault : RunFault) → fault_status fault ≡ 0 → X
-not_zero (GridTwice grid) zero = cc
-not_zero (GridRegion grid) zero = cc
-not_zero (Grid grid fault) zero = grid_not_zero fault.kind zero
-not_zero ScriptRead zero = cc
-not_zero ScriptSize zero = cc
-not_zero (Script fault) zero = script_not_zero fault.kind zero
-not_zero (Memory line) zero = cc
-not_zero Write zero = cc
-
 -- a property of runs without an error holds at status 0
 when_zero : {status : ℕ} {P : Type 0} (fault : Option RunFault) → status ≡ status_after fault → (IsNone fault → P) → status ≡ 0 → P
 when_zero None is sound zero = sound refl
 when_zero (Some fault) is sound zero = not_zero fault (sym is ∙ zero)
 
+-- a source that was not read was not read again after its end
+unread : {asked : Asked} → asked ≡ Going → asked ≢ Again
+unread going = λ again. let same : Going ≡ Again = sym going ∙ again in cc
+
 -- This clause comes first: a run that touches its sink before execution meets none of the clauses below.
 pub returns-in-Err-clause-untouched : goal.returns-in-Err-clause-untouched
-returns-in-Err-clause-untouched g c = rw c.refused_outcome.ensures (λ early. (refl, refl))
+returns-in-Err-clause-untouched g c = rw c.refused_run.ensures (λ early. (refl, refl))
 
 pub returns-in-Err-read_statements-clause-untouched : goal.returns-in-Err-read_statements-clause-untouched
 returns-in-Err-read_statements-clause-untouched g c =
-    rw c.refused_outcome-in-Err-read_statements.ensures (λ early. (refl, refl))
+    rw c.refused_run-in-Err-read_statements.ensures (λ early. (refl, refl))
 
 pub returns-in-Ok-read_statements-clause-untouched : goal.returns-in-Ok-read_statements-clause-untouched
 returns-in-Ok-read_statements-clause-untouched g c =
     weaker c.put_out.result.fault _ _ (λ fault late early. not_both fault early late) c.put_out.ensures.late
 
 pub returns-in-Err-clause-done : goal.returns-in-Err-clause-done
-returns-in-Err-clause-done g c = rw c.refused_outcome.ensures (λ named text known reports none. not_none none)
+returns-in-Err-clause-done g c = rw c.refused_run.ensures (λ named text hs h suppose starts agree agrees none. not_none
+    none)
 
 pub returns-in-Err-clause-refused : goal.returns-in-Err-clause-refused
-returns-in-Err-clause-refused g c = λ named text known reports. rw c.refused_outcome.ensures (λ input. rw (c.in-Err.ensures.answer named known input) refl)
+returns-in-Err-clause-refused g c = rw c.refused_run.ensures (λ named text hs h suppose starts agree agrees input.
+    rw ((rw c.in-Err.is at c.load-shelf.ensures.answer named hs suppose agree) input) refl)
 
 pub returns-in-Err-clause-stopped : goal.returns-in-Err-clause-stopped
-returns-in-Err-clause-stopped g c = λ named text known reports. rw c.refused_outcome.ensures (λ late. not_both c.in-Err.fault c.in-Err.ensures.early late)
+returns-in-Err-clause-stopped g c = rw c.refused_run.ensures (λ named text hs h suppose starts agree agrees late.
+    not_both c.in-Err.fault (rw c.in-Err.is at c.load-shelf.ensures.early) late)
 
 pub returns-in-Err-clause-status : goal.returns-in-Err-clause-status
-returns-in-Err-clause-status g c = rw c.refused_outcome.ensures refl
+returns-in-Err-clause-status g c = rw c.refused_run.ensures refl
 
 pub returns-in-Err-clause-reported : goal.returns-in-Err-clause-reported
-returns-in-Err-clause-reported g c = rw c.refused_outcome.ensures c.in-Err.ensures.reported
+returns-in-Err-clause-reported g c = rw c.refused_run.ensures (rw c.in-Err.is at c.load-shelf.ensures.reported)
 
 pub returns-in-Err-clause-sound : goal.returns-in-Err-clause-sound
-returns-in-Err-clause-sound g c = rw c.refused_outcome.ensures (λ zero. not_zero c.in-Err.fault zero)
+returns-in-Err-clause-sound g c = rw c.refused_run.ensures (λ zero. not_zero c.in-Err.fault zero)
 
 pub returns-in-Err-clause-write : goal.returns-in-Err-clause-write
 returns-in-Err-clause-write g c =
-    rw c.refused_outcome.ensures (λ write. not_write c.in-Err.fault c.in-Err.ensures.early write)
+    rw c.refused_run.ensures (λ write. not_write c.in-Err.fault (rw c.in-Err.is at c.load-shelf.ensures.early) write)
 
 pub returns-in-Err-clause-complete : goal.returns-in-Err-clause-complete
 returns-in-Err-clause-complete g c =
-    λ named text known reports shelf statements read.
-    rw c.refused_outcome.ensures (λ lasts whole. apart (c.in-Err.ensures.answer named known (input_unless_memory c.in-Err.fault c.in-Err.ensures.early lasts)) read.loaded)
+    rw c.refused_run.ensures (λ named text hs h suppose starts agree agrees shelf statements read lasts whole. apart
+    ((rw c.in-Err.is at c.load-shelf.ensures.answer named hs suppose agree)
+    (input_unless_memory c.in-Err.fault (rw c.in-Err.is at c.load-shelf.ensures.early) lasts)) read.loaded)
 
 pub returns-in-Err-clause-headline : goal.returns-in-Err-clause-headline
 returns-in-Err-clause-headline g c =
-    λ named text known reports shelf statements ok.
-    when_accepted named text shelf statements (g.W.Sink.taken c.args.out.now) (g.W.Sink.taken c.args.out.now) (has_failed (g.W.Sink.faults c.args.out.now)) c.refused_outcome.result
-    (λ read. returns-in-Err-clause-complete g c named text known reports shelf statements read) ok
+    λ named text hs h suppose starts agree agrees shelf statements ok.
+    when_accepted named text shelf statements (g.W.Sink.taken c.args.out.now) (g.W.Sink.taken c.args.out.now)
+    (has_failed (g.W.Sink.faults c.args.out.now)) c.refused_run.result.outcome
+    (λ read. returns-in-Err-clause-complete g c named text hs h suppose starts agree agrees shelf statements read) ok
 
 pub returns-in-Ok-read_statements-clause-complete : goal.returns-in-Ok-read_statements-clause-complete
 returns-in-Ok-read_statements-clause-complete g c =
-    λ named text known reports shelf statements read.
-    read_written named text c.in-Ok.shelf (c.in-Ok.ensures.answer named known) shelf statements read
+    λ named text hs h suppose starts agree agrees shelf statements read.
+    read_written named text c.in-Ok.shelf (rw c.in-Ok.is at c.load-shelf.ensures.answer named hs suppose agree) shelf
+    statements read
     (g.W.Sink.taken c.args.out.now) (g.W.Sink.taken c.put_out.new.out) (has_failed (g.W.Sink.faults c.put_out.new.out)) c.put_out.result
-    c.in-Ok-read_statements.statements (c.in-Ok-read_statements.ensures.read text reports).only c.put_out.ensures.done c.put_out.ensures.late c.put_out.ensures.status (write c.put_out.result.fault _ _ c.put_out.ensures.first)
+    c.in-Ok-read_statements.statements (at_supposed _ text (λ text. ReadsOnly c.in-Ok.shelf.names text
+    c.in-Ok-read_statements.statements) starts (c.in-Ok-read_statements.ensures.read h agrees)).only
+    c.put_out.ensures.done c.put_out.ensures.late c.put_out.ensures.status
+    (write c.put_out.result.fault _ _ c.put_out.ensures.first)
 
 pub returns-in-Ok-read_statements-clause-headline : goal.returns-in-Ok-read_statements-clause-headline
 returns-in-Ok-read_statements-clause-headline g c =
-    λ named text known reports shelf statements ok.
+    λ named text hs h suppose starts agree agrees shelf statements ok.
     when_accepted named text shelf statements (g.W.Sink.taken c.args.out.now) (g.W.Sink.taken c.put_out.new.out) (has_failed (g.W.Sink.faults c.put_out.new.out)) c.put_out.result
-    (λ read. returns-in-Ok-read_statements-clause-complete g c named text known reports shelf statements read) ok
+    (λ read. returns-in-Ok-read_statements-clause-complete g c named text hs h suppose starts agree agrees shelf
+    statements read) ok
 
 pub returns-in-Err-read_statements-clause-reported : goal.returns-in-Err-read_statements-clause-reported
-returns-in-Err-read_statements-clause-reported g c = rw c.refused_outcome-in-Err-read_statements.ensures (c.in-Err-read_statements.ensures.whose.reported (length c.args.grids.items))
+returns-in-Err-read_statements-clause-reported g c = rw c.refused_run-in-Err-read_statements.ensures
+    (c.in-Err-read_statements.ensures.whose.reported (length c.args.grids.items))
 
 pub returns-in-Err-read_statements-clause-complete : goal.returns-in-Err-read_statements-clause-complete
 returns-in-Err-read_statements-clause-complete g c =
-    λ named text known reports shelf statements read.
-    read_refused named text c.in-Ok.shelf (c.in-Ok.ensures.answer named known) shelf statements read
-    (g.W.Sink.taken c.args.out.now) (g.W.Sink.taken c.args.out.now) (has_failed (g.W.Sink.faults c.args.out.now)) c.refused_outcome-in-Err-read_statements.result
-    c.in-Err-read_statements.fault (rw c.refused_outcome-in-Err-read_statements.ensures refl)
-    (rw c.refused_outcome-in-Err-read_statements.ensures refl) c.in-Err-read_statements.ensures.whose.early (λ ss reads input. (c.in-Err-read_statements.ensures.fault text reports input).none ss reads)
+    λ named text hs h suppose starts agree agrees shelf statements read.
+    read_refused named text c.in-Ok.shelf ((rw c.in-Ok.is at c.load-shelf.ensures.answer named hs suppose
+    (rw c.refused_run-in-Err-read_statements.ensures at agree))) shelf statements read
+    (g.W.Sink.taken c.args.out.now) (g.W.Sink.taken c.args.out.now) (has_failed (g.W.Sink.faults c.args.out.now))
+    c.refused_run-in-Err-read_statements.result.outcome
+    c.in-Err-read_statements.fault (rw c.refused_run-in-Err-read_statements.ensures refl)
+    (rw c.refused_run-in-Err-read_statements.ensures refl) c.in-Err-read_statements.ensures.whose.early
+    (λ ss reads input. (at_supposed _ text (λ text. IsOfInput c.in-Err-read_statements.fault
+    → RefusesScript c.in-Ok.shelf.names text c.in-Err-read_statements.fault) starts
+    (c.in-Err-read_statements.ensures.fault h (rw c.refused_run-in-Err-read_statements.ensures at agrees))
+    input).none ss reads)
 
 pub returns-in-Err-read_statements-clause-headline : goal.returns-in-Err-read_statements-clause-headline
 returns-in-Err-read_statements-clause-headline g c =
-    λ named text known reports shelf statements ok.
-    when_accepted named text shelf statements (g.W.Sink.taken c.args.out.now) (g.W.Sink.taken c.args.out.now) (has_failed (g.W.Sink.faults c.args.out.now)) c.refused_outcome-in-Err-read_statements.result
-    (λ read. returns-in-Err-read_statements-clause-complete g c named text known reports shelf statements read) ok
+    λ named text hs h suppose starts agree agrees shelf statements ok.
+    when_accepted named text shelf statements (g.W.Sink.taken c.args.out.now) (g.W.Sink.taken c.args.out.now)
+    (has_failed (g.W.Sink.faults c.args.out.now)) c.refused_run-in-Err-read_statements.result.outcome
+    (λ read. returns-in-Err-read_statements-clause-complete g c named text hs h suppose starts agree agrees shelf
+    statements read) ok
 
 pub returns-in-Ok-read_statements-clause-done : goal.returns-in-Ok-read_statements-clause-done
-returns-in-Ok-read_statements-clause-done g c = λ named text known reports none. record {
+returns-in-Ok-read_statements-clause-done g c = λ named text hs h suppose starts agree agrees none. record {
   shelf = c.in-Ok.shelf;
   statements = c.in-Ok-read_statements.statements;
-  read = record { loaded = c.in-Ok.ensures.answer named known; reads = (c.in-Ok-read_statements.ensures.read text reports).reads };
+  read = record {
+    loaded = rw c.in-Ok.is at c.load-shelf.ensures.answer named hs suppose agree;
+    reads =
+        (at_supposed _ text (λ text. ReadsOnly c.in-Ok.shelf.names text c.in-Ok-read_statements.statements) starts
+        (c.in-Ok-read_statements.ensures.read h agrees)).reads;
+  };
   done = c.put_out.ensures.done none;
 }
 
 pub returns-in-Ok-read_statements-clause-refused : goal.returns-in-Ok-read_statements-clause-refused
-returns-in-Ok-read_statements-clause-refused g c = λ named text known reports.
+returns-in-Ok-read_statements-clause-refused g c = λ named text hs h suppose starts agree agrees.
     weaker c.put_out.result.fault _ _ (λ fault late input. not_input fault late input) c.put_out.ensures.late
 
 pub returns-in-Ok-read_statements-clause-stopped : goal.returns-in-Ok-read_statements-clause-stopped
-returns-in-Ok-read_statements-clause-stopped g c = λ named text known reports.
+returns-in-Ok-read_statements-clause-stopped g c = λ named text hs h suppose starts agree agrees.
     weaker c.put_out.result.fault _ _ (λ fault stops late. record {
       shelf = c.in-Ok.shelf;
       statements = c.in-Ok-read_statements.statements;
-      read = record { loaded = c.in-Ok.ensures.answer named known; reads = (c.in-Ok-read_statements.ensures.read text reports).reads };
+      read = record {
+        loaded = rw c.in-Ok.is at c.load-shelf.ensures.answer named hs suppose agree;
+        reads =
+            (at_supposed _ text (λ text. ReadsOnly c.in-Ok.shelf.names text c.in-Ok-read_statements.statements) starts
+            (c.in-Ok-read_statements.ensures.read h agrees)).reads;
+      };
       stops = stops;
     }) c.put_out.ensures.stops
 
@@ -194,40 +208,53 @@ pub returns-in-Ok-read_statements-clause-write : goal.returns-in-Ok-read_stateme
 returns-in-Ok-read_statements-clause-write g c = write c.put_out.result.fault _ _ c.put_out.ensures.first
 
 pub returns-in-Err-read_statements-clause-done : goal.returns-in-Err-read_statements-clause-done
-returns-in-Err-read_statements-clause-done g c = rw c.refused_outcome-in-Err-read_statements.ensures (λ named text known reports none. not_none none)
+returns-in-Err-read_statements-clause-done g c = rw c.refused_run-in-Err-read_statements.ensures
+    (λ named text hs h suppose starts agree agrees none. not_none none)
 
 pub returns-in-Err-read_statements-clause-refused : goal.returns-in-Err-read_statements-clause-refused
-returns-in-Err-read_statements-clause-refused g c = λ named text known reports.
-    rw c.refused_outcome-in-Err-read_statements.ensures
-    (λ input. rw (c.in-Ok.ensures.answer named known) (c.in-Err-read_statements.ensures.fault text reports input).refusal)
+returns-in-Err-read_statements-clause-refused g c =
+    rw c.refused_run-in-Err-read_statements.ensures
+    (λ named text hs h suppose starts agree agrees input. rw (rw c.in-Ok.is at c.load-shelf.ensures.answer named hs
+    suppose agree) (at_supposed _ text (λ text. IsOfInput c.in-Err-read_statements.fault
+    → RefusesScript c.in-Ok.shelf.names text c.in-Err-read_statements.fault) starts
+    (c.in-Err-read_statements.ensures.fault h agrees) input).refusal)
 
 pub returns-in-Err-read_statements-clause-stopped : goal.returns-in-Err-read_statements-clause-stopped
-returns-in-Err-read_statements-clause-stopped g c = λ named text known reports.
-    rw c.refused_outcome-in-Err-read_statements.ensures
-    (λ late. not_both c.in-Err-read_statements.fault c.in-Err-read_statements.ensures.whose.early late)
+returns-in-Err-read_statements-clause-stopped g c =
+    rw c.refused_run-in-Err-read_statements.ensures
+    (λ named text hs h suppose starts agree agrees late. not_both c.in-Err-read_statements.fault
+    c.in-Err-read_statements.ensures.whose.early late)
 
 pub returns-in-Err-read_statements-clause-status : goal.returns-in-Err-read_statements-clause-status
-returns-in-Err-read_statements-clause-status g c = rw c.refused_outcome-in-Err-read_statements.ensures refl
+returns-in-Err-read_statements-clause-status g c = rw c.refused_run-in-Err-read_statements.ensures refl
 
 pub returns-in-Err-read_statements-clause-sound : goal.returns-in-Err-read_statements-clause-sound
 returns-in-Err-read_statements-clause-sound g c =
-    rw c.refused_outcome-in-Err-read_statements.ensures (λ zero. not_zero c.in-Err-read_statements.fault zero)
+    rw c.refused_run-in-Err-read_statements.ensures (λ zero. not_zero c.in-Err-read_statements.fault zero)
 
 pub returns-in-Err-read_statements-clause-write : goal.returns-in-Err-read_statements-clause-write
 returns-in-Err-read_statements-clause-write g c =
-    rw c.refused_outcome-in-Err-read_statements.ensures (λ write. not_write c.in-Err-read_statements.fault c.in-Err-read_statements.ensures.whose.early write)
+    rw c.refused_run-in-Err-read_statements.ensures (λ write. not_write c.in-Err-read_statements.fault
+    c.in-Err-read_statements.ensures.whose.early write)
 
 pub returns-in-Err-clause-whole : goal.returns-in-Err-clause-whole
-returns-in-Err-clause-whole g c = λ named text known reports. rw c.refused_outcome.ensures (λ write clean. not_write c.in-Err.fault c.in-Err.ensures.early write)
+returns-in-Err-clause-whole g c = rw c.refused_run.ensures (λ named text hs h suppose starts agree agrees write clean.
+    not_write c.in-Err.fault (rw c.in-Err.is at c.load-shelf.ensures.early) write)
 
 pub returns-in-Err-clause-first : goal.returns-in-Err-clause-first
-returns-in-Err-clause-first g c = rw c.refused_outcome.ensures (λ late. not_both c.in-Err.fault c.in-Err.ensures.early late)
+returns-in-Err-clause-first g c = rw c.refused_run.ensures (λ late. not_both c.in-Err.fault
+    (rw c.in-Err.is at c.load-shelf.ensures.early) late)
 
 pub returns-in-Ok-read_statements-clause-whole : goal.returns-in-Ok-read_statements-clause-whole
-returns-in-Ok-read_statements-clause-whole g c = λ named text known reports write clean. record {
+returns-in-Ok-read_statements-clause-whole g c = λ named text hs h suppose starts agree agrees write clean. record {
   shelf = c.in-Ok.shelf;
   statements = c.in-Ok-read_statements.statements;
-  read = record { loaded = c.in-Ok.ensures.answer named known; reads = (c.in-Ok-read_statements.ensures.read text reports).reads };
+  read = record {
+    loaded = rw c.in-Ok.is at c.load-shelf.ensures.answer named hs suppose agree;
+    reads =
+        (at_supposed _ text (λ text. ReadsOnly c.in-Ok.shelf.names text c.in-Ok-read_statements.statements) starts
+        (c.in-Ok-read_statements.ensures.read h agrees)).reads;
+  };
   done = c.put_out.ensures.whole write clean;
 }
 
@@ -235,11 +262,29 @@ pub returns-in-Ok-read_statements-clause-first : goal.returns-in-Ok-read_stateme
 returns-in-Ok-read_statements-clause-first g c = λ late. c.put_out.ensures.first
 
 pub returns-in-Err-read_statements-clause-whole : goal.returns-in-Err-read_statements-clause-whole
-returns-in-Err-read_statements-clause-whole g c = λ named text known reports.
-    rw c.refused_outcome-in-Err-read_statements.ensures
-    (λ write clean. not_write c.in-Err-read_statements.fault c.in-Err-read_statements.ensures.whose.early write)
+returns-in-Err-read_statements-clause-whole g c =
+    rw c.refused_run-in-Err-read_statements.ensures
+    (λ named text hs h suppose starts agree agrees write clean. not_write c.in-Err-read_statements.fault
+    c.in-Err-read_statements.ensures.whose.early write)
 
 pub returns-in-Err-read_statements-clause-first : goal.returns-in-Err-read_statements-clause-first
 returns-in-Err-read_statements-clause-first g c =
-    rw c.refused_outcome-in-Err-read_statements.ensures
+    rw c.refused_run-in-Err-read_statements.ensures
     (λ late. not_both c.in-Err-read_statements.fault c.in-Err-read_statements.ensures.whose.early late)
+
+pub returns-in-Err-clause-asked : goal.returns-in-Err-clause-asked
+returns-in-Err-clause-asked g c = rw c.refused_run.ensures (λ fresh going.
+    (c.load-shelf.ensures.asked fresh, unread going))
+
+pub returns-in-Ok-read_statements-clause-asked : goal.returns-in-Ok-read_statements-clause-asked
+returns-in-Ok-read_statements-clause-asked g c = λ fresh going. (
+  c.load-shelf.ensures.asked fresh,
+  c.in-Ok-read_statements.ensures.asked going,
+)
+
+pub returns-in-Err-read_statements-clause-asked : goal.returns-in-Err-read_statements-clause-asked
+returns-in-Err-read_statements-clause-asked g c =
+    rw c.refused_run-in-Err-read_statements.ensures (λ fresh going. (
+      c.load-shelf.ensures.asked fresh,
+      c.in-Err-read_statements.ensures.asked going,
+    ))

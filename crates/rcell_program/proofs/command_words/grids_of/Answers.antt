@@ -1,5 +1,5 @@
 use Rattle.std.proofs.lemmas.Result.{err_from_is_err_and}
-use Rattle.std.proofs.Common.{Bor, Bool, Option, Some, true, false, Result, MatchResult, Ok, Err, if◌then◌else◌, arith, rules, refl, drop, map}
+use Rattle.std.proofs.Common.{Bor, Option, Some, false, arith, rules, refl, drop, map}
 use Rattle.std.proofs.Common.{ap, ap₂, sym, ◌≡◌, ◌∙◌, ◌++◌, ◌∷◌, [], ◌+◌, ◌<◌, take, length, vec_len, List, ℕ, is_ok}
 use Rattle.std.specs.List.{slice_index_or}
 use Rattle.std.specs.Option.{option_map}

@@ -1,4 +1,4 @@
-use Rattle.std.proofs.Common.{Bor, refl, ap, sym, ◌≡◌, ◌∙◌, ◌∷◌, List, Some, drop, false, map, option_map, true}
+use Rattle.std.proofs.Common.{Bor, refl, ap, sym, ◌≡◌, ◌∙◌, ◌∷◌, List, drop, false, map, option_map, true}
 use Rattle.std.specs.String.{string_bytes}
 use Rattle.std.proofs.lemmas.Result.{err_from_is_err_and}
 use Rattle.clap.specs.Walk.{Text, texts}

@@ -1,16 +1,14 @@
-use Rattle.std.proofs.Common.{ℕ, List, [], Option, None, map, length, vec_len, false, true}
-use Rattle.std.proofs.Common.{refl, subst, ap, sym, arith, ◌≡◌, ◌≢◌, ◌<◌, ◌==◌, ◌∙◌, ◌∷◌}
+use Rattle.std.proofs.Common.{ℕ, List, [], Option, map, length, vec_len, false, true}
+use Rattle.std.proofs.Common.{refl, subst, ap, sym, arith, ◌≡◌, ◌<◌, ◌==◌, ◌∙◌, ◌∷◌}
 use Rattle.std.proofs.lemmas.Bool.{eqb-false, eqb-true}
 use Rattle.std.proofs.lemmas.List.{length-map}
-use Rattle.std.specs.List.{AllZip}
 use Rattle.cell_core_devices.specs.Device.{Coming}
+use Rattle.cell_core_devices.specs.Supposed.{Supposed}
 use Rattle.clap.specs.Walk.{Text, texts}
-use Rattle.rcell_command.specs.Processes.{GivesFile}
 use Rattle.rcell_command.proofs.ProcessLemmas.{all_of_some, opened_then, some_first}
-use Rattle.rcell_program.specs.OpenedGrids.{AreOpened}
+use Rattle.rcell_program.specs.OpenedGrids.{AreFiles}
 use Rattle.rcell_program.specs.Refusals.{IsOfOpening}
 use Rattle.rcell_program.specs.declared.refusal.Refusal.{Refusal}
-use Rattle.rcell_program.specs.declared.refusal.Refusal.TheVariants.{Usage, GridWord, Memory, ScriptFile, GridFile}
 use Rattle.rcell_program.proofs.opening.open_files.Goals as goal
 
 -- the possible errors of opening files are the same when the files are unchanged
@@ -55,3 +53,9 @@ returns-then-is_empty-clause-reported g c =
 pub invariant_of-result : goal.invariant_of-result
 invariant_of-result g c =
     record { has_grid = some_grid (vec_len c.in-Ok-open_grids.grids) (sym c.is_empty.ensures ∙ c.if-is_empty.false) }
+
+pub returns-clause-files : goal.returns-clause-files
+returns-clause-files g c =
+    let paths = texts c.args.request.now.paths.items in
+    subst (λ (file : Text → Supposed). AreFiles file g.P.File.Source.supposed paths c.in-Ok-open_grids.grids.items)
+    c.in-Ok.ensures.same c.in-Ok-open_grids.ensures.supposed

@@ -1,13 +1,14 @@
-use Rattle.std.proofs.Common.{rules, refl, zero, suc, ◌+◌, Bool, true, false, Bor, Option, None, Result, ap, sym, arith}
-use Rattle.std.proofs.Common.{map, take, length, ℕ, List, get_or, subst, unwrap_or, ◌≡◌, ◌≢◌, ◌<◌, ◌≤◌, ◌∙◌, ◌++◌, ◌∷◌, []}
+use Rattle.std.proofs.Common.{rules, refl, zero, suc, ◌+◌, Option, None, ap, sym, arith}
+use Rattle.std.proofs.Common.{map, take, length, ℕ, List, get_or, subst, ◌≡◌, ◌≢◌, ◌<◌, ◌≤◌, ◌∙◌, ◌++◌, ◌∷◌, []}
 use Rattle.std.proofs.lemmas.List.{length-map, map-append, take_more, take_all}
 use Rattle.std.proofs.lemmas.List.Elements.{All-push}
 use Rattle.std.proofs.lemmas.Option.{unwrap_or-slice_get}
 use Rattle.cell_core_devices.specs.Device.{Coming}
+use Rattle.cell_core_devices.specs.Supposed.{Supposed}
 use Rattle.cell_core_devices.specs.declared.source.Asked.TheVariants.{Going}
 use Rattle.clap.specs.Walk.{Text, texts}
 use Rattle.rcell_command.specs.Processes.{GivesFile}
-use Rattle.rcell_command.proofs.ProcessLemmas.{nowhere, opened_as, opened_then, some_more, some_of, text_at, zip_push}
+use Rattle.rcell_command.proofs.ProcessLemmas.{nowhere, opened_as, opened_then, some_more, some_of, zip_push}
 use Rattle.rcell_program.specs.Refusals.{IsOfOpening, grid_path_at}
 use Rattle.rcell_program.specs.declared.refusal.Refusal.{Refusal}
 use Rattle.rcell_program.specs.declared.refusal.Refusal.TheVariants.{Usage, GridWord, Memory, ScriptFile, GridFile}
@@ -105,6 +106,10 @@ loop-grid-preserved g c =
           c.loop-grid.invariant.gives
           (subst (λ files. GivesFile files g.P.File.Source.coming path c.in-Ok.opened.1)
           c.loop-grid.invariant.opens.same_files c.in-Ok.ensures.gives));
+      supposed = rw (items, sym whole) (zip_push _ (take c.loop-grid.grid (texts words)) grids path c.in-Ok.opened
+          c.loop-grid.invariant.supposed
+          (c.in-Ok.ensures.supposed ∙ ap (λ (file : Text → Supposed). file path) c.loop-grid.invariant.same));
+      same = c.open_grid.ensures.same ∙ c.loop-grid.invariant.same;
       opens = opened_as whole (opened_then c.loop-grid.invariant.opens c.in-Ok.ensures.opens);
     }
 
@@ -121,3 +126,11 @@ returns-clause-opened g c =
       gives = rw (sym (take_all c.loop-grid.grid (texts words) (at_least all (sym (length-map _ _)))))
           c.loop-grid.invariant.gives;
     }
+
+pub returns-clause-supposed : goal.returns-clause-supposed
+returns-clause-supposed g c =
+    let words = c.args.request.now.paths.items in
+    let all = at_least c.loop-grid-test.false (c.len-grid-end.ensures ∙ c.args.request.now.has_paths ∙
+    c.args.request.now.paths.ok.0) in
+    rw (sym (take_all c.loop-grid.grid (texts words) (at_least all (sym (length-map _ _)))))
+    c.loop-grid.invariant.supposed

@@ -1,22 +1,28 @@
-use Rattle.std.proofs.Common.{List, Option, Some, None, IfSome, map, drop, ap, subst, ◌≡◌, ◌∙◌, ◌∷◌}
+use Rattle.std.proofs.Common.{refl, List, Option, Some, None, IfSome, map, drop, ap, subst, ◌≡◌, ◌∙◌}
 use Rattle.std.specs.List.{AllZip}
 use Rattle.std.specs.String.{string_bytes}
 use Rattle.clap.specs.Walk.{Text, texts}
+use Rattle.cell_core_devices.specs.Supposed.{Supposed, to_come}
+use Rattle.rcell.specs.SourcesLaw.{contents_of}
+use Rattle.rcell.proofs.KnownLemmas.{known_agree}
 use Rattle.rcell_command.specs.Processes.{GivesFile, grown}
 use Rattle.rcell_command.proofs.ProcessLemmas.{known_gives, opens_after, told_after, told_at}
 use Rattle.rcell_program.specs.CommandLine.{grid_names}
+use Rattle.rcell_program.specs.OpenedGrids.{AreFiles}
 use Rattle.rcell_program.specs.Refusals.{run_place}
-use Rattle.rcell_program.specs.Work.{Ran}
-use Rattle.rcell_program.proofs.WorkLemmas.{all_paths, given_known, given_of, headline_of, place_unknown}
-use Rattle.rcell_program.proofs.WorkLemmas.{place_words, reason_unknown, reason_words, rejected, reports, unopened}
+use Rattle.rcell_program.specs.Work.{HasRun}
+use Rattle.rcell_program.proofs.WorkLemmas.{all_paths, done_over_files, given_known, given_of, headline_of}
+use Rattle.rcell_program.proofs.WorkLemmas.{place_unknown, place_words, reason_unknown, reason_words, rejected}
+use Rattle.rcell_program.proofs.WorkLemmas.{reports, supposes, unopened}
 use Rattle.rcell_program.proofs.working.work.Goals as goal
 
 pub returns-in-Err-clause-work : goal.returns-in-Err-clause-work
 returns-in-Err-clause-work g c =
     let known = g.P.Process.words c.args.process.now in
-    rejected (given_of known) c.in-Err.refusal _ (given_known known)
+    rejected (given_of known) c.in-Err.refusal _ (given_known known) c.refused.ensures.ran
     (reason_unknown (g.P.Process.files c.args.process.now) known c.in-Err.refusal c.in-Err.ensures.reported)
-    (place_unknown (grid_names (given_of known)) known c.in-Err.refusal c.in-Err.ensures.reported) c.refuse.ensures
+    (place_unknown (grid_names (given_of known)) known c.in-Err.refusal c.in-Err.ensures.reported)
+    c.refused.ensures.reported
 
 given_same : (all : Option (List Text)) (words other : List Text) → words ≡ other → IfSome all (λ known. other ≡
     known) → IfSome all (λ known. words ≡ known)
@@ -35,10 +41,11 @@ returns-in-Err-read_words-clause-work g c =
     let given = drop 1 words in
     rejected given c.in-Err-read_words.refusal _
     (known_words (g.P.Process.words c.args.process.now) words (given_same _ _ _ are c.in-Ok.ensures.given))
+    c.refused-in-Err-read_words.ensures.ran
     (reason_words (g.P.Process.files c.args.process.now) given c.in-Err-read_words.refusal
     c.in-Err-read_words.ensures.refused)
     (place_words (grid_names given) given c.in-Err-read_words.refusal c.in-Err-read_words.ensures.refused)
-    c.refuse-in-Err-read_words.ensures
+    c.refused-in-Err-read_words.ensures.reported
 
 pub returns-in-Err-open_files-clause-work : goal.returns-in-Err-open_files-clause-work
 returns-in-Err-open_files-clause-work g c =
@@ -48,9 +55,10 @@ returns-in-Err-open_files-clause-work g c =
     unopened (drop 1 words) request.script.now request.names.items (texts request.paths.items)
     c.deref-in-Err-open_files.result.now c.in-Err-open_files.refusal _
     (known_words (g.P.Process.words c.args.process.now) words (given_same _ _ _ are c.in-Ok.ensures.given))
+    c.refused-in-Err-open_files.ensures.ran
     c.in-Ok-read_words.ensures.request c.in-Ok-read_words.ensures.refused c.in-Err-open_files.ensures.reported
     c.in-Err-open_files.ensures.some
-    c.deref-in-Err-open_files.ensures.value c.refuse-in-Err-open_files.ensures
+    c.deref-in-Err-open_files.ensures.value c.refused-in-Err-open_files.ensures.reported
 
 pub returns-in-Err-open_files-clause-headline : goal.returns-in-Err-open_files-clause-headline
 returns-in-Err-open_files-clause-headline g c = headline_of (returns-in-Err-open_files-clause-work g c)
@@ -63,41 +71,75 @@ returns-clause-work g c =
     let request = c.in-Ok-read_words.request in
     let asked = c.in-Ok-read_words.ensures.request in
     let opened = c.in-Ok-open_files.ensures in
-    let outcome = c.run-outcome.result in
+    let ran = c.run-ran.result in
+    let after = c.run-ran.ensures in
+    let files = g.P.Process.files c.args.process.now in
+    let file = g.P.Process.supposed_file c.args.process.now in
+    let supposed = g.P.File.Source.supposed in
+    let sources = c.in-Ok-open_files.opened.grids.items in
     let grids_are = opened.grids in
+    let paths = subst (λ paths. AreFiles file supposed paths sources) asked.of_paths opened.files in
     record {
       given = given;
       known = known_words (g.P.Process.words c.args.process.now) words (given_same _ _ _ are c.in-Ok.ensures.given);
-      end = Ran outcome;
+      end = HasRun ran;
+      ran = refl;
+      names = asked.of_names;
       ends = record {
         accepted = c.in-Ok-read_words.ensures.refused;
-        opens = opens_after opened.opens c.report_error.ensures ∙ ap (λ paths. grown (g.P.Process.opened
+        opens = opens_after opened.opens c.report_error-status.ensures ∙ ap (λ paths. grown (g.P.Process.opened
             c.args.process.now) paths) (all_paths given request.script.now request.names.items (texts
             request.paths.items) asked);
         over = λ named text texts_are.
-            let grids = reports (g.P.Process.files c.args.process.now) g.P.File.Source.coming (drop 1 given)
-            c.in-Ok-open_files.opened.grids.items named
-            (grids_are.named ∙ asked.of_names)
-            (subst (λ paths. AllZip (λ path grid. GivesFile (g.P.Process.files c.args.process.now)
-            g.P.File.Source.coming path grid.1) paths c.in-Ok-open_files.opened.grids.items) asked.of_paths
-            grids_are.gives)
+            let grids = reports files g.P.File.Source.coming (drop 1 given) sources named (grids_are.named ∙
+            asked.of_names)
+            (subst (λ paths. AllZip (λ path grid. GivesFile files g.P.File.Source.coming path grid.1) paths sources)
+            asked.of_paths grids_are.gives)
             texts_are.grids in
-            let script = known_gives (g.P.Process.files c.args.process.now request.script.now) (ap (g.P.Process.files
-            c.args.process.now) asked.of_script ∙ texts_are.script) opened.gives in
+            let script = known_gives (files request.script.now) (ap files asked.of_script ∙ texts_are.script)
+            opened.gives in
+            let agree = known_agree g.P.File.Source.coming supposed g.met.P.File.Source.known g.met.P.File.Source.steady
+            sources c.in-Ok-open_files.opened.script ran named text grids script in
+            let hs = contents_of named in
             record {
-              done = c.run-outcome.ensures.done named text grids script;
-              refused = c.run-outcome.ensures.refused named text grids script;
-              stopped = c.run-outcome.ensures.stopped named text grids script;
-              headline = c.run-outcome.ensures.headline named text grids script;
+              done = after.done named text hs text agree.grids_are agree.script_is agree.grids_agree
+                  agree.script_agrees;
+              refused = after.refused named text hs text agree.grids_are agree.script_is agree.grids_agree
+                  agree.script_agrees;
+              stopped = after.stopped named text hs text agree.grids_are agree.script_is agree.grids_agree
+                  agree.script_agrees;
+              headline = after.headline named text hs text agree.grids_are agree.script_is agree.grids_agree
+                  agree.script_agrees;
             };
-        untouched = c.run-outcome.ensures.untouched;
-        status = c.run-outcome.ensures.status;
-        sound = c.run-outcome.ensures.sound;
-        write = c.run-outcome.ensures.write;
+        agreed = λ named text contents agree.
+            let hs = contents_of named in
+            let grids = supposes file supposed (drop 1 given) sources named (grids_are.named ∙ asked.of_names) paths
+            contents.grids in
+            let script = ap (λ (s : Supposed). to_come s text) (opened.supposed ∙ ap file asked.of_script)
+            ∙ contents.script in
+            record {
+              done = after.done named text hs text grids script agree.grids agree.script;
+              refused = after.refused named text hs text grids script agree.grids agree.script;
+              stopped = after.stopped named text hs text grids script agree.grids agree.script;
+              headline = after.headline named text hs text grids script agree.grids agree.script;
+            };
+        untouched = after.untouched;
+        status = after.status;
+        sound = after.sound;
+        write = after.write;
+        first = after.first;
       };
-      told = told_at (ap (λ names. run_place names outcome) (c.as_slice-names.ensures.value ∙ asked.of_names))
-          (told_after opened.opens c.report_error.ensures);
+      told = told_at (ap (λ names. run_place names ran.outcome) (c.as_slice-names.ensures.value ∙ asked.of_names))
+          (told_after opened.opens c.report_error-status.ensures);
     }
 
 pub returns-clause-headline : goal.returns-clause-headline
 returns-clause-headline g c = headline_of (returns-clause-work g c)
+
+pub returns-clause-files : goal.returns-clause-files
+returns-clause-files g c = done_over_files (returns-clause-work g c)
+
+pub returns-clause-asked : goal.returns-clause-asked
+returns-clause-asked g c =
+    let opened = c.in-Ok-open_files.ensures in
+    c.run-ran.ensures.asked opened.grids.fresh opened.script

@@ -1,5 +1,0 @@
-use Rattle.rcell_law.proofs.PartRunLemmas.{joined-runs-are-one-run}
-use Rattle.rcell_law.proofs.parts_law.joined_runs_are_one_run.Goals as goal
-
-pub returns : goal.returns
-returns c = joined-runs-are-one-run
