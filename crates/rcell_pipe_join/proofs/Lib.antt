@@ -1,0 +1,9 @@
+pub mod TileLemmas
+pub mod SideLemmas
+pub mod RunNumberLemmas
+pub mod NumberingLemmas
+pub mod SumLemmas
+pub mod BorderLemmas
+pub mod TableLemmas
+pub mod EndLemmas
+pub mod PatchLemmas

@@ -1,0 +1,75 @@
+-- The runs of tiles represent the numbers from which they were made.
+use Rattle.std.proofs.Common.{◌≡◌, ℕ, zero, suc, ◌+◌, ◌-◌, ◌≤◌, ◌==◌, List, [], ◌∷◌, ◌++◌, length, take, drop, sum}
+use Rattle.std.proofs.Common.{Bool, true, false, cond, refl, ap, sym, ◌∙◌, arith, add-one, append-nil, append_assoc}
+use Rattle.std.proofs.Common.{length-append, length-drop, flat_map}
+use Rattle.std.specs.List.{range_with_len}
+use Rattle.std.proofs.lemmas.Bool.Decides.{Decides-eqb}
+use Rattle.std.proofs.lemmas.List.{take-append-drop, take_all}
+use Rattle.std.proofs.lemmas.List.Concat.{flat_map-append}
+use Rattle.std.proofs.lemmas.List.Sums.{sum_by-cons}
+use Rattle.cell_join_numbers.specs.declared.stretch.Stretch.{Stretch}
+use Rattle.cell_join_numbers.specs.Stretches.{stretches_behind, stretches_from, stretches_in, stretches_of}
+
+abbrev numbers_of : List Stretch → List ℕ
+numbers_of runs = flat_map (λ (run : Stretch). range_with_len run.number (run.last + 1 - run.first)) runs
+
+range-push : (n count : ℕ) → range_with_len n (suc count) ≡ range_with_len n count ++ ((n + count) ∷ [])
+range-push n zero = ap (λ (k : ℕ). k ∷ []) (omega arith)
+range-push n (suc count) =
+    ap (λ (l : List ℕ). n ∷ l) (range-push (n + 1) count
+    ∙ ap (λ (k : ℕ). range_with_len (n + 1) count ++ (k ∷ [])) (omega arith))
+
+abbrev one : (tile first last number : ℕ) → Stretch
+one tile first last number = record { tile = tile; first = first; last = last; number = number }
+
+behind : (ns : List ℕ) (tile first last number previous : ℕ) → first ≤ last → previous ≡ number + (last - first)
+    → numbers_of (stretches_behind tile first last number previous ns) ≡ range_with_len number (last + 1 - first) ++ ns
+behind [] tile first last number previous up is = refl
+behind (n ∷ ns) tile first last number previous up is =
+    by (n == previous + 1) refl
+    (λ (same : n ≡ previous + 1).
+    behind ns tile first (last + 1) number n (omega (arith, up)) (omega (arith, up, is, same)))
+    (behind ns tile (last + 1) (last + 1) n n (omega arith) (omega arith))
+  where
+    by : (t : Bool) → (n == previous + 1) ≡ t
+        → (n ≡ previous + 1 → numbers_of (stretches_behind tile first (last + 1) number n ns)
+        ≡ range_with_len number (last + 1 + 1 - first) ++ ns)
+        → numbers_of (stretches_behind tile (last + 1) (last + 1) n n ns)
+        ≡ range_with_len n (last + 1 + 1 - (last + 1)) ++ ns
+        → numbers_of (cond t (stretches_behind tile first (last + 1) number n ns)
+        (one tile first last number ∷ stretches_behind tile (last + 1) (last + 1) n n ns))
+        ≡ range_with_len number (last + 1 - first) ++ (n ∷ ns)
+    by true next more anew =
+        let same : n ≡ previous + 1 = (Decides-eqb n (previous + 1)).0 next in
+        let long : last + 1 + 1 - first ≡ suc (last + 1 - first) = omega arith in
+        let own : number + (last + 1 - first) ≡ n = omega (arith, up, is, same) in
+        more same
+        ∙ ap (λ (k : ℕ). range_with_len number k ++ ns) long
+        ∙ ap (λ (l : List ℕ). l ++ ns) (range-push number (last + 1 - first))
+        ∙ append_assoc (range_with_len number (last + 1 - first)) ((number + (last + 1 - first)) ∷ []) ns
+        ∙ ap (λ (k : ℕ). range_with_len number (last + 1 - first) ++ (k ∷ ns)) own
+    by false next more anew =
+        let single : last + 1 + 1 - (last + 1) ≡ 1 = omega arith in
+        ap (λ (l : List ℕ). range_with_len number (last + 1 - first) ++ l)
+        (anew ∙ ap (λ (k : ℕ). range_with_len n k ++ ns) single)
+
+in-tile : (tile : ℕ) (ns : List ℕ) → numbers_of (stretches_in tile ns) ≡ ns
+in-tile tile [] = refl
+in-tile tile (n ∷ ns) = behind ns tile 1 1 n n (omega arith) (omega arith)
+
+of-tiles : (areas : List ℕ) (tile : ℕ) (numbers : List ℕ) → length numbers ≡ sum areas
+    → numbers_of (stretches_from tile areas numbers) ≡ numbers
+of-tiles [] tile [] same = refl
+of-tiles [] tile (n ∷ ns) same = absurd (omega arith)
+of-tiles (count ∷ areas) tile numbers same =
+    let total : sum (count ∷ areas) ≡ count + sum areas = sum_by-cons (λ (x : ℕ). x) count areas in
+    flat_map-append (λ (run : Stretch). range_with_len run.number (run.last + 1 - run.first))
+    (stretches_in tile (take count numbers)) (stretches_from (tile + 1) areas (drop count numbers))
+    ∙ (λ i. in-tile tile (take count numbers) i
+    ++ of-tiles areas (tile + 1) (drop count numbers) (omega (arith, length-drop count numbers)) i)
+    ∙ take-append-drop count numbers
+
+-- the numbers of all runs, one run after another
+pub runs-represent : (areas numbers : List ℕ) → length numbers ≡ sum areas
+    → numbers_of (stretches_of areas numbers) ≡ numbers
+runs-represent areas numbers same = of-tiles areas 1 numbers same

@@ -1,0 +1,8 @@
+use Rattle.std.proofs.Common.{take, flat_map}
+use Rattle.cell_core_devices.specs.Blocks.{Appends}
+use Rattle.rcell_pipe_frames.specs.FrameBytes.{number_bytes}
+use Rattle.rcell_pipe_join.proofs.join_frame.push_counts.Given as goal
+
+abbrev pub invariant-loop-entry : goal.invariant-loop-entry
+invariant-loop-entry g l = Appends g.W.Sink.taken g.W.Sink.faults l.fn.out l.fn.block
+    (flat_map (λ entry. number_bytes entry.1) (take l.entry-index l.entries)) l.out l.block

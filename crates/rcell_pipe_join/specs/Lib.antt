@@ -1,0 +1,10 @@
+-- Join requests and their responses.
+pub mod BorderChecks
+pub mod BorderGrids
+pub mod BorderLaw
+pub mod TableEntries
+pub mod JoinRequests
+pub mod JoinFrames
+pub mod JoinEnds
+pub mod JoinLaw
+pub mod parts

@@ -1,0 +1,8 @@
+//! The law of rejected borders.
+
+ghost use Rattle.rcell_pipe_join.specs.BorderLaw.{BordersPass};
+
+/// The border of a tile, with the numbers of its patches and their counts by row, is not rejected.
+pub fn borders_pass()
+    ensures { BordersPass }
+{}
