@@ -37,6 +37,16 @@ kind_status kinds.BadQuestion is = cc
 kind_status kinds.BadConnectivity is = cc
 kind_status kinds.BadDepth is = cc
 kind_status kinds.BadZones is = cc
+kind_status kinds.BadKind is = cc
+kind_status kinds.BadTileCount is = cc
+kind_status kinds.BadSize is = cc
+kind_status kinds.OtherSize is = cc
+kind_status kinds.BadBorder is = cc
+kind_status kinds.TooManyPatches is = cc
+kind_status kinds.BadWidth is = cc
+kind_status kinds.BadTableCount is = cc
+kind_status kinds.ZeroCount is = cc
+kind_status kinds.TooManyCells is = cc
 kind_status kinds.Trailing is = cc
 
 no_error : (error : Option PipeError) → end_status_after error ≡ 0 → error ≡ None

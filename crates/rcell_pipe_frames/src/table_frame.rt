@@ -14,6 +14,7 @@ use cell_core::block::OutputBlock;
 use cell_core::cell::Cell;
 use cell_core::shelf::Shelf;
 use cell_core::sink::Sink;
+use cell_stats::printing::label_of_cell;
 use cell_stats::table::{Listing, Table};
 use rcell_script::statement::StatsOptions;
 
@@ -60,20 +61,6 @@ fn push_combinations<W: Sink>(out: &mut W, block: &mut OutputBlock, entries: Lis
     }
 }
 
-// Returns the label of a cell of the map at index `place`.
-fn label_of<'a>(shelf: &'a Shelf, place: usize, cell: Cell) -> &'a [u8]
-    requires { place < length shelf.now.maps }
-    ensures { result.now ≡ label_of_cell shelf.now.maps place cell }
-{
-    match cell.get() {
-        None => b"no data",
-        Some(category) => match shelf.map(place).label(category) {
-            Some(label) => label,
-            None => b"",
-        },
-    }
-}
-
 /// Writes the labels of a combination's cells.
 pub(crate) fn push_cell_labels<W: Sink>(
     out: &mut W,
@@ -89,7 +76,7 @@ pub(crate) fn push_cell_labels<W: Sink>(
         out.new block.new }
 {
     for i in 0..cells.len() {
-        push_text(out, block, label_of(shelf, places[i], cells[i]));
+        push_text(out, block, label_of_cell(shelf, places[i], cells[i]));
     }
 }
 

@@ -50,6 +50,26 @@ pub enum ErrorKind {
     BadDepth,
     /// The name of a question's zones is not a map name.
     BadZones,
+    /// The kind of a join request is unknown.
+    BadKind,
+    /// There is no tile, or there are more than 4294967295.
+    BadTileCount,
+    /// A tile has no row, no column, or more than 65535 rows or columns.
+    BadSize,
+    /// A tile has other rows than the tiles on its left, or other columns than the tile above.
+    OtherSize,
+    /// The cells and the numbers of a border do not match.
+    BadBorder,
+    /// The tiles have 2^64 patches or more.
+    TooManyPatches,
+    /// A table has no map, or more than 16.
+    BadWidth,
+    /// There is no table.
+    BadTableCount,
+    /// The count of an entry of a table is 0.
+    ZeroCount,
+    /// The counts of the tables add up to 2^64 or more.
+    TooManyCells,
     /// There are bytes after the request.
     Trailing,
 }

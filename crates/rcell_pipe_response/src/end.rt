@@ -68,6 +68,16 @@ fn kind_text(kind: ErrorKind) -> &'static [u8]
         ErrorKind::BadConnectivity => b"bad connectivity",
         ErrorKind::BadDepth => b"bad depth",
         ErrorKind::BadZones => b"bad zones",
+        ErrorKind::BadKind => b"bad kind",
+        ErrorKind::BadTileCount => b"bad number of tiles",
+        ErrorKind::BadSize => b"bad size",
+        ErrorKind::OtherSize => b"other size",
+        ErrorKind::BadBorder => b"bad border",
+        ErrorKind::TooManyPatches => b"too many patches",
+        ErrorKind::BadWidth => b"bad width",
+        ErrorKind::BadTableCount => b"bad number of tables",
+        ErrorKind::ZeroCount => b"bad count",
+        ErrorKind::TooManyCells => b"too many cells",
         ErrorKind::Trailing => b"bytes after the request",
     }
 }

@@ -14,7 +14,7 @@ use cell_core::memory::Memory;
 use cell_core::shelf::Shelf;
 use cell_core::sink::Sink;
 use cell_stats::tallying::tally;
-use rcell::making::{make_classes, make_numbers, make_values};
+use rcell::making::make_map;
 use rcell_pipe_frames::cells_frame::push_cells_frame;
 use rcell_pipe_frames::map_frame::push_grid;
 use rcell_pipe_frames::table_frame::push_table;
@@ -37,8 +37,8 @@ fn push_stats<W: Sink>(
     line: u64,
     places: &[usize],
     options: &StatsOptions,
-    block: &mut OutputBlock,
     out: &mut W,
+    block: &mut OutputBlock,
 ) -> Result<(), Memory>
     requires within { All (λ place. place < length shelf.now.maps) places.now }
     requires some { 1 ≤ length places.now }
@@ -77,19 +77,8 @@ fn execute_statement<W: Sink>(
     let _maps = shelf.len();
     let line = statement.line;
     match &statement.command {
-        Command::Mapcalc { target, bound } => make_values(alloc, shelf, target, bound),
-        Command::Reclass {
-            place,
-            target,
-            rules,
-        } => make_classes(alloc, shelf, *place, target, rules),
-        Command::Clump {
-            place,
-            target,
-            joining,
-        } => make_numbers(alloc, shelf, *place, target, *joining),
         Command::Stats { places, options } => {
-            push_stats(alloc, shelf, line, places.as_slice(), options, block, out)
+            push_stats(alloc, shelf, line, places.as_slice(), options, out, block)
         }
         Command::OutAscii { place, null_text } => push_grid(
             alloc,
@@ -100,6 +89,9 @@ fn execute_statement<W: Sink>(
             shelf.name(*place).bytes(),
             shelf.map(*place),
         ),
+        Command::Mapcalc { .. } => make_map(alloc, shelf, &statement.command),
+        Command::Reclass { .. } => make_map(alloc, shelf, &statement.command),
+        Command::Clump { .. } => make_map(alloc, shelf, &statement.command),
     }
 }
 

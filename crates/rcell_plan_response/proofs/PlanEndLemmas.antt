@@ -44,6 +44,8 @@ use Rattle.rcell_plan_response.specs.PlanDetails.{StatementDetails, statement_de
 use Rattle.rcell_plan_response.specs.PlanRequests.{PlanRequestValue, plan_at}
 use Rattle.rcell_plan_response.specs.PlanFrames.{plans_bytes, plan_response}
 use Rattle.rcell_plan_response.specs.PlanEnds.{IsPlanResponse}
+use Rattle.rcell_pipe_join.specs.JoinEnds.{IsJoinResponse}
+use Rattle.rcell_pipe_join.specs.JoinRequests.{JoinRequestValue, join_at, join_request_of}
 use Rattle.rcell_plan_response.specs.Responses.{form_at, run_request_of, plan_request_of, IsResponseTo, IsRequestAccepted, AsksForFrames}
 use Rattle.rcell_plan_response.specs.Responses.{IsAskedBy, WritesFrames}
 use Rattle.rcell_plan_response.specs.parts.RequestStops.{error_of_stop, end_of_stop}
@@ -135,12 +137,20 @@ stopped_plan stops.Memory old new fails c is = (fails c is, refl)
 stopped_plan (stops.Error error) old new fails c is =
     let at = fails c is in (at.0, (ap (λ r. r >>= λ plan. Ok plan.0) at.1, refl))
 
+pub stopped_join : (stop : RequestStop) (old new : FeedValue) → PlacedFails stop old new join_at
+    → (c : Coming) → fits c new ≡ true → (fits c old ≡ true)
+    × IsJoinResponse (join_request_of (left c old)) (response_bytes [] (end_of_stop stop)) (Some (error_of_stop stop))
+stopped_join stops.Memory old new fails c is = (fails c is, refl)
+stopped_join (stops.Error error) old new fails c is =
+    let at = fails c is in (at.0, (ap (λ r. r >>= λ request. Ok request.0) at.1, refl))
+
 -- out of memory is a response to a request of any form
 pub memory_form : (form : FieldReading RequestForm)
     → IsResponseTo form (response_bytes [] (memory_end 0)) (Some errors.Memory)
 memory_form (Err kind) = refl
 memory_form (Ok (form.Run run, rest)) = refl
 memory_form (Ok (form.Plan, rest)) = refl
+memory_form (Ok (form.Join, rest)) = refl
 
 -- the first eight bytes could not be read
 pub stopped_form : (stop : FieldStop) (old new : FeedValue) → FieldFails stop old new form_at
@@ -171,6 +181,17 @@ only_end_of_plan read response (Some (errors.MemoryAt line)) is = tt
 only_end_of_plan read response (Some errors.MemoryAtQuestion) is = tt
 only_end_of_plan read response (Some errors.Write) is = tt
 
+pub only_end_of_join : (read : Result JoinRequestValue RequestError) (response : List ℕ) (error : Option PipeError)
+    → IsJoinResponse read response error → IsOnlyEnd response error
+only_end_of_join read response None is = tt
+only_end_of_join read response (Some (errors.Request error)) is = is.1
+only_end_of_join read response (Some (errors.Script error)) is = absurd is
+only_end_of_join read response (Some (errors.Question error)) is = absurd is
+only_end_of_join read response (Some errors.Memory) is = is
+only_end_of_join read response (Some (errors.MemoryAt line)) is = tt
+only_end_of_join read response (Some errors.MemoryAtQuestion) is = tt
+only_end_of_join read response (Some errors.Write) is = tt
+
 -- ---- the read state of the source
 
 -- after a request that could be read, the source has been read to its end
@@ -196,6 +217,17 @@ asked_of_plan request response (Some errors.Memory) is end = λ again. cc
 asked_of_plan request response (Some (errors.MemoryAt line)) is end = end
 asked_of_plan request response (Some errors.MemoryAtQuestion) is end = end
 asked_of_plan request response (Some errors.Write) is end = end
+
+pub asked_of_join : (request : JoinRequestValue) (response : List ℕ) (error : Option PipeError) {asked : Asked}
+    → IsJoinResponse (Ok request) response error → asked ≡ Ended → IsAskedBy error asked
+asked_of_join request response None is end = end
+asked_of_join request response (Some (errors.Request error)) is end = cc is.0
+asked_of_join request response (Some (errors.Script error)) is end = end
+asked_of_join request response (Some (errors.Question error)) is end = end
+asked_of_join request response (Some errors.Memory) is end = λ again. cc
+asked_of_join request response (Some (errors.MemoryAt line)) is end = end
+asked_of_join request response (Some errors.MemoryAtQuestion) is end = end
+asked_of_join request response (Some errors.Write) is end = end
 
 -- after a request that could not be read, the source has been read up to the error
 pub asked_of_stop : (stop : RequestStop) (error : Option PipeError) {asked : Asked} → error ≡ Some (error_of_stop stop)
@@ -275,6 +307,9 @@ refused law one (Ok (form.Plan, rest)) accepted response (errors.Script fault) l
     law is.names is.script accepted.1.0 fault
     (subst (λ (r : PlanRequestValue). IsScript r.names r.script accepted.1.0) same accepted.1.1.denoted) is.first
 refused law one (Ok (form.Plan, rest)) accepted response (errors.Question error) lasts fine is = is
+refused law one (Ok (form.Join, rest)) accepted response (errors.Request e) lasts fine is = cc (is.0, accepted.1)
+refused law one (Ok (form.Join, rest)) accepted response (errors.Script fault) lasts fine is = is
+refused law one (Ok (form.Join, rest)) accepted response (errors.Question error) lasts fine is = is
 refused law one form accepted response errors.Memory lasts fine is = lasts refl
 refused law one form accepted response (errors.MemoryAt line) lasts fine is = lasts refl
 refused law one form accepted response errors.MemoryAtQuestion lasts fine is = lasts refl

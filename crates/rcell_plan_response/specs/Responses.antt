@@ -23,8 +23,10 @@ use Rattle.rcell_pipe_frames.specs.Frames.{OutputFrame}
 use Rattle.rcell_pipe_frames.specs.FrameBytes.{response_bytes}
 use Rattle.rcell_pipe_response.specs.RunEnds.{done_end, IsResponse, IsPipeAccepted, GivesAll}
 use Rattle.rcell_plan_response.specs.declared.responding.RequestForm.{RequestForm}
-use Rattle.rcell_plan_response.specs.declared.responding.RequestForm.TheVariants.{Run, Plan}
+use Rattle.rcell_plan_response.specs.declared.responding.RequestForm.TheVariants.{Run, Plan, Join}
 use Rattle.rcell_pipe_response.specs.declared.frame_run.RunForm.TheVariants.{Frames, Text}
+use Rattle.rcell_pipe_join.specs.JoinEnds.{IsJoinResponse}
+use Rattle.rcell_pipe_join.specs.JoinRequests.{JoinRequestValue, join_request_of}
 use Rattle.rcell_plan_response.specs.PlanRequests.{PlanRequestValue, plan_at}
 use Rattle.rcell_plan_response.specs.PlanEnds.{IsPlanResponse, IsPlanAccepted}
 
@@ -32,7 +34,8 @@ use Rattle.rcell_plan_response.specs.PlanEnds.{IsPlanResponse, IsPlanAccepted}
 abbrev pub form_of : List ℕ → Option RequestForm
 form_of magic = if bytes_eq magic (codes "RCELLQ1\n") then Some (Run Frames) else
     (if bytes_eq magic (codes "RCELLT1\n") then Some (Run Text) else
-    (if bytes_eq magic (codes "RCELLP1\n") then Some Plan else None))
+    (if bytes_eq magic (codes "RCELLP1\n") then Some Plan else
+    (if bytes_eq magic (codes "RCELLJ1\n") then Some Join else None)))
 
 -- the form, read from the first eight bytes
 unfoldable pub form_at : Coming → FieldReading RequestForm
@@ -54,6 +57,7 @@ abbrev pub IsResponseTo : FieldReading RequestForm → List ℕ → Option PipeE
 IsResponseTo (Err kind) response error = IsResponse Frames (Err (record { kind = kind; maps = 0; row = 0 })) response error
 IsResponseTo (Ok (Run form, rest)) response error = IsResponse form (run_request_of rest) response error
 IsResponseTo (Ok (Plan, rest)) response error = IsPlanResponse (plan_request_of rest) response error
+IsResponseTo (Ok (Join, rest)) response error = IsJoinResponse (join_request_of rest) response error
 
 -- the response to the bytes returned in this call, for the error that it reports: for any content that the source may
 -- hold, given the bytes before and in this call and the read state, this is the response to the bytes after `before`
@@ -74,7 +78,7 @@ IsAskedBy (Some (errors.MemoryAt line)) asked = asked ≡ Ended
 IsAskedBy (Some errors.MemoryAtQuestion) asked = asked ≡ Ended
 IsAskedBy (Some errors.Write) asked = asked ≡ Ended
 
--- the bytes are a request, its script denotes statements, and no question is rejected
+-- the bytes are a request, its script, if any, denotes statements, and no question is rejected
 abbrev pub IsRequestAccepted : FieldReading RequestForm → Type 0
 IsRequestAccepted (Err kind) = ⊥
 IsRequestAccepted (Ok (Run form, rest)) = (shelf : ShelfValue) ×
@@ -82,6 +86,7 @@ IsRequestAccepted (Ok (Run form, rest)) = (shelf : ShelfValue) ×
     × IsPipeAccepted form (run_request_of rest) shelf statements questions))
 IsRequestAccepted (Ok (Plan, rest)) = (names : List (List ℕ)) ×
     ((statements : List Statement) × IsPlanAccepted (plan_request_of rest) names statements)
+IsRequestAccepted (Ok (Join, rest)) = (request : JoinRequestValue) × (join_request_of rest ≡ Ok request)
 
 -- the bytes ask for the frames of a script over these maps and of questions, and the script denotes these statements
 pub record AsksForFrames (c : Coming) (shelf : ShelfValue) (statements : List Statement)

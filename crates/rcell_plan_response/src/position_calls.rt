@@ -1,7 +1,6 @@
 //! Finds the calls of `row()`, `col()`, `nrows()` and `ncols()` in the line of an r.mapcalc.
 
 ghost use Rattle.std.specs.Prelude.{◌≡◌, ◌≤◌, IfOk, length};
-ghost use Rattle.rcell_script_commands.specs.RMapcalc.{text_after_command, after_command, assignment_text};
 ghost use Rattle.rcell_plan_response.specs.PositionCalls.{position_code, token_code, opens_call, closes_call, call_of, call_from, calls_among, calls_in_line};
 
 use cell_calc_grammar::calc_fault::CalcKind;
@@ -9,7 +8,7 @@ use cell_calc_grammar::function::{Function, function_of};
 use cell_calc_grammar::token::{Placed, Sign, Token};
 use cell_calc_grammar::tokens::tokens;
 use cell_core::memory::Memory;
-use cell_core_values::blanks::{after_blanks, is_blank};
+use rcell_script_commands::r_mapcalc::assignment_text;
 use std::alloc::Global;
 
 /// A call, from the column of its first byte to the column of its last byte. Columns start at 1.
@@ -97,31 +96,6 @@ fn calls_among(alloc: Global, tokens: &[Placed]) -> Result<Vec<PositionCall>, Me
         rest = others;
     }
     Ok(calls)
-}
-
-fn after_word<'a>(text: &'a [u8]) -> &'a [u8]
-    ensures text { result.now ≡ text_after_command text.now }
-    ensures shorter { length result.now ≤ length text.now }
-{
-    let mut rest = text;
-    while let [b, others @ ..] = rest {
-        if is_blank(*b) {
-            return rest;
-        }
-        rest = others;
-    }
-    rest
-}
-
-// Returns the line with blanks in place of the command name, so that columns do not change.
-fn assignment_text(alloc: Global, line: &[u8]) -> Result<Vec<u8>, Memory>
-    ensures text { IfOk result (λ text. text.items ≡ assignment_text line.now) }
-    ensures length { IfOk result (λ text. length text.items ≡ length line.now) }
-{
-    let rest = after_word(after_blanks(line));
-    let mut text = vec![in alloc; b' '; line.len() - rest.len()]?;
-    text.extend_from_slice(rest)?;
-    Ok(text)
 }
 
 /// Returns the calls in the line of an r.mapcalc, from left to right.

@@ -11,6 +11,8 @@ ghost use Rattle.rcell_pipe_request.specs.Questions.{QuestionValue};
 ghost use Rattle.rcell_pipe_frames.specs.FrameBytes.{response_bytes};
 ghost use Rattle.rcell_pipe_response.specs.RunEnds.{end_status_after, IsResponse, HasResponded, HasUsed, IsOnlyEnd};
 ghost use Rattle.rcell_pipe_response.specs.FrameEndings.{Finished, EndsAs};
+ghost use Rattle.rcell_pipe_join.specs.JoinEnds.{IsJoinResponse};
+ghost use Rattle.rcell_pipe_join.specs.JoinRequests.{join_request_of};
 ghost use Rattle.rcell_plan_response.specs.PlanEnds.{IsPlanResponse};
 ghost use Rattle.rcell_plan_response.specs.Responses.{form_of, form_at, IsAskedBy, run_request_of, plan_request_of, IsResponseTo, IsResponseToGiven, IsRequestAccepted, AsksForFrames, WritesFrames};
 ghost use Rattle.rcell_plan_response.specs.parts.RequestStops.{error_of_stop, end_of_stop};
@@ -20,6 +22,8 @@ use crate::plan_request::read_plan;
 use crate::plan_response::plan_request;
 use cell_core::sink::Sink;
 use cell_core::source::{Asked, ReadSource};
+use rcell_pipe_join::join_request::read_join;
+use rcell_pipe_join::join_response::join_request;
 use rcell_pipe_request::error::{ErrorKind, FieldStop, RequestStop};
 use rcell_pipe_request::feed::{Feed, new_block, read_into};
 use rcell_pipe_request::request::read_run;
@@ -36,6 +40,8 @@ pub enum RequestForm {
     Run(RunForm),
     /// Reports what the statements of a script read, make and write.
     Plan,
+    /// Joins the results of tiles.
+    Join,
 }
 
 fn is_run(magic: &[u8]) -> bool
@@ -56,6 +62,12 @@ fn is_plan(magic: &[u8]) -> bool
     magic == b"RCELLP1\n".as_slice()
 }
 
+fn is_join(magic: &[u8]) -> bool
+    ensures { result ≡ bytes_eq magic.now (codes "RCELLJ1\n") }
+{
+    magic == b"RCELLJ1\n".as_slice()
+}
+
 fn form_of(magic: &[u8]) -> Option<RequestForm>
     ensures { result ≡ form_of magic.now }
 {
@@ -67,6 +79,9 @@ fn form_of(magic: &[u8]) -> Option<RequestForm>
     }
     if is_plan(magic) {
         return Some(RequestForm::Plan);
+    }
+    if is_join(magic) {
+        return Some(RequestForm::Join);
     }
     None
 }
@@ -126,6 +141,19 @@ fn respond_to_plan<R: Read, W: Sink>(alloc: Global, feed: &mut Feed<R>, out: &mu
     }
 }
 
+// Reads a join request after its first eight bytes, and responds to it.
+fn respond_to_join<R: Read, W: Sink>(alloc: Global, feed: &mut Feed<R>, out: &mut W) -> PipeOutcome
+    ensures end { EndsAs
+        (IsOfFeed feed.old feed.new (λ c. IsJoinResponse (join_request_of c)))
+        (W.taken out.old) (W.faults out.old) (W.taken out.new) (W.faults out.new) result }
+    ensures asked { feed.old.asked ≡ Asked.Going → IsAskedBy result.reported feed.new.asked }
+{
+    match read_join(alloc, feed) {
+        Ok(request) => join_request(alloc, request, out),
+        Err(stop) => reject_stop(out, stop),
+    }
+}
+
 // Reads a request of any form, and responds to it.
 fn respond_to<R: Read, W: Sink>(alloc: Global, feed: &mut Feed<R>, out: &mut W) -> PipeOutcome
     ensures end { EndsAs
@@ -139,6 +167,7 @@ fn respond_to<R: Read, W: Sink>(alloc: Global, feed: &mut Feed<R>, out: &mut W) 
         Ok(form) => match form {
             RequestForm::Run(form) => respond_to_run(alloc, feed, form, out),
             RequestForm::Plan => respond_to_plan(alloc, feed, out),
+            RequestForm::Join => respond_to_join(alloc, feed, out),
         },
         Err(stop) => reject_stop(out, stop.at(0, 0)),
     }
@@ -179,7 +208,7 @@ fn respond_whole<R: Read + Drop, W: Sink>(
     }
 }
 
-/// Reads a request, runs or plans its script, and writes the response.
+/// Reads a request, runs or plans its script or joins the results of tiles, and writes the response.
 ///
 /// The request is read to its end before the first statement is executed. All memory for a statement or question is
 /// allocated before its first byte is written, and all memory for a plan before the first byte of the response.

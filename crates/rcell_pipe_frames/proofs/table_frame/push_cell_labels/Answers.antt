@@ -21,7 +21,7 @@ loop-i-preserved g c =
     let at = zip-at places cells i within c.requires.width c.index-cells-i.result c.index-cells-i.is in
     let in_zip = zip-within places cells i within c.requires.width in
     rw (flat_map-take (λ (p : ℕ × CellValue). text_bytes (label_of_cell c.args.shelf.now.maps p.0 p.1)) (zip places cells) i (0, c.index-cells-i.result) (get_or places i 0, c.index-cells-i.result) in_zip at)
-    (appends_then c.loop-i.invariant (rw c.label_of.ensures at c.push_text.ensures))
+    (appends_then c.loop-i.invariant (rw c.label_of_cell.ensures at c.push_text.ensures))
 
 pub returns : goal.returns
 returns g c =

@@ -23,12 +23,6 @@ grid_command : (shelf : ShelfValue) (line : ℕ) (command : Command) (place : �
     → grid_bytes (grid_frame line null_text name grid) ≡ frames_bytes (command_frames shelf line command)
 grid_command shelf line command place null_text name grid is map named = rw (is, map, named) (sym (append-nil (grid_bytes (grid_frame line null_text name grid))))
 
-pub returns-in-Mapcalc-clause-after : goal.returns-in-Mapcalc-clause-after
-returns-in-Mapcalc-clause-after g c = rw c.in-Mapcalc.is c.make_values.ensures.ok
-
-pub returns-in-Clump-clause-after : goal.returns-in-Clump-clause-after
-returns-in-Clump-clause-after g c = rw c.in-Clump.is c.make_numbers.ensures.ok
-
 pub returns-in-Stats-clause-after : goal.returns-in-Stats-clause-after
 returns-in-Stats-clause-after g c = whenever_ok c.push_stats.result _ (rw c.in-Stats.is refl)
 

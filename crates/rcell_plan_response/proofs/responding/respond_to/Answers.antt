@@ -1,6 +1,8 @@
 use Rattle.std.proofs.Common.{◌≡◌, Some}
 use Rattle.rcell_pipe_response.specs.RunEnds.{IsResponse}
 use Rattle.rcell_pipe_response.proofs.EndLemmas.{ends_as}
+use Rattle.rcell_pipe_join.specs.JoinEnds.{IsJoinResponse}
+use Rattle.rcell_pipe_join.specs.JoinRequests.{join_request_of}
 use Rattle.rcell_plan_response.specs.PlanEnds.{IsPlanResponse}
 use Rattle.rcell_plan_response.specs.Responses.{form_at, run_request_of, plan_request_of, IsResponseTo}
 use Rattle.rcell_plan_response.specs.parts.RequestStops.{error_of_stop}
@@ -40,6 +42,22 @@ returns-in-Plan-clause-end g c =
 
 pub returns-in-Plan-clause-asked : goal.returns-in-Plan-clause-asked
 returns-in-Plan-clause-asked g c = λ going. c.respond_to_plan.ensures.asked (c.in-Ok.ensures.1 going)
+
+pub returns-in-Join-clause-end : goal.returns-in-Join-clause-end
+returns-in-Join-clause-end g c =
+    ends_more (IsOfFeed c.read_form.new.feed c.respond_to_join.new.feed (λ x. IsJoinResponse (join_request_of x)))
+    (IsOfFeed c.args.feed.now c.respond_to_join.new.feed (λ x. IsResponseTo (form_at x)))
+    (λ response error is. (
+      is.0,
+      λ x fit.
+          let of_join = is.1 x fit in
+          let form = c.in-Ok.ensures.0 x of_join.0 in
+          (form.0, rw (form.1, c.in-Join.is) of_join.1),
+    ))
+    c.respond_to_join.ensures.end
+
+pub returns-in-Join-clause-asked : goal.returns-in-Join-clause-asked
+returns-in-Join-clause-asked g c = λ going. c.respond_to_join.ensures.asked (c.in-Ok.ensures.1 going)
 
 pub returns-in-Err-clause-end : goal.returns-in-Err-clause-end
 returns-in-Err-clause-end g c =
