@@ -11,7 +11,7 @@ documents=share/doc/rcell
 shared=share/rcell
 installed=$shared/installed
 pages=share/man/man1
-programs='rcell rcell-join rcell-pipe'
+programs='rcell rcell-pipe'
 # The pages that others link to, next to docs/ and examples/.
 other_pages='README.md CHANGELOG.md LICENSE.md CITATION.cff VERSION CONTRIBUTING.md SECURITY.md CODE_OF_CONDUCT.md
     bench/RESULTS.md bench/hostile.md fronts/README.md'
@@ -51,7 +51,7 @@ helpers() {
     done
 }
 
-# A manual page names the version that it belongs to. The pages of rcell and rcell-join are made from docs/.
+# A manual page names the version that it belongs to. The page of rcell is made from docs/commands.md.
 put() {
     install -d -m 755 "$(dirname "$3")"
     case $2 in

@@ -10,7 +10,7 @@ room=$(mktemp -d)
 trap 'rm -rf "$room"' EXIT
 mkdir -p "$dist"
 dist=$(cd "$dist" && pwd)
-for program in rcell rcell-join rcell-pipe; do
+for program in rcell rcell-pipe; do
     [ -x "bin/$program-static" ] || { echo "rcell: bin/$program-static is missing: run make static first" >&2; exit 1; }
 done
 

@@ -10,3 +10,8 @@ pub mod AreaLemmas
 pub mod CornerLemmas
 pub mod PartLemmas
 pub mod WithoutLemmas
+pub mod NumberedTiles
+pub mod SizeLemmas
+pub mod NumberTableLemmas
+pub mod ListedSizeLemmas
+pub mod TileSizeLemmas

@@ -5,3 +5,7 @@ pub mod ReclassLaw
 pub mod AreaLaw
 pub mod CornerLaw
 pub mod PartLaw
+pub mod SizeLaw
+pub mod SummedSizes
+pub mod NumberTables
+pub mod TileSizes

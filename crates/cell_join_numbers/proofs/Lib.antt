@@ -7,3 +7,4 @@ pub mod SparseLemmas
 pub mod SearchLemmas
 pub mod PairLabelLemmas
 pub mod NumberedLemmas
+pub mod StretchStepLemmas

@@ -4,3 +4,4 @@ pub mod UnionFind
 pub mod LabelNumbers
 pub mod SparseLabels
 pub mod SparseNumbers
+pub mod Stretches

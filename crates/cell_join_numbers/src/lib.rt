@@ -6,6 +6,7 @@
 //!
 //! - `numbers`: `number_pairs` computes `SparseNumbers` from pairs
 //! - `sparse`: the paired labels, each once and in order; `place_of` counts the paired labels before a label
+//! - `stretch`: `Stretch`, a run: clumps of a tile with consecutive numbers in the full map
 //! - `union_find`: a table of the paired labels' nodes, two of which can be united
 //! - `law`: `sparse_labels_number`: the numbers equal the full map's clump numbers
 //!
@@ -15,4 +16,5 @@
 pub mod law;
 pub mod numbers;
 pub mod sparse;
+pub mod stretch;
 pub mod union_find;

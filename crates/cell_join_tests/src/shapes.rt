@@ -1,9 +1,9 @@
 //! Tests shapes that cross the seams between tiles: parts that meet only far away are one clump.
 
-use crate::assertions::assert_same;
 use crate::random::expect_as_whole;
 use crate::tiles::{Whole, joined_numbers};
 use cell_cats_areas::clump::Joining;
+use cell_core_test_maps::assert_same;
 use std::alloc::AllocGlobal;
 use std::test::Fail;
 

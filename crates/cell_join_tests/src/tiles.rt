@@ -2,11 +2,11 @@
 
 ghost use Rattle.std.specs.Prelude.{◌<◌, ◌≡◌};
 
-use crate::assertions::assert_same;
 use cell_cats_areas::clump::{Joining, clump_with};
 use cell_core::map::CellMap;
+use cell_core_test_maps::assert_same;
 use cell_core_test_maps::maps::{NULL, categories_of, map_of};
-use cell_join_lines::stretch::Stretch;
+use cell_join_numbers::stretch::Stretch;
 use cell_join_tiles::begun::begun_by_row;
 use cell_join_tiles::border::{Border, Side};
 use cell_join_tiles::joiner::{JoinerFault, TileJoiner};
@@ -133,7 +133,7 @@ fn row_of_tiles(
 // Returns the full map's number for a tile's clump, from the runs of a numbering.
 fn number_in(runs: &[Stretch], part: u64, clump: u64) -> u64 {
     for run in runs {
-        if run.band == part && run.first <= clump && clump <= run.last {
+        if run.tile == part && run.first <= clump && clump <= run.last {
             return run.number.saturating_add(clump.saturating_sub(run.first));
         }
     }

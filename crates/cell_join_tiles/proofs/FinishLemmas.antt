@@ -13,8 +13,8 @@ use Rattle.cell_core.specs.Grid.{Grid}
 use Rattle.cell_cats_areas.specs.declared.clump.Joining.{Joining}
 use Rattle.cell_cats_areas.specs.Areas.{Position, cell_at_position, HasNumber}
 use Rattle.cell_parts.specs.AreaParts.{moved_position}
-use Rattle.cell_join_lines.specs.AreasText.{stretches_from, stretches_in, stretches_of}
-use Rattle.cell_join_lines.specs.declared.stretch.Stretch.{Stretch}
+use Rattle.cell_join_numbers.specs.Stretches.{stretches_from, stretches_in, stretches_of}
+use Rattle.cell_join_numbers.specs.declared.stretch.Stretch.{Stretch}
 use Rattle.cell_join_numbers.specs.Labelled.{HasAreas}
 use Rattle.cell_join_numbers.proofs.NumberLemmas.{is-some}
 use Rattle.cell_join_numbers.specs.SparseNumbers.{AreBelow, NumberPairs}

@@ -6,8 +6,8 @@ use Rattle.std.proofs.lemmas.List.{map-append}
 use Rattle.std.proofs.lemmas.List.Sums.{count_by-le-length}
 use Rattle.std.proofs.Math.Seq.{drop-cons}
 use Rattle.std.specs.Global.{Global}
-use Rattle.cell_join_lines.specs.AreasText.{stretches_in}
-use Rattle.cell_join_lines.specs.declared.stretch.Stretch.{Stretch}
+use Rattle.cell_join_numbers.specs.Stretches.{stretches_in}
+use Rattle.cell_join_numbers.specs.declared.stretch.Stretch.{Stretch}
 use Rattle.cell_join_numbers.specs.declared.numbers.SparseNumbers.{SparseNumbers}
 use Rattle.cell_join_numbers.specs.SparseLabels.{labels_before}
 use Rattle.cell_join_numbers.specs.SparseNumbers.{AreInPlaces, AreNumbersOf}

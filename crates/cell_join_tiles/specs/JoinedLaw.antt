@@ -1,7 +1,7 @@
 -- What the joiner keeps of joined rows of tiles is enough for the next row, and for the numbering of each map that is
 -- cut into these tiles.
 use Rattle.std.specs.Prelude.{ℕ, ◌≡◌, ◌+◌, ◌-◌, List, [], ◌∷◌, ◌++◌, length, slice_index}
-use Rattle.cell_join_lines.specs.declared.stretch.Stretch.{Stretch}
+use Rattle.cell_join_numbers.specs.declared.stretch.Stretch.{Stretch}
 use Rattle.cell_join_numbers.specs.SparseNumbers.{NumberPairs}
 use Rattle.cell_join_tiles.specs.Beginnings.{clumps_in_row}
 use Rattle.cell_join_tiles.specs.SeamLines.{line_meetings}

@@ -5,8 +5,8 @@ use Rattle.cell_core.specs.Grid.{Grid}
 use Rattle.cell_cats_areas.specs.declared.clump.Joining.{Joining}
 use Rattle.cell_cats_areas.specs.Areas.{Position, cell_at_position, HasNumber}
 use Rattle.cell_parts.specs.AreaParts.{moved_position}
-use Rattle.cell_join_lines.specs.AreasText.{stretches_of}
-use Rattle.cell_join_lines.specs.declared.stretch.Stretch.{Stretch}
+use Rattle.cell_join_numbers.specs.Stretches.{stretches_of}
+use Rattle.cell_join_numbers.specs.declared.stretch.Stretch.{Stretch}
 use Rattle.cell_join_numbers.specs.Labelled.{HasAreas}
 use Rattle.cell_join_tiles.specs.Beginnings.{clumps_in_row, clumps_in_grid, IsCutIntoTiles, tile_place}
 use Rattle.cell_join_tiles.specs.SeamLines.{Line, line_meetings}

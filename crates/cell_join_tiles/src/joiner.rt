@@ -14,8 +14,8 @@ use crate::spans::Span;
 use crate::tile_rows::{RowJoin, clumps_with_row, join_row, rows_of};
 use cell_cats_areas::clump::Joining;
 use cell_core::memory::Memory;
-use cell_join_lines::stretch::Stretch;
 use cell_join_numbers::numbers::number_pairs;
+use cell_join_numbers::stretch::Stretch;
 use std::alloc::Global;
 use std::marker::Model;
 

@@ -2,8 +2,8 @@
 
 ghost use Rattle.std.specs.Prelude.{ℕ, ◌≡◌, ◌≤◌, ◌<◌, ◌+◌, ◌-◌, ◌++◌, ◌^◌, ◌↔◌, List, IfOk, IsTrue, OnOk, length, map, slice_index};
 ghost use Rattle.std.specs.List.{range_with_len};
-ghost use Rattle.cell_join_lines.specs.AreasText.{stretches_in};
-ghost use Rattle.cell_join_lines.specs.declared.stretch.Stretch.{Stretch};
+ghost use Rattle.cell_join_numbers.specs.Stretches.{stretches_in};
+ghost use Rattle.cell_join_numbers.specs.declared.stretch.Stretch.{Stretch};
 ghost use Rattle.cell_join_numbers.specs.SparseLabels.{labels_before};
 ghost use Rattle.cell_join_numbers.specs.SparseNumbers.{AreInPlaces, AreNumbersOf};
 ghost use Rattle.cell_join_tiles.specs.parts.RunLines.{AreInLines, areas_of_line};
@@ -13,9 +13,9 @@ ghost use Rattle.cell_join_tiles.specs.parts.Spans.{AllFit, SpanFits, SpansFit, 
 use crate::run_lines::{Line, Run, add_run};
 use crate::spans::Span;
 use cell_core::memory::Memory;
-use cell_join_lines::stretch::Stretch;
 use cell_join_numbers::numbers::SparseNumbers;
 use cell_join_numbers::sparse::place_of;
+use cell_join_numbers::stretch::Stretch;
 use std::alloc::Global;
 
 // Returns whether another paired label comes before `end`.

@@ -8,7 +8,8 @@
 //! - `joiner`: `TileJoiner`: `add` accepts a row of tiles from the left, and `finish` returns `JoinedTiles`, the
 //!   numbers in the full map as runs, and the number of clumps
 //! - `law`: from borders to labels, and from labels to numbers; the main law is `joined_tiles_number`
-//! - private, in the order of work: `tile_rows`: one row of tiles; `row_labels`, `spans`: its labels; `marks`: cells
+//! - `tile_rows`: one row of tiles; `clumps_with_row` counts its clumps
+//! - private, in the order of work: `row_labels`, `spans`: its labels; `marks`: cells
 //!   along a seam; `meetings`: the pairs there; `label_runs`, `run_lines`: the result
 //!
 //! In the tests, `row_of_tiles` makes the borders of a row:
@@ -35,4 +36,4 @@ mod meetings;
 mod row_labels;
 mod run_lines;
 mod spans;
-mod tile_rows;
+pub mod tile_rows;

@@ -2,11 +2,11 @@
 
 ghost use Rattle.std.specs.Prelude.{◌≡◌, ◌+◌, ◌<◌, ◌^◌, ◌++◌, ℕ, List, IfOk};
 ghost use Rattle.std.specs.List.{range_with_len};
-ghost use Rattle.cell_join_lines.specs.declared.stretch.Stretch.{Stretch};
+ghost use Rattle.cell_join_numbers.specs.declared.stretch.Stretch.{Stretch};
 ghost use Rattle.cell_join_tiles.specs.parts.RunLines.{AreInLines, areas_of_line};
 
 use cell_core::memory::Memory;
-use cell_join_lines::stretch::{Stretch, is_next};
+use cell_join_numbers::stretch::{Stretch, is_next};
 
 // The last run of a tile so far, which may continue, and the number of its last clump.
 #[derive(Clone, Copy)]
@@ -42,7 +42,7 @@ pub(crate) fn add_run(
 {
     let Some(line) = line else {
         let stretch = Stretch {
-            band: part,
+            tile: part,
             first: 1,
             last: run.count,
             number: run.first,
@@ -65,7 +65,7 @@ pub(crate) fn add_run(
     }
     stretches.push(line.stretch)?;
     let stretch = Stretch {
-        band: line.stretch.band,
+        tile: line.stretch.tile,
         first: line.stretch.last + 1,
         last,
         number: run.first,

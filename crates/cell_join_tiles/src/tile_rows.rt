@@ -47,8 +47,8 @@ fn clumps_with(clumps: u64, begun: &[u64]) -> Option<u64>
     Some(all)
 }
 
-// Adds the number of clumps of a row of tiles, unless the sum does not fit in a `u64`.
-pub(crate) fn clumps_with_row(clumps: u64, row: &[Border]) -> Option<u64>
+/// Adds the number of clumps of a row of tiles, unless the sum does not fit in a `u64`.
+pub fn clumps_with_row(clumps: u64, row: &[Border]) -> Option<u64>
     ensures some { IfSome result (λ all.
         all ≡ clumps + clumps_in_row (begun_of (border_values row.now))) }
     ensures none { IfNone result

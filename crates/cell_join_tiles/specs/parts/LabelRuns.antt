@@ -1,7 +1,7 @@
 -- The runs of tiles, given their clumps' labels.
 use Rattle.std.specs.Prelude.{ℕ, ◌+◌, List, [], ◌∷◌, ◌++◌, map, Option}
-use Rattle.cell_join_lines.specs.AreasText.{stretches_in}
-use Rattle.cell_join_lines.specs.declared.stretch.Stretch.{Stretch}
+use Rattle.cell_join_numbers.specs.Stretches.{stretches_in}
+use Rattle.cell_join_numbers.specs.declared.stretch.Stretch.{Stretch}
 use Rattle.cell_join_numbers.specs.declared.numbers.SparseNumbers.{SparseNumbers}
 use Rattle.cell_join_numbers.specs.SparseNumbers.{AreInPlaces, AreNumbersOf}
 use Rattle.cell_join_tiles.specs.declared.run_lines.Line.{Line}

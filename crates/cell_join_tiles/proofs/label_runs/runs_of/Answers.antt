@@ -1,8 +1,8 @@
 use Rattle.std.proofs.Common.{◌+◌, ◌++◌, List, Vec, drop, map, ap, sym, ◌∙◌, arith, append_assoc, append-nil}
 use Rattle.std.proofs.lemmas.List.{drop_all}
 use Rattle.std.specs.Global.{Global}
-use Rattle.cell_join_lines.specs.AreasText.{stretches_in}
-use Rattle.cell_join_lines.specs.declared.stretch.Stretch.{Stretch}
+use Rattle.cell_join_numbers.specs.Stretches.{stretches_in}
+use Rattle.cell_join_numbers.specs.declared.stretch.Stretch.{Stretch}
 use Rattle.cell_join_tiles.specs.declared.spans.Span.{Span}
 use Rattle.cell_join_tiles.specs.parts.LabelRuns.{runs_of_tiles}
 use Rattle.cell_join_tiles.specs.parts.Spans.{labels_in, labels_of_tiles}

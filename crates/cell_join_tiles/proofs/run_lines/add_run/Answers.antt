@@ -1,6 +1,6 @@
 use Rattle.std.proofs.Common.{List, ◌++◌, Option, Some, sym, ◌∙◌, subst}
 use Rattle.std.specs.List.{range_with_len}
-use Rattle.cell_join_lines.specs.declared.stretch.Stretch.{Stretch}
+use Rattle.cell_join_numbers.specs.declared.stretch.Stretch.{Stretch}
 use Rattle.cell_join_tiles.specs.declared.run_lines.Line.{Line}
 use Rattle.cell_join_tiles.specs.parts.RunLines.{AreInLines}
 use Rattle.cell_join_tiles.proofs.RunLineLemmas.{in_lines-first, in_lines-next, in_lines-other, other_line}

@@ -1,3 +1,0 @@
--- Definitions that only private functions and proofs use.
-pub mod MadeBorder
-pub mod ReadBorder
