@@ -9,15 +9,15 @@ trap 'rm -rf "$room"' EXIT
 . tools/counting.sh
 /usr/bin/python3 -m venv --system-site-packages --without-pip "$room/venv" || exit 1
 /usr/bin/python3 -m pip --disable-pip-version-check -q --python "$room/venv/bin/python3" install --no-index --no-deps dist/rcell-*.whl || exit 1
-unset RCELL RCELL_PIPE RCELL_JOIN PYTHONPATH PYTHONHOME
+unset RCELL RCELL_PIPE PYTHONPATH PYTHONHOME
 export PATH="$room/venv/bin:/usr/bin:/bin" HOME="$room" LC_ALL=C.UTF-8 PYTHONDONTWRITEBYTECODE=1 JUPYTER_PREFER_ENV_PATH=1
 mkdir "$room/examples" && cp -r python/tests python/tools python/pyproject.toml "$room" && cp -r examples/rasters examples/study.ipynb "$room/examples"
 types="python3 -m mypy --cache-dir $room/mypy --config-file"
 
 echo "python: the programs are $(python3 -c 'import rcell; rcell.show_versions()')"
 add tests sh -c 'cd "$1" && python3 tests/gate.py --cov=rcell --cov-report=term --cov-fail-under=90 tests' sh "$room"
-check 'the programs of the wheel' test "$(python3 -c 'from rcell.core.joiner import find_joiner; from rcell.core.programs import find_pipe, find_program; print(find_program(), find_pipe(), find_joiner())')" \
-    = "$room/venv/bin/rcell $room/venv/bin/rcell-pipe $room/venv/bin/rcell-join"
+check 'the programs of the wheel' test "$(python3 -c 'from rcell.core.programs import find_pipe, find_program; print(find_program(), find_pipe())')" \
+    = "$room/venv/bin/rcell $room/venv/bin/rcell-pipe"
 check 'types of the package' $types python/pyproject.toml python/src python/tools
 check 'types of the benchmarks' env MYPYPATH=python/bench $types python/pyproject.toml python/bench/*.py
 check 'types of the tests' sh -c 'cd "$1" && shift && exec "$@"' sh "$room" $types pyproject.toml tests

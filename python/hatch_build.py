@@ -14,11 +14,7 @@ DYNAMIC_TAG = "py3-none-linux_x86_64"
 
 
 HERE = pathlib.Path(__file__).resolve().parent
-PROGRAMS = {
-    "rcell": "RCELL_PROGRAM",
-    "rcell-join": "RCELL_JOIN_PROGRAM",
-    "rcell-pipe": "RCELL_PIPE_PROGRAM",
-}
+PROGRAMS = {"rcell": "RCELL_PROGRAM", "rcell-pipe": "RCELL_PIPE_PROGRAM"}
 """The scripts, and the environment variables that may name what they are made of."""
 
 

@@ -11,7 +11,7 @@ package=$room/package
 for file in python/README.md python/pyproject.toml python/hatch_build.py; do install -D -m 644 "$file" "$package/${file#python/}"; done
 copy_tracked python/src "$package/src"
 install -m 644 VERSION "$package/VERSION"
-install -D -m 755 -t "$package/bin" bin/rcell-static bin/rcell-join-static bin/rcell-pipe-static
+install -D -m 755 -t "$package/bin" bin/rcell-static bin/rcell-pipe-static
 python3 tools/build/linked.py "$room/licenses"
 cp -r "$room"/licenses/* LICENSE.md "$package"
 (cd "$package" && /usr/bin/python3 -m hatchling build -t sdist -d "$room/made" > /dev/null)

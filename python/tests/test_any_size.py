@@ -23,11 +23,9 @@ from hypothesis.extra.numpy import arrays
 import rcell
 from rcell.core import memory, tile_tables, tiling
 from rcell.core.host import Host, serving
-from rcell.core.joiner import find_joiner
 from rcell.core.protocol import NULL
-from rcell.core.rectangles import NO_MARGIN, Rectangle
+from rcell.core.rectangles import NO_MARGIN
 from rcell.core.sources import ArrayMap
-from rcell.core.tile_clumps import border_text
 
 Write = Callable[..., str]
 
@@ -297,22 +295,6 @@ def test_shapes_that_are_hard_to_cut(name: str, size: tuple[int, int]) -> None:
         for call in calls:
             expected = call(cells, connectivity)
             check_equal(as_tiles(lambda: call(cells, connectivity), size), expected)
-
-
-@some
-@given(case=cut_maps(), diagonal=st.booleans())
-def test_borders_are_those_of_rcell_join(case: Any, diagonal: bool) -> None:
-    cells, _, (top, left) = case
-    flags = ["-d"] * diagonal
-    numbers = rcell.grid(
-        f"r.clump {' '.join(flags)} input=a output=k", "k", a=rcell.Raster(cells, nodata=NO_CELL)
-    )
-    place = Rectangle(top, left, *cells.shape)
-    own = np.where(cells == NO_CELL, NULL, cells.astype(np.int32))
-    text = border_text(place, own, numbers.array.filled(0), diagonal)
-    grid = rcell.Raster(cells, place.region, nodata=NO_CELL).text()
-    words = [find_joiner(), "border", *flags, "/dev/stdin"]
-    assert text == subprocess.run(words, input=grid, capture_output=True, check=True).stdout
 
 
 # Files and arrays

@@ -95,6 +95,9 @@ PLAN = (
 )
 
 
+JOIN = b"JOIN" + struct.pack("<2Q", 3, 2) + struct.pack("<8Q", 1, 1, 2, 1, 2, 1, 1, 2**33)
+
+
 class Asked(unittest.TestCase):
     """A folder with shell scripts that replace the program."""
 
@@ -284,8 +287,20 @@ class Answers(Asked):
                 b"RCELLP1\n" + struct.pack("<I", 2) + b"\2lc\2ws" + struct.pack("<I", 1) + b"x",
             )
 
+    def test_a_join(self) -> None:
+        borders: list[Any] = [array("i", [1, 1, 8, 1, 8, 1, 8, 1, 8, 1, 1]), b"tile"]
+        found = protocol.join(self.answering(MAGIC + JOIN + DONE), borders, (2, 1), 8)
+        self.assertEqual(found.patches, 3)
+        self.assertEqual(found.runs.tolist(), [1, 1, 2, 1, 2, 1, 1, 2**33])
+        with open(f"{self.folder}/request", "rb") as file:
+            head = b"RCELLJ1\n" + struct.pack("<BII", 8, 2, 1)
+            self.assertEqual(file.read(), head + borders[0].tobytes() + b"tile")
+        for answer in (MAGIC + DONE, MAGIC + GRID + DONE, MAGIC + JOIN + JOIN + DONE):
+            with self.subTest(answer=answer), self.assertRaises(protocol.NoAnswer):
+                protocol.join(self.answering(answer), borders, (2, 1), 8)
+
     def test_what_is_cut_or_goes_on_is_no_answer(self) -> None:
-        answer = MAGIC + TABLE + GRID + CELLS + PLAN + DONE
+        answer = MAGIC + TABLE + GRID + CELLS + PLAN + JOIN + DONE
         for given in [
             *(answer[:end] for end in range(0, len(answer), 7)),
             answer + b"\0",

@@ -8,7 +8,6 @@ import platform
 
 from ._version import __version__
 from .core.errors import RcellError
-from .core.joiner import find_joiner
 from .core.programs import find_pipe, find_program
 
 __all__ = ["show_versions"]
@@ -28,8 +27,7 @@ def show_versions() -> None:
     """
     lines = [("rcell", __version__), ("python", platform.python_version())]
     lines += [(name, _version_of(name)) for name in _LIBRARIES]
-    programs = {"rcell-pipe": find_pipe, "rcell": find_program, "rcell-join": find_joiner}
-    for name, find in programs.items():
+    for name, find in (("rcell-pipe", find_pipe), ("rcell", find_program)):
         try:
             lines.append((name, find()))
         except RcellError as error:

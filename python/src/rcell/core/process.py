@@ -18,7 +18,6 @@ from typing import Optional
 __all__ = [
     "WATCH_SECONDS",
     "Started",
-    "above_standard",
     "begin_work",
     "close",
     "end_work",
@@ -127,8 +126,6 @@ class Started:
     ----------
     words : sequence of str
         The program and its arguments.
-    inherited : sequence of int
-        The descriptors that the program inherits under the same numbers.
     seconds : float, optional
         The time limit for the program, in seconds.
     stdin : int
@@ -147,7 +144,6 @@ class Started:
     def __init__(
         self,
         words: Sequence[str],
-        inherited: Sequence[int] = (),
         seconds: float | None = None,
         stdin: int = subprocess.DEVNULL,
         watch: Optional[Callable[[], None]] = None,
@@ -163,7 +159,6 @@ class Started:
                 stdin=stdin,
                 stdout=output,
                 stderr=errors,
-                pass_fds=inherited,
                 env={**LARGE_PAGES, **os.environ},
             )
         except BaseException:

@@ -16,12 +16,9 @@ from .printing import printed, spooled
 from .process import found_on_path
 
 __all__ = [
-    "PROBE_SECONDS",
     "candidates",
-    "find_beside",
     "find_pipe",
     "find_program",
-    "known_after",
     "program_errors",
 ]
 
@@ -155,7 +152,7 @@ def program_errors(script: str, names: list[str], path: str) -> Iterator[None]:
     try:
         yield
     except protocol.Rejected as rejected:
-        error_type = OutOfMemory if rejected.status == 3 else Refused
+        error_type = OutOfMemory if rejected.status == protocol.NO_MEMORY else Refused
         raise error_type(**rejected.parts(path, script, names)) from None
     except protocol.Killed as error:
         raise Killed(int(error.args[0])) from None  # the signal

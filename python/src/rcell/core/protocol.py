@@ -1,9 +1,9 @@
 # SPDX-License-Identifier: Apache-2.0 OR GPL-2.0-or-later
-"""Write requests for rcell-pipe and read its responses, as defined in docs/pipe.md.
+"""Send requests to rcell-pipe and return its responses, as defined in docs/pipe.md.
 
-A request contains maps and a script, and a response contains frames. The program writes nothing
-until it has read the complete request, unless it rejects the request. The request can therefore be
-written first and the response read afterwards, without a thread.
+A request contains maps and a script, or the borders of tiles, and a response contains frames. The
+program writes nothing until it has read the complete request, unless it rejects the request. The
+request can therefore be written first and the response read afterwards, without a thread.
 """
 
 from __future__ import annotations
@@ -13,16 +13,31 @@ import os
 import re
 import select
 import struct
-from collections.abc import Callable, Iterator, Mapping, Sequence
-from dataclasses import dataclass, field, replace
-from typing import Any, NamedTuple, NoReturn, Optional, Union
+from collections.abc import Callable, Iterator, Sequence
+from dataclasses import replace
+from typing import Any, Optional
 
 from .hints import advice, lines_of_error
 from .process import WATCH_SECONDS, Started, close, pipe
-from .requests import Block, Buffer, Map, Margin, Question, plan_request, request
+from .requests import Block, Buffer, Map, Margin, Question, join_request, plan_request, request
+from .responses import (
+    NULL,
+    NULL_BYTE,
+    AnyFrame,
+    Call,
+    Done,
+    Frame,
+    GridFrame,
+    JoinFrame,
+    NumbersFrame,
+    PatchesFrame,
+    Statement,
+    TableFrame,
+    response_of,
+)
 
 __all__ = [
-    "COMMANDS",
+    "NO_MEMORY",
     "NULL",
     "NULL_BYTE",
     "Block",
@@ -31,6 +46,7 @@ __all__ = [
     "Fault",
     "Frame",
     "GridFrame",
+    "JoinFrame",
     "Killed",
     "Map",
     "Margin",
@@ -45,6 +61,7 @@ __all__ = [
     "asked",
     "failure_of",
     "is_known",
+    "join",
     "plan",
     "request",
     "run",
@@ -52,24 +69,10 @@ __all__ = [
     "text",
 ]
 
-NULL = -2_147_483_648
-"""Null in cells of type i32. It is not a category."""
+NO_MEMORY = 3
+"""The status if the program runs out of memory."""
 
-NULL_BYTE = 255
-"""Null in returned cells of type u8."""
-
-COMMANDS = ("r.mapcalc", "r.reclass", "r.clump", "r.stats", "r.out.ascii")
-"""The commands, in the order of their codes, from 1."""
-
-_SOURCES = {1: "request", 2: "script", 3: "question"}
-_OPTIONS = "cl1nN"
-_CALLED = ("row", "col", "nrows", "ncols")
-_NO_MEMORY = 3  # the status for out of memory
-PATCH_BYTES, ZONE_BYTES = 68, 4
 _AT_COLUMN = re.compile(r" at column (\d+)$")
-# Arrays with fewer bytes are assembled from pieces. Larger arrays are read directly into memory.
-DIRECT_BYTES = 1 << 20
-MOST_CELL_BYTES = 1 << 33
 
 
 def script_bytes(script: str) -> bytes:
@@ -93,182 +96,6 @@ def script_bytes(script: str) -> bytes:
             column,
             f"lone surrogate U+{ord(script[error.start]):04X} at column {column}",
         ) from None
-
-
-# The response
-
-
-@dataclass(frozen=True)
-class TableFrame:
-    """The table of an `r.stats` statement, or the cells of `r.stats -1` in reading order.
-
-    Attributes
-    ----------
-    line : int
-        The line of the statement, counted from 1.
-    names : tuple of str
-        The names of the maps in the statement.
-    separator, null_text : bytes
-        The separator and the text for null in the printed table.
-    entries : int
-        The number of combinations or of cells.
-    counts : memoryview or None
-        The number of cells of each entry, as unsigned 64-bit integers, or None without the flag
-        `-c`.
-    cells : memoryview
-        The categories as 32-bit integers, entry by entry. Null is `NULL`.
-    labels : list of bytes or None
-        The label of each value in `cells`: `no data` for null, and empty for a category without a
-        label. None without the flag `-l`.
-    """
-
-    line: int
-    names: tuple[str, ...]
-    separator: bytes
-    null_text: bytes
-    entries: int
-    counts: Optional[memoryview]
-    cells: memoryview
-    labels: Optional[list[bytes]]
-
-
-@dataclass(frozen=True)
-class GridFrame:
-    """The map that an `r.out.ascii` statement prints.
-
-    Attributes
-    ----------
-    line : int
-    name : str
-    null_text : bytes
-        The text for null in the printed grid.
-    edges : tuple of str
-        The northern, southern, eastern and western edges, in rcell's notation.
-    rows, cols : int
-    type : {"u8", "i32"}
-        The type of the cells: u8 if all categories are from 0 to 254, with 255 for null; otherwise
-        i32, with `NULL` for null.
-    cells : memoryview
-        The cells row by row, with the type `type`.
-    """
-
-    line: int
-    name: str
-    null_text: bytes
-    edges: tuple[str, ...]
-    rows: int
-    cols: int
-    type: str
-    cells: memoryview
-
-    @property
-    def null(self) -> int:
-        """The value that marks null in the cells."""
-        return NULL_BYTE if self.type == "u8" else NULL
-
-
-@dataclass(frozen=True)
-class PatchesFrame:
-    """The program's response to a question about the patches of a map.
-
-    Attributes
-    ----------
-    question : int
-        The index of the question, counted from 0.
-    rows : memoryview
-        A row of `PATCH_BYTES` bytes for each patch, in the order of the patch numbers. A row
-        contains the class as i32, followed by the cells, ends, flanks, core cells, first and last
-        row, and first and last column as u64. Rows and columns are counted from 0. If the question
-        has zones, the zone follows as i32, which is `NULL` if the patch has no zone.
-    """
-
-    question: int
-    rows: memoryview
-
-
-@dataclass(frozen=True)
-class NumbersFrame:
-    """The map of patch numbers, which precedes the patches of a question that asks for it.
-
-    Attributes
-    ----------
-    question : int
-        The index of the question, counted from 0.
-    rows, cols : int
-    type : {"u8", "i32"}
-        The type of the cells, as in `GridFrame`.
-    cells : memoryview
-        The numbers row by row, with the type `type`. Patches are numbered from 1, as in `r.clump`.
-
-    Examples
-    --------
-    >>> NumbersFrame(0, 1, 3, "u8", memoryview(bytes([1, 255, 2]))).cells.tolist()
-    [1, 255, 2]
-    """
-
-    question: int
-    rows: int
-    cols: int
-    type: str
-    cells: memoryview
-
-
-Frame = Union[TableFrame, GridFrame, PatchesFrame, NumbersFrame]
-
-
-class Call(NamedTuple):
-    """A call to `row()`, `col()`, `nrows()` or `ncols()`, and its range of bytes in the line."""
-
-    function: str
-    start: int
-    end: int
-
-
-@dataclass(frozen=True)
-class Statement:
-    """A statement of a script, as described by the program's plan.
-
-    Attributes
-    ----------
-    line : int
-        The first line of the statement, counted from 1.
-    command : {"r.mapcalc", "r.reclass", "r.clump", "r.stats", "r.out.ascii"}
-    made : str
-        The name of the map that the statement creates, or an empty string.
-    reads : dict of str to Margin
-        Each map that the statement reads, with the margin that the statement needs around a cell.
-    needs : dict of str to Margin or None
-        Each given map on which the statement depends, directly or through earlier statements, with
-        the margin that the statement needs around a cell, or None if it needs the full map.
-    options : str
-        The flags of an r.stats statement, as letters.
-    inputs : tuple of str
-        The names of the maps in `input=`, in the same order.
-    after : tuple of int
-        The categories in `after=`.
-    calls : tuple of Call
-        The calls to position functions, from left to right.
-    labels : dict of int to str
-        The labels in the statement's rules, by category.
-    text : str
-        The lines of the statement. An r.reclass statement includes all lines up to the next
-        statement.
-    """
-
-    line: int
-    command: str
-    made: str
-    reads: dict[str, Margin]
-    needs: dict[str, Optional[Margin]]
-    options: str = ""
-    inputs: tuple[str, ...] = ()
-    after: tuple[int, ...] = ()
-    calls: tuple[Call, ...] = ()
-    labels: Mapping[int, str] = field(default_factory=dict)
-    text: str = ""
-
-
-_AnyFrame = Union[Frame, Statement]
 
 
 class Fault(Exception):
@@ -317,7 +144,7 @@ class Rejected(Exception):
         not read the request.
     source : {"request", "script", "question", ""}
     map : int
-        The index of the invalid map, if the source is the request.
+        The index of the invalid map or tile, if the source is the request.
     line : int
         The line of the script, or the row of the map, counted from 1. 0 if the error is not in a
         line or a row.
@@ -378,183 +205,6 @@ class NoAnswer(Exception):
     """
 
 
-class _NotUnderstood(Exception):
-    """Raised if a response ends early or does not have the expected format."""
-
-
-class _Response:
-    """Reads the program's response.
-
-    Memory is allocated only for data that has arrived, not for announced lengths.
-    """
-
-    def __init__(
-        self, pieces: Iterator[bytes], fill: Optional[Callable[[memoryview], int]] = None
-    ) -> None:
-        self._pieces = pieces
-        self._fill = fill
-        self._held = memoryview(b"")
-
-    def _next(self) -> bytes:
-        for piece in self._pieces:
-            return piece
-        raise _NotUnderstood
-
-    def take(self, count: int) -> bytearray:
-        taken = bytearray()
-        while len(taken) < count:
-            if not self._held:
-                self._held = memoryview(self._next())
-            part = self._held[: count - len(taken)]
-            taken += part
-            self._held = self._held[len(part) :]
-        return taken
-
-    def numbers(self, count: int) -> tuple[int, ...]:
-        return struct.unpack(f"<{count}Q", self.take(8 * count))
-
-    def count(self) -> int:
-        return self.numbers(1)[0]
-
-    def text(self) -> bytearray:
-        return self.take(self.count())
-
-    def name(self) -> str:
-        return self.text().decode("utf-8", "surrogateescape")
-
-    def names(self, count: int) -> tuple[str, ...]:
-        return tuple(self.name() for _ in range(count))
-
-    def cells(self, count: int, letter: str) -> memoryview:
-        """Read `count` numbers of a `struct` type.
-
-        Long arrays are read directly into their own memory.
-        """
-        size = count * struct.calcsize(letter)
-        if self._fill is None or not DIRECT_BYTES <= size <= MOST_CELL_BYTES:
-            return memoryview(self.take(size)).cast(letter)
-        import numpy as np  # Texts need only the standard library.
-
-        room = np.empty(size, np.uint8).data  # allocated as it is written
-        held = self._held[:size]
-        room[: len(held)] = held
-        self._held = self._held[len(held) :]
-        if self._fill(room[len(held) :]) < size - len(held):
-            raise _NotUnderstood
-        return room.cast(letter)
-
-    def table(self) -> TableFrame:
-        """Read the frame of an r.stats statement."""
-        line, entries, width = self.numbers(3)
-        counts, labels, separator = self.take(3)
-        return TableFrame(
-            line=line,
-            separator=bytes([separator]),
-            null_text=bytes(self.text()),
-            names=self.names(width),
-            entries=entries,
-            counts=self.cells(entries, "Q") if counts else None,
-            cells=self.cells(entries * width, "i"),
-            labels=[bytes(self.text()) for _ in range(entries * width)] if labels else None,
-        )
-
-    def grid(self) -> GridFrame:
-        """Read the frame of an r.out.ascii statement."""
-        line = self.count()
-        null_text = bytes(self.text())
-        name = self.name()
-        edges = self.names(4)
-        return GridFrame(line, name, null_text, edges, *self.map_cells())
-
-    def map_cells(self) -> tuple[int, int, str, memoryview]:
-        """Read the rows and columns of a map, and the type and values of its cells."""
-        rows, cols = self.numbers(2)
-        kinds = {1: ("u8", "B"), 6: ("i32", "i")}
-        kind, letter = kinds.get(self.take(1)[0]) or self.unknown()
-        return rows, cols, kind, self.cells(rows * cols, letter)
-
-    def patch_numbers(self) -> NumbersFrame:
-        return NumbersFrame(self.count(), *self.map_cells())
-
-    def patches(self) -> PatchesFrame:
-        question = self.count()
-        *_, has_zones = self.take(6)  # after connectivity and depth, which are known
-        row_bytes = PATCH_BYTES + (ZONE_BYTES if has_zones else 0)
-        return PatchesFrame(question, self.cells(row_bytes * self.count(), "B"))
-
-    def statement(self) -> Statement:
-        """Read the description of a statement in a plan."""
-        line, (command, _) = self.count(), self.take(2)
-        if not 0 < command <= len(COMMANDS):
-            self.unknown()
-        return Statement(
-            line=line,
-            command=COMMANDS[command - 1],
-            made=self.name(),
-            reads={self.name(): Margin(*self.numbers(4)) for _ in range(self.count())},
-            needs={self.name(): self.need() for _ in range(self.count())},
-            options=self.options(),
-            inputs=self.names(self.count()),
-            after=tuple(self.cells(self.count(), "i")),
-            calls=tuple(self.call() for _ in range(self.count())),
-            labels={self.cells(1, "i")[0]: self.name() for _ in range(self.count())},
-        )
-
-    def options(self) -> str:
-        """Read a statement's flags, which are stored as bits, and return a string of letters."""
-        [bits] = self.take(1)
-        flags = ""
-        for place, letter in enumerate(_OPTIONS):
-            if bits >> place & 1:
-                flags += letter
-        return flags
-
-    def call(self) -> Call:
-        (first, last), [code] = self.numbers(2), self.take(1)
-        if not 0 < code <= len(_CALLED):
-            self.unknown()
-        return Call(_CALLED[code - 1], first - 1, last)
-
-    def need(self) -> Optional[Margin]:
-        margin = Margin(*self.numbers(4))
-        return None if self.take(1)[0] else margin
-
-    def unknown(self) -> NoReturn:
-        raise _NotUnderstood
-
-    def done(self) -> Rejected:
-        """Read the program's final status and error from the end of the response."""
-        status, source, map, line, column = self.numbers(5)
-        return Rejected(
-            status,
-            _SOURCES.get(source, ""),
-            map,
-            line,
-            column,
-            self.text().decode("utf-8", "surrogateescape"),
-        )
-
-    def frames(self) -> tuple[list[_AnyFrame], Rejected]:
-        """Read the complete response and return the frames and the final status."""
-        frames: list[_AnyFrame] = []
-        kinds: dict[bytes, Callable[[], _AnyFrame]] = {
-            b"TABL": self.table,
-            b"CELL": self.table,
-            b"GRID": self.grid,
-            b"NUMB": self.patch_numbers,
-            b"PTCH": self.patches,
-            b"PLAN": self.statement,
-        }
-        if self.take(8) != b"RCELLA1\n":
-            raise _NotUnderstood
-        while (kind := bytes(self.take(4))) != b"DONE":
-            frames.append(kinds.get(kind, self.unknown)())
-        end = self.done()
-        if self._held or any(self._pieces):
-            raise _NotUnderstood
-        return frames, end
-
-
 def run(
     program: str,
     maps: Sequence[Map],
@@ -596,7 +246,7 @@ def run(
     return [
         frame
         for frame in _answered(program, request(maps, script, questions), seconds, watch)
-        if not isinstance(frame, Statement)
+        if not isinstance(frame, (Statement, JoinFrame))
     ]
 
 
@@ -627,10 +277,10 @@ def text(
         status, message = process.end()
     if status == 0:
         yield held
-    elif status == _NO_MEMORY:
+    elif status == NO_MEMORY:
         raise Rejected(status, "", 0, 0, 0, "no memory")
     else:
-        _check(_response(iter([held])), status, message)
+        _check(response_of(iter([held])), status, message)
 
 
 _PROBE_SCRIPT = (
@@ -688,15 +338,45 @@ def plan(
     return planned
 
 
+def join(
+    program: str,
+    borders: Sequence[Buffer],
+    shape: tuple[int, int],
+    connectivity: int,
+    *,
+    seconds: Optional[float] = None,
+    watch: Optional[Callable[[], None]] = None,
+) -> JoinFrame:
+    """Join the patches of tiles, using only the borders of the tiles.
+
+    Parameters
+    ----------
+    program : str
+        The path of rcell-pipe.
+    borders : sequence of buffers
+        The borders of the tiles, row by row from the top left, in the format of `join_request`.
+    shape : tuple of two ints
+        The number of rows and of columns of tiles.
+    connectivity : {4, 8}
+    seconds, watch
+        As in `run`, which also lists the errors.
+    """
+    sent = join_request(borders, shape, connectivity)
+    frames = _answered(program, sent, seconds, watch)
+    if len(frames) != 1 or not isinstance(frames[0], JoinFrame):
+        raise NoAnswer("the program did not return the numbers of the patches")
+    return frames[0]
+
+
 def _answered(
     program: str,
     sent: Iterator[Buffer],
     seconds: Optional[float],
     watch: Optional[Callable[[], None]],
-) -> list[_AnyFrame]:
+) -> list[AnyFrame]:
     """Send a request to the program and return the frames of the response."""
     with asked([program], sent, seconds, watch) as process:
-        return _check(_response(process.pieces(), process.fill), *process.end())
+        return _check(response_of(process.pieces(), process.fill), *process.end())
 
 
 def failure_of(status: int, message: bytes) -> Exception:
@@ -708,19 +388,15 @@ def failure_of(status: int, message: bytes) -> Exception:
 
 
 def _check(
-    response: Optional[tuple[list[_AnyFrame], Rejected]], status: int, message: bytes
-) -> list[_AnyFrame]:
+    response: Optional[tuple[list[AnyFrame], Done]], status: int, message: bytes
+) -> list[AnyFrame]:
     """Return the frames of a response, or raise the error that the response reports."""
     if response is None or status != response[1].status:
         raise failure_of(status, message)
+    frames, done = response
     if status:
-        try:
-            raise response[1]
-        finally:
-            # A reference cycle through the error would keep the maps open until the next garbage
-            # collection.
-            del response
-    return response[0]
+        raise Rejected(*done)
+    return frames
 
 
 @contextlib.contextmanager
@@ -729,7 +405,6 @@ def asked(
     sent: Iterator[Buffer],
     seconds: Optional[float],
     watch: Optional[Callable[[], None]],
-    inherited: Sequence[int] = (),
 ) -> Iterator[Started]:
     """Start a program and write a request to its standard input.
 
@@ -738,7 +413,7 @@ def asked(
     try:
         reader, writer = pipe()
         try:
-            process = Started(words, inherited, seconds, reader, watch)
+            process = Started(words, seconds, reader, watch)
         except BaseException:
             close(writer)
             raise
@@ -773,18 +448,3 @@ def _send(writer: int, pieces: Iterator[Buffer], watch: Optional[Callable[[], No
                 room.poll(WATCH_SECONDS * 1000)
             except BrokenPipeError:
                 return
-
-
-def _response(
-    pieces: Iterator[bytes], fill: Optional[Callable[[memoryview], int]] = None
-) -> Optional[tuple[list[_AnyFrame], Rejected]]:
-    """Read all pieces and return the response, or None if the format is not understood.
-
-    Long arrays of cells are read with `fill`, if it is given.
-    """
-    try:
-        return _Response(pieces, fill).frames()
-    except _NotUnderstood:
-        for _ in pieces:
-            pass
-        return None

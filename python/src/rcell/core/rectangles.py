@@ -7,7 +7,6 @@ from typing import Any, NamedTuple
 
 from .arrays import NDArray
 from .protocol import Margin
-from .region import Region
 
 __all__ = ["NO_MARGIN", "Rectangle", "rectangles_of"]
 
@@ -31,12 +30,6 @@ class Rectangle(NamedTuple):
     def slices(self) -> tuple[slice, slice]:
         """The rectangle's rows and columns, as an index into the map's array."""
         return slice(self.top, self.top + self.rows), slice(self.left, self.left + self.cols)
-
-    @property
-    def region(self) -> Region:
-        """The rectangle's region in a map of unit cells whose top left corner is at 0, 0."""
-        low, right = self.top + self.rows, self.left + self.cols
-        return Region(-self.top, -low, right, self.left, self.rows, self.cols)
 
     def is_within(self, outer: Rectangle) -> bool:
         """Return whether another rectangle contains this rectangle."""

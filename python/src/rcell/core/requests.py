@@ -1,5 +1,5 @@
 # SPDX-License-Identifier: Apache-2.0 OR GPL-2.0-or-later
-"""Encode requests to rcell-pipe: maps, a script, and questions about patches."""
+"""Encode requests to rcell-pipe: maps, scripts, questions about patches, and borders of tiles."""
 
 from __future__ import annotations
 
@@ -8,7 +8,16 @@ from collections.abc import Iterable, Iterator, Mapping, Sequence
 from dataclasses import dataclass, field
 from typing import NamedTuple, Optional, Union
 
-__all__ = ["Block", "Buffer", "Map", "Margin", "Question", "plan_request", "request"]
+__all__ = [
+    "Block",
+    "Buffer",
+    "Map",
+    "Margin",
+    "Question",
+    "join_request",
+    "plan_request",
+    "request",
+]
 
 CELL_BYTES = {"u8": 1, "i8": 1, "u16": 2, "i16": 2, "u32": 4, "i32": 4, "i64": 8}
 """The cell types of input maps, in the order of their codes, from 1."""
@@ -210,3 +219,29 @@ def plan_request(names: Sequence[str], script: bytes) -> Iterator[Buffer]:
     yield b"RCELLP1\n" + struct.pack("<I", len(names)) + b"".join(map(_short, names)) + struct.pack(
         "<I", len(script)
     ) + script
+
+
+def join_request(
+    borders: Sequence[Buffer], shape: tuple[int, int], connectivity: int
+) -> Iterator[Buffer]:
+    """Yield the bytes of a request for the numbers of the tiles' patches in the full map.
+
+    Parameters
+    ----------
+    borders : sequence of buffers
+        A border for each tile, row by row from the top left. A border contains 32-bit integers: the
+        rows and columns of the tile; the cells and the patch numbers of its first row, last row,
+        first column and last column, with -2,147,483,648 for null; and, for each row, the number of
+        patches that begin in the row.
+    shape : tuple of two ints
+        The number of rows and of columns of tiles.
+    connectivity : {4, 8}
+
+    Examples
+    --------
+    >>> b"".join(join_request([], (2, 300), 4))
+    b'RCELLJ1\\n\\x04\\x02\\x00\\x00\\x00,\\x01\\x00\\x00'
+    """
+    yield b"RCELLJ1\n" + struct.pack("<BII", connectivity, *shape)
+    for border in borders:
+        yield memoryview(border).cast("B")

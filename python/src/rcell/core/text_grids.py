@@ -8,17 +8,18 @@ import io
 import os
 import re
 import stat
+from collections.abc import Iterator, Mapping
 from dataclasses import dataclass, field, replace
 from fractions import Fraction
 from itertools import chain
-from typing import Any, Iterator, Mapping, NoReturn
+from typing import Any, NoReturn
 
 import numpy as np
 
-from .listing import printed_grid
-from .printing import is_text_grid, spooled
+from .arrays import NDArray
+from .printing import is_text_grid, printed, spooled
 from .programs import find_program, program_errors
-from .protocol import NULL
+from .protocol import NULL, NoAnswer
 
 from .files import opened, read_some
 from .errors import BadMap, ReadFailed
@@ -30,6 +31,16 @@ __all__ = ["TextMap", "is_grid", "open_path"]
 
 # Enough for a header of six short lines, even after blank lines.
 HEADER_BYTES = 1 << 16
+# Enough for a header that rcell prints.
+_PRINTED_HEADER_BYTES = 1 << 8
+_PRINTED_HEADER = re.compile(
+    rb"north: .*\nsouth: .*\neast: .*\nwest: .*\nrows: (\d+)\ncols: (\d+)\n"
+)
+# The code of each kind of byte that rows of cells may contain. The low four bits identify the kind,
+# and the high four bits identify the kinds that must not follow it.
+_KINDS = {b"0123456789": 0x61, b"-": 0xE2, b"*": 0x74, b" \n": 0x88}
+_CODE_OF = {byte: code for kind, code in _KINDS.items() for byte in kind}
+_CODES = bytes(_CODE_OF.get(byte, 0xFF) for byte in range(256))
 _EDGE = re.compile(r"[+-]?[0-9]+\.?[0-9]*")
 _VIRTUAL = re.compile(r"/vsi|[A-Za-z][A-Za-z0-9+.-]+:")
 
@@ -88,8 +99,8 @@ class TextMap:
                 rest = iter(lambda: read_some(stream.fileno(), 1 << 20), b"")
                 path = cleanup.enter_context(spooled(chain([self.held], rest)))
             cleanup.enter_context(program_errors(script="", names=[self.name], path=program))
-            grid = cleanup.enter_context(printed_grid(program, path, watch=host().watch))
-            for rows in grid.blocks:
+            pieces = cleanup.enter_context(printed(program, path, watch=host().watch))
+            for rows in _printed_blocks(pieces):
                 yield Block(rows, null=None)
 
 
@@ -212,3 +223,51 @@ def _raise_header_error(name: str, path: str, is_file: bool) -> NoReturn:
         for _ in TextMap(name, path, Region.of_cells(1, 1)).blocks():
             pass
     raise BadMap(name, f"{path} does not begin with a valid grid header")
+
+
+def _printed_blocks(pieces: Iterator[bytes]) -> Iterator[NDArray[np.int32]]:
+    """Yield blocks of rows from the grid that rcell prints, with `NULL` for null.
+
+    Raises
+    ------
+    NoAnswer
+        The pieces are not a grid.
+    """
+    text, header = b"", None
+    while not header and len(text) < _PRINTED_HEADER_BYTES and (piece := next(pieces, b"")):
+        text += piece
+        header = _PRINTED_HEADER.match(text)
+    if not header:
+        raise NoAnswer(f"the program did not print a grid: {text[:60]!r}")
+    rows_left, cols = map(int, header.groups())
+    rest = b""
+    for piece in chain([text[header.end() :]], pieces):
+        lines, end, rest = (rest + piece).rpartition(b"\n")
+        block = _rows_of(lines + end, cols)
+        rows_left -= len(block)
+        if rows_left < 0:
+            raise NoAnswer(f"the program printed too many rows: {piece[:60]!r}")
+        if end:
+            yield block
+    if rows_left or rest:
+        raise NoAnswer(f"the program printed too few rows: {rest[:60]!r}")
+
+
+def _rows_of(text: bytes, cols: int) -> NDArray[np.int32]:
+    """Convert printed rows to an array with `NULL` for null, or raise NoAnswer.
+
+    Examples
+    --------
+    >>> _rows_of(b"1 20\\n-3 *\\n", 2).tolist()
+    [[1, 20], [-3, -2147483648]]
+    """
+    # Compare each byte with the next one. The first byte follows the end of a line.
+    codes = np.frombuffer((b"\n" + text).translate(_CODES), np.uint8)
+    may_not_follow = codes[:-1] >> 4
+    has_wrong_pair = (may_not_follow & codes[1:]).any()
+    separators = text.translate(None, b"0123456789-*")
+    separators_of_line = b" " * (cols - 1) + b"\n"
+    if separators != separators_of_line * text.count(b"\n") or has_wrong_pair:
+        raise NoAnswer(f"the program did not print rows of {cols} cells: {text[:60]!r}")
+    words = text.replace(b"*", b"%d" % NULL)
+    return np.fromstring(words, np.int32, sep=" ").reshape(-1, cols)

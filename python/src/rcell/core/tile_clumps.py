@@ -1,24 +1,26 @@
 # SPDX-License-Identifier: Apache-2.0 OR GPL-2.0-or-later
 """Join the clumps of tiles and number them as in the full map.
 
-The proved program rcell-join joins the clumps (see `rcell.core.joiner`). This module writes borders
-for rcell-join, and reads its numbering into numpy arrays, without a Python object per clump.
+The proved program rcell-pipe joins the clumps, using only the borders of the tiles. This module
+writes the borders, and reads the numbers into numpy arrays, without a Python object per clump.
 """
 
 from __future__ import annotations
 
-from collections.abc import Iterable, Sequence
+from collections.abc import Sequence
 from dataclasses import dataclass
 from typing import Any, Optional
 
 import numpy as np
 
+from . import protocol
 from .arrays import NDArray
-from .joiner import numbering_of
-from .protocol import NULL
-from .rectangles import Rectangle
+from .errors import OutOfMemory, WrongProgram
+from .host import host
+from .programs import find_pipe, program_errors
+from .protocol import NO_MEMORY, NULL
 
-__all__ = ["SIDES", "Joined", "TileNumbers", "border_text", "join", "renumber", "sides_text"]
+__all__ = ["SIDES", "Joined", "TileNumbers", "begun_in", "border_of", "join", "renumber"]
 
 Integers = NDArray[Any]
 
@@ -27,9 +29,6 @@ NO_CLUMP = 0
 
 SIDES = (np.s_[:1, :], np.s_[-1:, :], np.s_[:, :1], np.s_[:, -1:])
 """The first and last row and column of an array."""
-
-LEAST_WIDTH = 4
-"""The smallest number of columns in a border, whose ninth row contains four numbers."""
 
 PIECE = 2**18
 """The number of cells that are renumbered at a time, which fit in a processor's cache."""
@@ -70,88 +69,95 @@ class Joined:
     tiles: Sequence[TileNumbers]
 
 
-def border_text(
-    place: Rectangle, cells: Integers, numbers: Integers, diagonal: bool = False
-) -> bytes:
-    """Return a tile's border in the format of `rcell-join border`.
+def border_of(sides: Sequence[tuple[Integers, Integers]], begun: Integers) -> Integers:
+    """Return the border of a tile in the format of `requests.join_request`.
 
     Parameters
     ----------
-    place : Rectangle
-    cells : ndarray of integers, rows x cols
-        The cells of the tile, with `NULL` for null.
-    numbers : ndarray of integers, rows x cols
-        The clump numbers of the tile from r.clump, with 0 for null.
-    diagonal : bool
-        Whether cells that touch at a corner are connected.
+    sides : sequence of pairs of ndarrays
+        The cells, with `NULL` for null, and the clump numbers, with `NO_CLUMP` for null, of the
+        first row, last row, first column and last column.
+    begun : ndarray of integers
+        For each row, the number of clumps whose first cell is in the row.
 
     Examples
     --------
-    >>> text = border_text(Rectangle(0, 0, 1, 2), np.array([[8, 9]]), np.array([[1, 2]]))
-    >>> text.splitlines()[6:8], text.splitlines()[-2:]
-    ([b'8 9 * *', b'1 2 * *'], [b'1 2 2 4', b'2 * * *'])
+    >>> sides = [(np.array([8, NULL]), np.array([1, 0]))] * 2 + [(np.array([8]), np.array([1]))] * 2
+    >>> border_of(sides, np.array([1])).tolist()[:6]
+    [1, 2, 8, -2147483648, 1, -2147483648]
     """
-    # Clumps are numbered in the order of their first cells, so the largest number in the rows so
-    # far counts the clumps begun.
-    begun = np.maximum.accumulate(numbers.max(axis=1))
-    return sides_text(place, [(cells[side], numbers[side]) for side in SIDES], begun, diagonal)
+    first_cells, _ = sides[0]
+    parts = [np.array([begun.size, first_cells.size])]
+    for cells, numbers in sides:
+        parts += [cells.ravel(), np.where(numbers == NO_CLUMP, NULL, numbers).ravel()]
+    border: Integers = np.concatenate([*parts, begun]).astype(np.int32)
+    return border
 
 
-def sides_text(
-    place: Rectangle,
-    sides: Sequence[tuple[Integers, Integers]],
-    begun: Integers,
-    diagonal: bool,
-) -> bytes:
-    """Return a tile's border, built from its outermost cells and their clump numbers.
+def begun_in(numbers: Integers) -> Integers:
+    """Return, for each row of a tile's clump numbers, the number of clumps that begin in the row.
 
-    `sides` contains the first and last row and column. `begun` counts the clumps that begin up to
-    each row.
+    Clumps are numbered in the order of their first cells, so the largest number up to a row counts
+    the clumps that have begun. Null may be `NO_CLUMP` or any smaller number.
+
+    Examples
+    --------
+    >>> begun_in(np.array([[1, 2], [0, 2], [3, 0]])).tolist()
+    [2, 0, 1]
     """
-    lines = [
-        _words(values.ravel().tolist(), null)
-        for side in sides
-        for values, null in zip(side, (NULL, NO_CLUMP))
-    ]
-    facts = [place.rows, place.cols, int(begun[-1]), 8 if diagonal else 4]
-    lines += [_words(facts), _words(np.diff(begun, prepend=0).tolist())]
-    width = max(place.rows, place.cols, LEAST_WIDTH)
-    north, south, east, west = place.region.edges
-    head = f"north: {north}\nsouth: {south}\neast: {east}\nwest: {west}\nrows: 10\ncols: {width}\n"
-    rows = (" ".join(line + ["*"] * (width - len(line))) for line in lines)
-    return (head + "\n".join(rows) + "\n").encode()
+    largest = np.maximum.accumulate(numbers.max(axis=1).clip(min=NO_CLUMP))
+    begun: Integers = np.diff(largest, prepend=NO_CLUMP)
+    return begun
 
 
-def _words(values: Iterable[int], null: Optional[int] = None) -> list[str]:
-    return ["*" if value == null else str(value) for value in values]
-
-
-def join(borders: Sequence[bytes], diagonal: bool = False) -> Joined:
+def join(borders: Sequence[Integers], columns: int, diagonal: bool = False) -> Joined:
     """Join the clumps of tiles and number them in the order of their first cells in the full map.
 
     Parameters
     ----------
-    borders : sequence of bytes
-        The borders of all tiles in the format of `rcell-join border`, row by row from the top left
-        (law `grids_cover`).
+    borders : sequence of ndarrays
+        The borders of all tiles from `border_of`, row by row from the top left (law `grids_cover`).
+    columns : int
+        The number of columns of tiles.
     diagonal : bool
-        Whether cells that touch at a corner are connected, as in the borders.
+        Whether cells that touch at a corner are connected.
+
+    Raises
+    ------
+    OutOfMemory, Killed, MissingProgram, WrongProgram
 
     Examples
     --------
-    >>> cells, numbers = np.array([[4, 4]]), np.array([[1, 1]])
-    >>> whole = join([border_text(Rectangle(top, 0, 1, 2), cells, numbers) for top in (0, 1)])
-    >>> whole.clumps, renumber(np.array([[1, 1]]), whole.tiles[1]).tolist()
-    (1, [[1, 1]])
+    >>> side = np.array([4]), np.array([1])
+    >>> border = border_of([side] * 4, np.array([1]))
+    >>> whole = join([border, border], columns=1)
+    >>> whole.clumps, renumber(np.array([[1]]), whole.tiles[1]).tolist()
+    (1, [[1]])
     """
-    tile, first, last, number = numbering_of(borders, diagonal).T
+    joined = _joined(borders, (len(borders) // columns, columns), 8 if diagonal else 4)
+    tile, first, last, number = np.asarray(joined.runs).view(np.int64).reshape(-1, 4).T
     ends = np.searchsorted(tile, np.arange(1, len(borders) + 2))
     tiles = []
     for begin, end in zip(ends, ends[1:]):
         clumps = int(last[end - 1]) if end > begin else 0
         tiles.append(TileNumbers(clumps, first[begin:end], number[begin:end]))
-    largest = (number + last - first).max(initial=0)
-    return Joined(int(largest), tiles)
+    return Joined(joined.patches, tiles)
+
+
+def _joined(
+    borders: Sequence[Integers], shape: tuple[int, int], connectivity: int
+) -> protocol.JoinFrame:
+    """Return the program's response to the borders, or raise one of this package's errors."""
+    with program_errors("", [], path := find_pipe()):
+        try:
+            given = [border.data for border in borders]
+            return protocol.join(path, given, shape, connectivity, watch=host().watch)
+        except protocol.Rejected as error:
+            if error.status == NO_MEMORY:
+                problem = f"{error.text} to join the tiles"
+                raise OutOfMemory(problem, "arguments", status=error.status) from None
+            problem = f"{path} rejected the border of tile {error.map + 1}: {error.text}"
+            raise WrongProgram(problem) from None
 
 
 def renumber(numbers: Integers, tile: TileNumbers, out: Optional[Integers] = None) -> Integers:

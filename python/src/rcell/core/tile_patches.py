@@ -11,20 +11,12 @@ import numpy as np
 
 from .arrays import NDArray
 from .counting import places_of
-from .protocol import (
-    NULL,
-    PATCH_BYTES,
-    ZONE_BYTES,
-    Frame,
-    NumbersFrame,
-    PatchesFrame,
-    Question,
-    TableFrame,
-)
+from .protocol import NULL, Frame, NumbersFrame, PatchesFrame, Question, TableFrame
 from .rectangles import Rectangle
+from .responses import PATCH_BYTES, ZONE_BYTES
 from .runs import entries_of
 from .sources import Block, null_cells
-from .tile_clumps import NO_CLUMP, sides_text
+from .tile_clumps import NO_CLUMP, border_of
 from .tile_tables import order_of
 from .tile_work import TileWork, wide
 from .tiling import in_threads
@@ -68,7 +60,7 @@ Bools = NDArray[np.bool_]
 def measures_of(work: TileWork, frames: Sequence[Frame]) -> list[Integers]:
     """Return a tile's border, patch measures, open patches and tables.
 
-    The border is text, stored as bytes. Open patches may continue outside the tile.
+    Open patches may continue outside the tile.
     """
     [question] = work.questions
     *tables, grid, patches = frames
@@ -79,14 +71,13 @@ def measures_of(work: TileWork, frames: Sequence[Frame]) -> list[Integers]:
     block = source.window(*work.outer)
     tile = _Tile(work.place, work.outer, work.shape, block, source.nodata, numbers)
     sides = [(tile.classes(side), tile.numbers(side)) for side, _, _ in tile.sides()]
-    begun = np.cumsum(np.bincount(rows["top"], minlength=work.place.rows))
-    text = sides_text(work.place, sides, begun, question.is_diagonal)
+    border = border_of(sides, np.bincount(rows["top"], minlength=work.place.rows))
     tile.leave_out_inner_sides(rows)
     tile.add_core_cells(rows, question)
     for name, first in zip(("top", "bottom", "left", "right"), np.repeat(work.place[:2], 2)):
         rows[name] += first
     open_ones = np.unique(np.concatenate([numbers.ravel() for _, numbers in sides]))
-    told = [np.frombuffer(text, np.uint8), rows, open_ones[open_ones != NO_CLUMP]]
+    told = [border, rows, open_ones[open_ones != NO_CLUMP]]
     return told + [entries_of(table) for table in tables if isinstance(table, TableFrame)]
 
 

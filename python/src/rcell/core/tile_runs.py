@@ -22,7 +22,6 @@ from .borders import Watch
 from .crews import Crew
 from .errors import BadMap, ReadFailed
 from .host import host
-from .joiner import check_files, find_joiner
 from .kept import cells_for
 from .pieces import is_file
 from .protocol import NULL, Question, Statement
@@ -87,9 +86,6 @@ def run_tiles(
     places = rectangles_of(shape, size)
     clumps = [statement for statement in plan if statement.command == "r.clump"]
     outputs = outputs_in(plan)
-    if clumps:
-        find_joiner()  # needed only at the end, but reported now if it is missing
-        check_files(len(places))
     states = _states(maps)
     numbered = {clump.made for clump in clumps}
     rest = [statement for statement in outputs if not _is_map_of(statement, numbered)]
@@ -135,8 +131,6 @@ def ask_tiles(
     size, workers = tile_size(maps, demand, found_cluster)
     shape = next(iter(maps.values())).region.shape
     places = rectangles_of(shape, size)
-    find_joiner()
-    check_files(len(places))
     states = _states(maps)
     with _first_bad_cell(maps), Crew(workers, len(places), cluster=found_cluster) as crew:
         tiles = _Tiles(crew, dict(maps), places, shape)
@@ -233,14 +227,13 @@ class _Tiles:
         The clump map is never created.
         """
         script = self._script(plan, [clump, stats])
-        diagonal = is_diagonal(clump)
         text = partial(script.clump_text, clump, stats=stats)
-        borders = [b""] * len(self._places)
-        results = patches_of(diagonal, is_counted(stats))
+        borders = {}
+        results = patches_of(is_counted(stats))
         for index, (border, table, sides) in self._run(script, text, results):
-            borders[index] = border.tobytes()
+            borders[index] = border
             fold.add(index, table, sides)
-        tiles = join(borders, diagonal).tiles
+        tiles = self._joined(borders, is_diagonal(clump)).tiles
         fold.join(lambda index, numbers: tiles[index].looked_up(numbers))
 
     def measure(self, plan: Sequence[Statement], question: Question, fold: PatchFold) -> None:
@@ -249,7 +242,6 @@ class _Tiles:
         The first column of each table is the patch number.
         """
         script = self._script(plan, outputs_in(plan))
-        borders = [b""] * len(self._places)
 
         def text(place: Rectangle, _: Rectangle, shape: tuple[int, int]) -> str:
             return script.text(place, place, shape)
@@ -259,9 +251,9 @@ class _Tiles:
             fold.add(place, rows, sides, tables)
             return [border]
 
-        for index, [border] in self._run(script, text, measures_of, put=add, question=question):
-            borders[index] = border.tobytes()
-        tiles = dict(zip(self._places, join(borders, question.is_diagonal).tiles))
+        found = self._run(script, text, measures_of, put=add, question=question)
+        borders = {index: border for index, [border] in found}
+        tiles = dict(zip(self._places, self._joined(borders, question.is_diagonal).tiles))
         fold.join(lambda place, numbers: tiles[place].looked_up(numbers))
 
     def add_clumps(self, plan: Sequence[Statement], clump: Statement, is_last: bool) -> None:
@@ -271,7 +263,6 @@ class _Tiles:
         full map's clump numbers.
         """
         script = self._script(plan, [clump])
-        diagonal = is_diagonal(clump)
         numbers = cells_for(self._shape, np.int32)
 
         def keep_numbers(place: Rectangle, results: list[Integers]) -> list[Integers]:
@@ -279,11 +270,9 @@ class _Tiles:
             return results[:1]
 
         text = partial(script.clump_text, clump)
-        borders = [b""] * len(self._places)
-        found = self._run(script, text, clumps_of(diagonal), is_last, False, keep_numbers)
-        for index, [border] in found:
-            borders[index] = border.tobytes()
-        joined = join(borders, diagonal)
+        found = self._run(script, text, clumps_of, is_last, False, keep_numbers)
+        borders = {index: border for index, [border] in found}
+        joined = self._joined(borders, is_diagonal(clump))
         self._maps[clump.made] = ArrayMap(
             clump.made,
             self._numbered(numbers, joined),
@@ -355,6 +344,11 @@ class _Tiles:
             np.copyto(part, NULL, where=part == NO_CLUMP)
         self._maps[output.inputs[0]] = replace(source, nodata_value=NULL)
         return Output("r.out.ascii", output.line, output.inputs, source.array)
+
+    def _joined(self, borders: Mapping[int, Integers], diagonal: bool) -> Joined:
+        """Join the clumps of all tiles, given the border of each tile by index."""
+        columns = sum(place.top == 0 for place in self._places)
+        return join([borders[index] for index in range(len(borders))], columns, diagonal)
 
     @property
     def _full(self) -> Rectangle:

@@ -22,7 +22,7 @@ from .rectangles import Rectangle
 from .region import Region
 from .runs import entries_of
 from .sources import Block
-from .tile_clumps import NO_CLUMP, SIDES, border_text, sides_text
+from .tile_clumps import NO_CLUMP, SIDES, begun_in, border_of
 
 __all__ = ["TileDone", "TileWork", "clumps_of", "outputs_of", "patches_of", "run_work", "wide"]
 
@@ -174,44 +174,33 @@ def _outputs(
     return results
 
 
-def clumps_of(diagonal: bool) -> partial[list[Integers]]:
-    """Return a function that extracts a tile's border text and its clump numbers."""
-    return partial(_clumps, diagonal)
-
-
-def _clumps(diagonal: bool, work: TileWork, frames: Sequence[protocol.Frame]) -> list[Integers]:
-    """Return a tile's border text and clump numbers, from the frames of clumps and classes."""
+def clumps_of(work: TileWork, frames: Sequence[protocol.Frame]) -> list[Integers]:
+    """Return a tile's border and clump numbers, from the frames of clumps and classes."""
     numbers, classes = frames
     assert isinstance(numbers, GridFrame) and isinstance(classes, GridFrame)
-    clumps = wide(_cells_of(numbers, work), NO_CLUMP)
-    text = border_text(work.place, wide(_cells_of(classes, work), NULL), clumps, diagonal)
-    return [np.frombuffer(text, np.uint8), clumps]
+    clumps, cells = wide(_cells_of(numbers, work), NO_CLUMP), _cells_of(classes, work)
+    sides = [(wide(cells[side], NULL), clumps[side]) for side in SIDES]
+    return [border_of(sides, begun_in(clumps)), clumps]
 
 
-def patches_of(diagonal: bool, is_counted: bool) -> partial[list[Integers]]:
+def patches_of(is_counted: bool) -> partial[list[Integers]]:
     """Return a function that extracts a tile's border, clump table and open clumps.
 
-    The border is text, stored as bytes. Open clumps may continue outside the tile.
+    Open clumps may continue outside the tile.
     """
-    return partial(_patches, diagonal, is_counted)
+    return partial(_patches, is_counted)
 
 
-def _patches(
-    diagonal: bool, is_counted: bool, work: TileWork, frames: Sequence[protocol.Frame]
-) -> list[Integers]:
+def _patches(is_counted: bool, work: TileWork, frames: Sequence[protocol.Frame]) -> list[Integers]:
     """Return a tile's border, clump table and open clumps, from the frames of the three outputs."""
     table, *grids = frames
     numbers, classes = (_cells_of(grid, work) for grid in grids if isinstance(grid, GridFrame))
     sides = [(wide(classes[side], NULL), wide(numbers[side], NO_CLUMP)) for side in SIDES]
     if numbers.dtype == np.uint8:
         numbers = wide(numbers, NO_CLUMP)
-    # Clumps are numbered in the order of their first cells, so the largest number up to a row
-    # counts the clumps that have begun. Rows of nulls have a negative maximum.
-    begun = np.maximum.accumulate(numbers.max(axis=1).clip(min=NO_CLUMP))
-    text = sides_text(work.place, sides, begun, diagonal)
     open_clumps = np.unique(np.concatenate([side_numbers.ravel() for _, side_numbers in sides]))
     return [
-        np.frombuffer(text, np.uint8),
+        border_of(sides, begun_in(numbers)),
         _table_of(table, work, is_counted),
         open_clumps[open_clumps != NO_CLUMP],
     ]

@@ -235,9 +235,10 @@ class _Graph:
 
     def add_clumps(self, plan: Sequence[Statement], clump: Statement) -> None:
         """Add the map of an `r.clump` statement to the maps of the graph."""
-        script, diagonal = self._script(plan, [clump]), is_diagonal(clump)
-        tiles = self._run(script, partial(script.clump_text, clump), clumps_of(diagonal))
-        full = self._delayed(_joined)(tiles, diagonal)
+        script = self._script(plan, [clump])
+        tiles = self._run(script, partial(script.clump_text, clump), clumps_of)
+        _, col_chunks = self._chunks
+        full = self._delayed(_joined)(tiles, len(col_chunks), is_diagonal(clump))
         cells = [self._delayed(_renumbered)(index, tile, full) for index, tile in enumerate(tiles)]
         self._maps[clump.made] = _ComputedMap(clump.made, self._array_of(cells), NO_CLUMP)
 
@@ -294,10 +295,9 @@ def _cells_of(index: int, tile: TileDone) -> Integers:
     return cells if cells.dtype == np.int32 else wide(cells, NULL)
 
 
-def _joined(tiles: Sequence[TileDone], diagonal: bool) -> Joined:
+def _joined(tiles: Sequence[TileDone], columns: int, diagonal: bool) -> Joined:
     """Return the numbering of the full map, from the border and clumps of each chunk."""
-    borders = [border for border, _ in (tile.results for tile in tiles)]
-    full = join([border.tobytes() for border in borders], diagonal)
+    full = join([border for border, _ in (tile.results for tile in tiles)], columns, diagonal)
     if full.clumps > MAX_CATEGORY:
         problem = f"a lazy map can have at most {MAX_CATEGORY:,} patches; got {full.clumps:,}"
         raise BadMap("map", f"{problem}: omit compute=False")
