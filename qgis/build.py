@@ -22,7 +22,7 @@ REPOSITORY = HERE.parent
 ENGINE = re.compile(
     r"python/src/rcell/(core/[a-z_]+\.(?:py|json)|readers/(?:__init__|gdal|handles|ogr|osr)\.py)"
 )
-PROGRAMS = ("rcell", "rcell-pipe", "rcell-join")
+PROGRAMS = ("rcell", "rcell-pipe")
 KINDS = (".json", ".model3", ".py", ".svg", ".txt")
 
 

@@ -10,7 +10,7 @@ trap 'rm -rf "$room"' EXIT
 unset PYTHONPATH
 export PYTHONDONTWRITEBYTECODE=1 LC_ALL=C.UTF-8 QT_QPA_PLATFORM=offscreen HOME="$room" XDG_RUNTIME_DIR="$room"
 # In a session of these sources, the static programs are what is tried, as in the zip.
-export RCELL="$PWD/bin/rcell-static" RCELL_PIPE="$PWD/bin/rcell-pipe-static" RCELL_JOIN="$PWD/bin/rcell-join-static" RCELL_QGIS_ZIP="$zip"
+export RCELL="$PWD/bin/rcell-static" RCELL_PIPE="$PWD/bin/rcell-pipe-static" RCELL_QGIS_ZIP="$zip"
 . tools/counting.sh
 
 check 'the zip is built' "$python" qgis/build.py "$room/again"

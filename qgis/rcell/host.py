@@ -12,7 +12,6 @@ from typing import Any, Callable
 
 from .engine.core.errors import MissingProgram, RcellError
 from .engine.core.host import Host
-from .engine.core.joiner import find_joiner
 from .engine.core.process import found_on_path
 from .engine.core.programs import find_pipe
 from .engine.core.programs import find_program as find_rcell
@@ -24,7 +23,6 @@ _SETTINGS = "Settings > Options > Processing > Providers > rcell"
 # The programs, each with its environment variable and its test function.
 _PROGRAMS = {
     "rcell-pipe": ("RCELL_PIPE", find_pipe),
-    "rcell-join": ("RCELL_JOIN", find_joiner),
     "rcell": ("RCELL", find_rcell),
 }
 
@@ -92,13 +90,11 @@ def _path_of(source: Source) -> str:
 
 
 def find_program(setting: str = "", name: str = "rcell-pipe") -> str:
-    """Return the path of rcell-pipe, rcell-join or rcell.
+    """Return the path of rcell-pipe or rcell. Only text grids need rcell.
 
-    Only patches of large maps need rcell-join, and only text grids need rcell.
-
-    These places are searched in order: the setting, the variable RCELL_PIPE (or RCELL_JOIN, or
-    RCELL), the folder of the program that RCELL names, the plugin, and PATH. The setting may name
-    rcell-pipe or rcell. The other programs must be next to it.
+    These places are searched in order: the setting, the variable RCELL_PIPE (or RCELL), the folder
+    of the program that RCELL names, the plugin, and PATH. The setting may name rcell-pipe or rcell.
+    The other program must be next to it.
 
     Raises
     ------

@@ -17,7 +17,7 @@ from rcell.engine.core.host import serving
 from rcell.engine.readers.gdal import RasterMap, open_raster
 
 KNOWN = host.find_program()
-UNSET = {"RCELL": "", "RCELL_PIPE": "", "RCELL_JOIN": ""}
+UNSET = {"RCELL": "", "RCELL_PIPE": ""}
 
 
 class Feedback:
@@ -67,14 +67,12 @@ class HostTest(unittest.TestCase):
 
     def test_each_program_has_its_variable_and_is_next_to_the_others(self) -> None:
         folder = os.path.dirname(KNOWN)
-        for name in ("rcell", "rcell-join", "rcell-pipe"):
+        for name in ("rcell", "rcell-pipe"):
             expected = os.path.join(folder, name)
             with mock.patch.dict(os.environ, UNSET):
                 self.assertEqual(host.find_program(os.path.join(folder, "rcell"), name), expected)
             with mock.patch.dict(os.environ, {**UNSET, "RCELL": os.path.join(folder, "rcell")}):
                 self.assertEqual(host.find_program("", name), expected)
-        with mock.patch.dict(os.environ, {**UNSET, "RCELL_JOIN": f"{folder}/rcell-join"}):
-            self.assertEqual(host.find_program("", "rcell-join"), f"{folder}/rcell-join")
 
     def test_the_right_to_execute_is_given_back_to_the_plugins_own(self) -> None:
         own = self.script(f'exec "{KNOWN}" "$@"', 0o644, "rcell-pipe")

@@ -27,7 +27,6 @@ from rcell.host import find_program
 SOURCES = pathlib.Path(__file__).resolve().parents[2] / "python/src"
 SIDE = 3300  # more cells than one run accepts
 BLOCK = 12
-PROGRAMS = {"RCELL_PIPE": "rcell-pipe", "RCELL_JOIN": "rcell-join"}
 ALGORITHMS = {"composition": ".csv", "majority": ".tif", "clump": ".tif"}
 # QGIS shows the program's work as the first half of its progress.
 HALF = 50
@@ -42,12 +41,9 @@ class LargeTest(unittest.TestCase):
         cls.addClassCleanup(cls.folder.cleanup)
         cls.room = os.path.join(cls.folder.name, "maps")
         os.mkdir(cls.room)
-        # Use separate copies of the programs, because other tests may run at the same time.
-        copies = {
-            variable: shutil.copy(find_program("", name), cls.folder.name)
-            for variable, name in PROGRAMS.items()
-        }
-        patch = mock.patch.dict(os.environ, copies)
+        # Use a separate copy of the program, because other tests may run at the same time.
+        copy = shutil.copy(find_program(), cls.folder.name)
+        patch = mock.patch.dict(os.environ, RCELL_PIPE=copy)
         patch.start()
         cls.addClassCleanup(patch.stop)
         cls.raster = os.environ.get("RCELL_LARGE") or cls.made()
