@@ -1,6 +1,6 @@
 # SPDX-License-Identifier: Apache-2.0 OR GPL-2.0-or-later
 
-# make           proves and builds rcell, rcell-join and rcell-pipe into bin/; JOBS=1 if memory is short
+# make           proves and builds rcell and rcell-pipe into bin/; JOBS=1 if memory is short
 # make try       compiles rcell without proofs and runs an example (two minutes)
 # make test      compiles all programs without proofs into test-bin/, and runs every test that needs no proof (ten minutes)
 # make check     the gate: every proof, edit and test, the programs, documents, release and packages
@@ -44,12 +44,12 @@ SOURCES = crates.txt $(shell find $(wildcard $(CRATES:%=%/src) $(CRATES:%=%/spec
 .PHONY: all try test install uninstall example documents check static dist debian11 edits hostile fuzz bench figures pictures exchange clean
 .PHONY: help help-all
 
-all: bin/rcell bin/rcell-join bin/rcell-pipe
+all: bin/rcell bin/rcell-pipe
 
 # One run for all that is wanted: the programs share most of their crates, and not every kit keeps proofs from run to run.
-WANTED = rcell rcell-join rcell-pipe
+WANTED = rcell rcell-pipe
 example: WANTED = rcell
-bin/rcell bin/rcell-join bin/rcell-pipe &: $(SOURCES)
+bin/rcell bin/rcell-pipe &: $(SOURCES)
 	@sh tools/needs.sh
 	@$(if $(OBJECTS),python3 tools/build/objects.py --from $(OBJECTS) $(WANTED) ||) python3 tools/build/build.py $(if $(JOBS),--jobs $(JOBS)) $(WANTED)
 

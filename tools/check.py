@@ -137,11 +137,11 @@ LATE = [
         "rcell on each case, with each growth refused in turn",
         [tool("model/cases.py", CLANG)],
     ),
-    Part("joined", "rcell-join beside a plain model and full maps", [tool("join", CLANG)]),
+    Part("joined", "maps joined from tiles by rcell-pipe beside full maps", [tool("join")]),
     Part(
         "pipe",
         "rcell-pipe on random requests beside rcell, and on damaged ones",
-        [tool("model/test_pipe.py", CLANG), tool("model/test_plan.py")],
+        [tool("model/test_pipe.py", CLANG), tool("model/test_plan.py"), tool("model/test_join.py")],
     ),
     Part("documents", "each example of the documents", [tool("documents/documents.py")]),
     Part(
@@ -317,7 +317,7 @@ def keep_closing(results, closing):
     proofs = next(it.note for it in results if it.name == PROOFS.name)
     with open(f"{ROOT}/bin/gate", "w", encoding="utf-8") as file:
         file.write(
-            f"commit: {commit}\nkit: {said_by('rt', 'version')}\nprogram: {sum_of('rcell')}\njoiner: {sum_of('rcell-join')}\n"
+            f"commit: {commit}\nkit: {said_by('rt', 'version')}\nprogram: {sum_of('rcell')}\n"
             f"pipe: {sum_of('rcell-pipe')}\nproofs: {proofs}\nclosing: {closing}\n"
         )
 

@@ -71,7 +71,7 @@ def packages(version):
         version,
         linked.OWN,
         "",
-        "rcell, rcell-join, rcell-pipe, their helpers, documents and examples",
+        "rcell, rcell-pipe, their helpers, documents and examples",
         HOLDER,
         "product",
     )

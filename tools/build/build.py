@@ -1,7 +1,7 @@
 #!/usr/bin/env python3
 """Prove the crates that a program needs, and put the program into bin/.
 
-    build.py [--jobs N] PROGRAM..       PROGRAM is rcell, rcell-join or rcell-pipe
+    build.py [--jobs N] PROGRAM..       PROGRAM is rcell or rcell-pipe
     build.py --list PROGRAM|all         the crates that it needs, each after those it uses
 
 `rt ci` runs in a folder with only these crates, without tests and edits. If the kit keeps proofs,
@@ -23,7 +23,7 @@ import threading
 import time
 
 ROOT = os.path.abspath(f"{__file__}/../../..")
-PROGRAMS = {"rcell_program": "rcell", "rcell_join": "rcell-join", "rcell_pipe": "rcell-pipe"}
+PROGRAMS = {"rcell_program": "rcell", "rcell_pipe": "rcell-pipe"}
 LOG = f"{ROOT}/bin/proofs.log"
 PROVED = ("src", "specs", "proofs")
 RUN_ON = ("stdin", "args", "data", "status", "stdout")

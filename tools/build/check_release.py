@@ -4,8 +4,8 @@
     check_release.py [--keep FOLDER]
 
 Checks the static programs against the documents and the models, the files of the release
-(tools/build/check_artefacts.py), the quick start, rcell-gis and the joiner from the unpacked files,
-and `make install`. Needs the programs in bin/ and the objects that they were linked from,
+(tools/build/check_artefacts.py), the quick start, rcell-pipe and rcell-gis from the unpacked files, and
+`make install`. Needs the programs in bin/ and the objects that they were linked from,
 bin/NAME.o. --keep leaves the files of the release in the folder. The last line is 'N passed, M
 failed'.
 """
@@ -31,7 +31,7 @@ import links
 PATH_WITHOUT_KIT = "/usr/bin:/bin"
 RUNS = "300"
 KIND_OF_INTERPRETER = 3  # PT_INTERP of an ELF file
-PROGRAMS = ("rcell", "rcell-join", "rcell-pipe")
+PROGRAMS = ("rcell", "rcell-pipe")
 PAGES = "share/man/man1"
 DOCUMENTS = "share/doc/rcell"
 # The Debian packages needed for a release, each identified by one of its files.
@@ -41,13 +41,7 @@ PACKAGES = {
     "python3-hatchling": "/usr/lib/python3/dist-packages/hatchling",
     "r-base-core": "/usr/bin/R",
 }
-# Two tiles of a map, and the table of the full map.
-HEADER = "north: {}\nsouth: {}\neast: 3\nwest: 0\nrows: {}\ncols: 3\n"
-BANDS = {
-    "upper": HEADER.format(3, 1, 2) + "5 5 *\n-1 5 7\n",
-    "lower": HEADER.format(1, 0, 1) + "7 * 9\n",
-}
-TABLE_OF_THE_WHOLE = "-1 1\n5 3\n7 2\n9 1\n* 2\n"
+GRID = "north: 3\nsouth: 1\neast: 3\nwest: 0\nrows: 2\ncols: 3\n5 5 *\n-1 5 7\n"
 
 
 class Count:
@@ -98,7 +92,7 @@ class Count:
 def check_static(count):
     """Check that the static programs print what the documents show, and what the plain models
     compute for random runs."""
-    static, joiner, pipe = (f"{ROOT}/bin/{name}-static" for name in PROGRAMS)
+    static, pipe = (f"{ROOT}/bin/{name}-static" for name in PROGRAMS)
     for what, words in (
         (
             "the documents by the static programs",
@@ -106,8 +100,6 @@ def check_static(count):
                 "tools/documents/documents.py",
                 "--program",
                 static,
-                "--joiner",
-                joiner,
                 "--pipe",
                 pipe,
                 *documents.DOCUMENTS,
@@ -118,8 +110,8 @@ def check_static(count):
             ["tools/model/compare.py", "--runs", RUNS, "--seed", "2", "--program", static],
         ),
         (
-            "the static joiner beside a plain one",
-            ["tools/join", "--runs", RUNS, "--program", joiner],
+            "tiles joined by the static rcell-pipe",
+            ["tools/join", "--runs", RUNS, "--program", pipe],
         ),
         (
             "the static rcell-pipe beside rcell",
@@ -173,27 +165,6 @@ def said_of(*words):
     return ran.stdout.strip() or f"status {ran.returncode}" if ran.returncode else ""
 
 
-def fault_of_joining(programs, room):
-    """Count two tiles of a map with rcell from this folder and merge the tables with its
-    rcell-join. Return the error, or ''."""
-
-    def run(name, *words):
-        return subprocess.run(
-            [f"{programs}/{name}", *words], cwd=here, capture_output=True, text=True
-        )
-
-    with tempfile.TemporaryDirectory(prefix="bands-", dir=room) as here:
-        for name, text in {**BANDS, "counts": "r.stats -c input=land\n"}.items():
-            with open(f"{here}/{name}", "w", encoding="ascii") as file:
-                file.write(text)
-        for name in BANDS:
-            with open(f"{here}/{name}.table", "w", encoding="ascii") as file:
-                file.write(run("rcell", "counts", f"land={name}").stdout)
-        ran = run("rcell-join", "tables", *(f"{name}.table" for name in BANDS))
-    is_right = (ran.returncode, ran.stdout, ran.stderr) == (0, TABLE_OF_THE_WHOLE, "")
-    return "" if is_right else f"status {ran.returncode}, {ran.stdout!r}, {ran.stderr!r}"
-
-
 def fault_of_pipe(programs):
     """Run rcell-pipe from this folder on the request of its crate. Return the error, or ''."""
     crate = pathlib.Path(ROOT, "crates/rcell_pipe")
@@ -208,9 +179,9 @@ def fault_of_gis(programs, room):
     """Convert a grid to an ESRI ASCII grid and back with rcell-gis from this folder. Return the
     error, or ''."""
     with tempfile.TemporaryDirectory(prefix="gis-", dir=room) as here:
-        with open(f"{here}/upper.txt", "w", encoding="ascii") as file:
-            file.write(BANDS["upper"])
-        for words in (("upper.txt", "upper.asc"), ("upper.asc", "again.txt")):
+        with open(f"{here}/land.txt", "w", encoding="ascii") as file:
+            file.write(GRID)
+        for words in (("land.txt", "land.asc"), ("land.asc", "again.txt")):
             ran = subprocess.run(
                 [f"{programs}/rcell-gis", "convert", *words],
                 cwd=here,
@@ -221,7 +192,7 @@ def fault_of_gis(programs, room):
                 return f"status {ran.returncode}, {ran.stderr!r}"
         with open(f"{here}/again.txt", encoding="ascii") as file:
             text = file.read()
-    return "" if text == BANDS["upper"] else f"it came back as {text!r}"
+    return "" if text == GRID else f"it came back as {text!r}"
 
 
 def fault_of_page(prefix, name):
@@ -261,8 +232,8 @@ def check_links(count, what, prefix):
 
 
 def check_unpacked(count, room, folder, names):
-    """Check the quick start, the pages, rcell-join, rcell-pipe and rcell-gis, from the tarball and
-    from the package."""
+    """Check the quick start, the pages, rcell-pipe and rcell-gis, from the tarball and from the
+    package."""
     for kind, ending, programs in (
         ("tarball", "linux-x86_64.tar.gz", "rcell-*/bin"),
         ("package", ".deb", "unpacked/usr/bin"),
@@ -279,7 +250,6 @@ def check_unpacked(count, room, folder, names):
         found = next(iter(glob.glob(f"{here}/{programs}")), f"{here}/{programs}")
         check_pages(count, f"the manual pages of the {kind}", os.path.dirname(found))
         check_links(count, f"the {kind}", os.path.dirname(found))
-        count.add(f"rcell-join of the {kind}", fault_of_joining(found, room))
         count.add(f"rcell-pipe of the {kind}", fault_of_pipe(found))
         count.add(f"rcell-gis of the {kind}", fault_of_gis(found, room))
 
@@ -320,7 +290,6 @@ def check_install(count, room):
     )
     check_pages(count, "the installed manual pages", prefix)
     check_links(count, "the installed pages", prefix)
-    count.add("the installed rcell-join", fault_of_joining(f"{prefix}/bin", room))
     count.add("the installed rcell-pipe", fault_of_pipe(f"{prefix}/bin"))
     land = f"{prefix}/{DOCUMENTS}/examples/land-cover"
     ran = run(f"{prefix}/bin/rcell", f"{land}/script", f"landuse={land}/landuse.txt")

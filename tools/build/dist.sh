@@ -47,7 +47,7 @@ dpkg-deb --root-owner-group -Zgzip -z9 --build "$package" "$dist/rcell_${version
 object=rcell-$version-objects
 kit=$(dirname "$(rt doc)")
 mkdir "$room/$object"
-install -m 644 bin/rcell.o bin/rcell-join.o bin/rcell-pipe.o "$kit/c/libos_c.a" "$kit/c/liblibc_c.a" "$room/$object"
+install -m 644 bin/rcell.o bin/rcell-pipe.o "$kit/c/libos_c.a" "$kit/c/liblibc_c.a" "$room/$object"
 install -m 644 packaging/objects.md "$room/$object/README.md"
 python3 tools/build/objects.py --stamps "$room/$object"
 python3 tools/build/linked.py "$room/$object/licenses"

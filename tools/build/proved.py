@@ -19,7 +19,7 @@ import edit_files
 
 ROOT = build.ROOT
 # The key of each program in the gate's record.
-KEYS = {"rcell": "program", "rcell-join": "joiner", "rcell-pipe": "pipe"}
+KEYS = {"rcell": "program", "rcell-pipe": "pipe"}
 PACKAGES = ("libc6-dev", "libgcc-12-dev")
 SECTION = "What is proved, tested and trusted"
 
@@ -121,10 +121,9 @@ Programs    {sums("-static")}
             by the kit's ld.lld with the C library of Debian ({versions}); {origins()}.
 Tested ones {sums()}
             linked dynamically from the same objects by the kit: rcell is the one that the gate runs on all cases, good ones also
-            with each growth of memory refused in turn (which LD_PRELOAD does, and a static program does not heed), rcell-join the
-            one that it runs beside a plain model, one case of each command with each growth refused, and rcell-pipe the one that
-            it runs on random requests beside rcell. The gate tries the static ones on the documents and on random runs beside the
-            same models, rcell on the quick start and with the helpers, and rcell-join on tables that this rcell prints.
+            with each growth of memory refused in turn (which LD_PRELOAD does, and a static program does not heed), and rcell-pipe
+            the one that it runs on random requests beside rcell, and on the tiles of random maps. The gate tries the static ones on
+            the documents and on random runs beside the same models, and rcell on the quick start and with the helpers.
             So what the static programs add to what is trusted is Debian's libc.a and startup files, and this link.
 
 What is proved, tested and trusted

@@ -11,7 +11,7 @@
 set -eu
 cd "$(dirname "$0")/../.."
 output=${1:-bin}
-programs='rcell rcell-join rcell-pipe'
+programs='rcell rcell-pipe'
 
 refuse() {
     echo "rcell: $1" >&2

@@ -33,7 +33,7 @@ ROW_OF_CRATE = re.compile(r"^\| `(r?cell\w*)` \|", re.MULTILINE)
 OTHERS = set(
     """if and or run new row col nrows ncols isnull null eval abs min max mode nmin nmax nmode x g a b f
 Err Ok None Some Drop Copy Clone bstr itoa clap thiserror circular_buffer std lines_of without_terminator rcell
-rattle_alloc rattle_realloc rattle_dealloc rattle_arg rattle_errno rattle_set_errno lseek chdir chmod""".split()
+rattle_alloc rattle_realloc rattle_dealloc rattle_arg rattle_errno rattle_set_errno lseek""".split()
 )
 NO_LABELS = {
     "as",

@@ -1,14 +1,13 @@
 #!/usr/bin/env python3
 """Compare the flags, keys and functions in the documents with those that the program accepts.
 
-    command_options.py [--program PATH] [--joiner PATH]
+    command_options.py [--program PATH]
 
 For each command, docs/commands.md contains a synopsis and a table of flags and options, which must
 agree. The program is run with each letter and digit as a flag, and with each key of any command or
 of GRASS. It must accept exactly those in the document, and require exactly the keys that the table
-marks as required. The functions of r.mapcalc are tested in the same way. For each command of
-rcell-join, the synopsis in docs/rcell-join.md must be its usage. It is tested with the same flags
-and keys, and an unknown key is a file. The last line is 'N passed, M failed'.
+marks as required. The functions of r.mapcalc are tested in the same way. The last line is
+'N passed, M failed'.
 """
 import argparse
 import os
@@ -20,11 +19,9 @@ import tempfile
 
 ROOT = os.path.abspath(f"{__file__}/../../..")
 BIN = os.environ.get("RCELL_BIN", f"{ROOT}/bin")
-DOCUMENT, DOCUMENT_OF_JOINER = "docs/commands.md", "docs/rcell-join.md"
+DOCUMENT = "docs/commands.md"
 COMMANDS = ("r.reclass", "r.clump", "r.stats", "r.out.ascii")
-JOINER = "rcell-join"
 GRID = "north: 1\nsouth: 0\neast: 2\nwest: 0\nrows: 1\ncols: 2\n1 2\n"
-EMPTY = "empty.table"
 # A value for each key of any command, and keys of GRASS that no command accepts.
 VALUES = {"input": "land", "output": "made", "separator": "comma", "null_value": "NA", "after": "1"}
 KEYS_OF_GRASS = (
@@ -89,10 +86,7 @@ def read(name):
 
 
 def section(command):
-    """Return the section about a command. In a document of its own, headings are one level
-    higher."""
-    if command == JOINER:
-        return re.sub(r"^## ", "### ", read(DOCUMENT_OF_JOINER), flags=re.MULTILINE) + "### \n"
+    """Return the section about a command."""
     return re.search(
         rf"^## {re.escape(command)}\n(.*?)^## ", read(DOCUMENT), re.MULTILINE | re.DOTALL
     )[1]
@@ -124,11 +118,6 @@ def in_table(command):
 
 def required(command):
     return {name for name, says in rows(command) if says.endswith("(required)")}
-
-
-def synopses_of_joiner():
-    """Return the synopsis of each command of rcell-join in docs/rcell-join.md."""
-    return synopsis(JOINER).strip().splitlines()
 
 
 def functions_of_document():
@@ -201,52 +190,7 @@ def faults_of_functions(tried):
         yield "" if said == wanted else f"r.mapcalc {name}(..): {said or 'taken'}, and not {wanted or 'taken'}"
 
 
-class TriedJoiner:
-    """Runs the joiner on empty files, in a separate folder."""
-
-    def __init__(self, joiner, folder):
-        self.joiner, self.folder = joiner, folder
-        with open(f"{folder}/{EMPTY}", "w", encoding="ascii"):
-            pass
-
-    def refusal(self, command, word):
-        is_only_file = command == "border" and not word.startswith("-")
-        files = [] if is_only_file else [EMPTY] * (2 if command == "sizes" else 1)
-        ran = subprocess.run(
-            [self.joiner, command, word, *files], cwd=self.folder, capture_output=True, text=True
-        )
-        return ran.stderr.strip().removeprefix(f"{JOINER}: ") if ran.returncode else ""
-
-
-def faults_of_joiner_command(tried, line):
-    """Yield the errors, or '', in the synopsis, the flags and the keys of a command of
-    rcell-join."""
-    command, named, usage = line.split()[1], Named.of_synopsis(line), f"arguments:0: usage: {line}"
-    said = tried.refusal(command, "-")
-    yield "" if said == usage else f"{DOCUMENT_OF_JOINER}, synopsis: {usage!r}, and the program says {said!r}"
-    for flag in FLAGS:
-        said = tried.refusal(command, f"-{flag}")
-        yield "" if (said == usage) != (
-            flag in named.flags
-        ) else f"{JOINER} {command} -{flag}: {said or 'taken'}"
-    for key in (*VALUES, *KEYS_OF_GRASS):
-        option = f"{key}={VALUES.get(key, '1')}"
-        wanted, said = "" if key in named.keys else f"{option}:0: cannot open", tried.refusal(
-            command, option
-        )
-        yield "" if said == wanted else f"{JOINER} {command} {option}: {said or 'taken'}, and not {wanted or 'taken'}"
-
-
-def faults_of_joiner(tried):
-    """Yield the errors, or '', in the documentation of rcell-join."""
-    named = in_table(JOINER)
-    other = Named.of_synopsis(synopsis(JOINER))
-    yield "" if other == named else f"{DOCUMENT_OF_JOINER}, synopsis: {JOINER} has {other}, but {named} in its table"
-    for line in synopses_of_joiner():
-        yield from faults_of_joiner_command(tried, line)
-
-
-def faults(program, joiner):
+def faults(program):
     """Yield the error of each comparison, or ''."""
     with tempfile.TemporaryDirectory(prefix="rcell-options-") as folder:
         tried = Tried(os.path.abspath(program), folder)
@@ -257,12 +201,11 @@ def faults(program, joiner):
             yield from faults_of_flags(tried, command, named, needs)
             yield from faults_of_keys(tried, command, named, needs)
         yield from faults_of_functions(tried)
-        yield from faults_of_joiner(TriedJoiner(os.path.abspath(joiner), folder))
 
 
-def check(program, joiner):
+def check(program):
     """Return the number of comparisons that agree, and the errors of the others."""
-    found = list(faults(program, joiner))
+    found = list(faults(program))
     return found.count(""), [fault for fault in found if fault]
 
 
@@ -271,9 +214,7 @@ def main():
         description="Compares the flags and keys of the documents with those of the programs."
     )
     words.add_argument("--program", default=f"{BIN}/rcell")
-    words.add_argument("--joiner", default=f"{BIN}/rcell-join")
-    given = words.parse_args()
-    passed, wrong = check(given.program, given.joiner)
+    passed, wrong = check(words.parse_args().program)
     print("".join(f"{fault}\n" for fault in wrong) + f"{passed} passed, {len(wrong)} failed")
     return 1 if wrong else 0
 

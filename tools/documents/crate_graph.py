@@ -23,7 +23,7 @@ ROOMS = {
     "tiles": "#eeeeee",
     "rcell": "#dff2f0",
 }
-PROGRAMS = ("rcell_program", "rcell_join", "rcell_pipe")
+PROGRAMS = ("rcell_program", "rcell_pipe")
 TITLE = re.compile(r"<title>([^<]+)</title>")
 HEAD = """digraph crates {
     rankdir=BT; ranksep=0.45; nodesep=0.18; newrank=true; bgcolor=white;

@@ -1,8 +1,7 @@
 #!/usr/bin/env python3
 """Run the examples in the documents on the built programs, and compare the results byte for byte.
 
-    documents.py [--program PATH] [--joiner PATH] [--pipe PATH] [--write] [--texts [WORD..] |
-    DOCUMENT..]
+    documents.py [--program PATH] [--pipe PATH] [--write] [--texts [WORD..] | DOCUMENT..]
 
 A document is run in its own folder, which contains the programs in bin/ with the helpers, and
 examples/. Its fenced blocks are processed from the top:
@@ -16,8 +15,7 @@ examples/. Its fenced blocks are processed from the top:
     text, sh, antt, rust  not run, so the block must not show a command with its output
 A block that changes the folder with `cd` also changes it for later blocks. With --write, the output
 replaces the text shown. For docs/grass.md, the program's side of each table is also run
-(differences.py), and the flags and keys in docs/commands.md and docs/rcell-join.md are tested
-(command_options.py).
+(differences.py), and the flags and keys in docs/commands.md are tested (command_options.py).
 
 Checks that need no program are run first. With --texts, only these are run, or only those that end
 in a WORD, as in `--texts links`:
@@ -67,7 +65,6 @@ DOCUMENTS = [
     "docs/howto.md",
     "docs/large-maps.md",
     "docs/commands.md",
-    "docs/rcell-join.md",
     "docs/pipe.md",
     "docs/errors.md",
     "docs/grass.md",
@@ -358,7 +355,7 @@ def check_sizes(write):
     if all(abs(one - own) <= SIZES_DIFFER_BY * own for one, own in zip(told, (proofs, code))):
         return 1, []
     if write:
-        right = rf"{round(proofs / 1000)}\2{round(code / 1000)}"
+        right = rf"{round(proofs / 1000)}\g<2>{round(code / 1000)}"
         path.write_text(SIZES_SENTENCE.sub(right, document), encoding="utf-8")
     return 0, [f"README.md: definitions and proofs have {proofs} lines, for {code} lines of code"]
 
@@ -453,18 +450,13 @@ def main():
         description=__doc__, formatter_class=argparse.RawDescriptionHelpFormatter
     )
     words.add_argument("--program", default=f"{BIN}/rcell")
-    words.add_argument("--joiner", default=f"{BIN}/rcell-join")
     words.add_argument("--pipe", default=f"{BIN}/rcell-pipe")
     words.add_argument("--write", action="store_true")
     words.add_argument("--texts", action="store_true")
     words.add_argument("documents", nargs="*")
     settings = words.parse_args()
-    program, joiner = os.path.abspath(settings.program), os.path.abspath(settings.joiner)
-    programs = {
-        "rcell": program,
-        "rcell-join": joiner,
-        "rcell-pipe": os.path.abspath(settings.pipe),
-    }
+    program = os.path.abspath(settings.program)
+    programs = {"rcell": program, "rcell-pipe": os.path.abspath(settings.pipe)}
     texts = [
         ("the messages", lambda: messages.check()),
         ("the links", links.check),
@@ -485,7 +477,7 @@ def main():
     if not settings.documents:
         runs += [
             ("the tables of differences", lambda: check_differences(program)),
-            ("the flags, keys and functions", lambda: command_options.check(program, joiner)),
+            ("the flags, keys and functions", lambda: command_options.check(program)),
         ]
     checks = (
         [it for it in texts if not settings.documents or it[0].split()[-1] in settings.documents]

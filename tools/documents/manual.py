@@ -20,11 +20,6 @@ PAGES = {
         "map algebra and category tables for raster maps of whole numbers",
         "Grids of the examples",
     ),
-    "rcell-join": (
-        "docs/rcell-join.md",
-        "merge tables, and join patches and their sizes, of the tiles of a map",
-        "Description",
-    ),
 }
 FIRST = ["Synopsis", "Description"]
 CODE = re.compile(r"(`[^`]+`)")

@@ -13,7 +13,6 @@ MOST_LINES = {
     "docs/howto.md": 320,
     "docs/large-maps.md": 150,
     "docs/commands.md": 500,
-    "docs/rcell-join.md": 150,
     "docs/pipe.md": 280,
     "docs/errors.md": 300,
     "docs/grass.md": 280,
@@ -26,7 +25,7 @@ MOST_LINES = {
     "docs/faq.md": 120,
     "docs/compared.md": 120,
     "docs/speed.md": 180,
-    "docs/architecture.md": 380,
+    "docs/architecture.md": 340,
     "docs/DECISIONS.md": 150,
     "docs/cheatsheet.md": 80,
 }

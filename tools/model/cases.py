@@ -15,7 +15,8 @@ A case is a folder with the files that the program reads and
     denied;
              exactly these lines must occur; without this file: those that the model allows
 If a growth is denied, the output must be exactly the output of the statements before the reported
-line, as computed by tools/model/model.py. The last line is 'N passed, M failed'.
+line, as computed by tools/model/model.py. Some runs must report an error although a pipe that they
+read stays open. The last line is 'N passed, M failed'.
 """
 import glob
 import os
@@ -33,6 +34,8 @@ BIN = os.environ.get("RCELL_BIN", f"{ROOT}/bin")
 PROGRAM = f"{BIN}/rcell"
 OUR_OWN = ("args", "stdout", "stderr", "status", "output", "more", "refused")
 LONGEST_LIMITED = 256  # a longer output is not tested with each size
+LONGEST_SCRIPT = 1 << 20
+SECONDS_OPEN = 60  # maximum time of a run whose input stays open
 NO_MEMORY = re.compile(rb"rcell: ([^:]+):([0-9]+): no memory\n")
 
 
@@ -212,6 +215,34 @@ def judge(case, room, shim):
     return wrong or wrong_output, grown, cut
 
 
+def open_inputs():
+    """Yield errors that a run must report although its standard input stays open: what it is, the
+    arguments, the bytes on standard input, and the message."""
+    rejected = f"{ROOT}/cases/cell-is-no-number"
+    good, bad = f"g={ROOT}/cases/five-commands/g.txt", f"g={rejected}/g.txt"
+    told, too_long = read(f"{rejected}/stderr"), b"rcell: script:0: script too long\n"
+    yield "script too long", ["/dev/stdin", good], b"#" * (LONGEST_SCRIPT + 1), too_long
+    yield "script after a rejected grid", ["/dev/stdin", bad], b"", told
+    yield "grid after a rejected grid", [f"{rejected}/script", bad, "h=/dev/stdin"], b"", told
+    yield "rejected grid", [f"{rejected}/script", "g=/dev/stdin"], read(f"{rejected}/g.txt"), told
+
+
+def wrong_open_input(words, given, told):
+    """Return the error if the run reads more than it needs, and so waits for more."""
+    with subprocess.Popen(
+        [PROGRAM, *words], stdin=subprocess.PIPE, stdout=subprocess.DEVNULL, stderr=subprocess.PIPE
+    ) as ran:
+        try:
+            ran.stdin.write(given)
+            ran.stdin.flush()
+            status = ran.wait(timeout=SECONDS_OPEN)
+        except subprocess.TimeoutExpired:
+            ran.kill()
+            return "the run waits for more"
+        got = status, ran.stderr.read()
+        return "" if got == (1, told) else f"{got}, and not {(1, told)}"
+
+
 class Count:
     """Counts passed and failed checks, and prints the errors."""
 
@@ -257,6 +288,10 @@ def main():
                 flush=True,
             )
             passed, failed = passed + (not wrong), failed + bool(wrong)
+    for what, *how in open_inputs():
+        wrong = wrong_open_input(*how)
+        print(f"{what}, and its pipe stays open: {'FAILED: ' + wrong if wrong else 'ok'}")
+        passed, failed = passed + (not wrong), failed + bool(wrong)
     print(f"{passed} passed, {failed} failed")
     return 1 if failed else 0
 

@@ -23,7 +23,7 @@ MENU = {
         "Stream": "examples/stream/README.md",
         "Majority": "examples/majority/README.md",
         "Protected zones": "examples/protected/README.md",
-        "A large map": "examples/large-map/README.md",
+        "A map in many files": "examples/large-map/README.md",
         "Islands": "examples/islands/README.md",
     },
     "Guides": {
@@ -40,7 +40,6 @@ MENU = {
         "Commands": "docs/commands.md",
         "Cheat sheet": "docs/cheatsheet.md",
         "Errors": "docs/errors.md",
-        "rcell-join": "docs/rcell-join.md",
         "rcell-pipe": "docs/pipe.md",
     },
     "Trust": {

@@ -1,0 +1,610 @@
+#!/usr/bin/env python3
+"""Send join requests to rcell-pipe, and compare each response with a plain model of docs/pipe.md.
+
+    test_join.py [--program PROGRAM] [--runs N] [--seed N]
+
+- worked examples: patches that meet along seams, at the corner of four tiles, and around a tile;
+  tables
+- each error by name, each truncation of a request, and spoiled borders
+- N random maps, cut at random: the numbers must be the numbers of the full map's patches; N random
+  lists of tables; some requests are damaged
+
+The last line is 'N passed, M failed'.
+"""
+from __future__ import annotations
+
+import argparse
+import itertools
+import os
+import random
+import struct
+import subprocess
+import sys
+from dataclasses import dataclass, replace
+from typing import Iterator, Optional, Sequence, Union
+
+from fuzz import damaged_bytes
+from model import neighbours
+from pipe_model import NULL
+from test_plan import BadRequest, Done, Reader
+
+MAGIC = b"RCELLJ1\n"
+TABLES = (
+    1  # the kind of a request with tables; the kind of a request with borders is a connectivity
+)
+CORNERS = {4: False, 8: True}  # whether patches continue across corners, by connectivity
+MOST_SIDE, MOST_TILES = 65_535, 2**32 - 1
+MOST_WIDTH, MOST_CELLS = 16, 2**64 - 1
+MODELLED_PATCHES = 100_000  # a damaged request may announce more than the model can list
+SECONDS = 60
+
+Cell = Optional[int]
+Cells = Sequence[Sequence[Cell]]
+Line = tuple[Cell, ...]
+Side = tuple[Line, Line]  # cells, and the numbers of their patches
+Run = tuple[int, ...]  # the tile, the first and last number in it, the number in the full map
+Numbering = tuple[int, list[Run]]  # the number of patches, and the runs
+Patch = tuple[int, int, int, int]  # tile row, row in the tile, tile column, number: in map order
+Mark = Optional[tuple[int, Patch]]  # the category of a cell, and its patch
+Entry = tuple[Line, int]  # a combination and its count
+
+
+# Requests
+
+
+@dataclass(frozen=True)
+class Border:
+    """The first row, last row, first column and last column of a tile, and the number of patches
+    that begin in each row."""
+
+    sides: tuple[Side, ...]
+    begun: tuple[int, ...]
+
+    @property
+    def rows(self) -> int:
+        return len(self.begun)
+
+    @property
+    def cols(self) -> int:
+        return len(self.sides[0][0])
+
+    def data(self) -> bytes:
+        cells = [
+            NULL if cell is None else cell for side in self.sides for line in side for cell in line
+        ]
+        begun = struct.pack(f"<{self.rows}I", *self.begun)
+        return struct.pack(f"<II{len(cells)}i", self.rows, self.cols, *cells) + begun
+
+    def patches(self) -> Iterator[tuple[int, int]]:
+        """Yield the row in which each patch begins, and its number."""
+        rows = (row for row, count in enumerate(self.begun) for _ in range(count))
+        return zip(rows, itertools.count(1))
+
+
+@dataclass(frozen=True)
+class Tiles:
+    """A join request: the connectivity, and rows of tiles."""
+
+    connectivity: int
+    grid: tuple[tuple[Border, ...], ...]
+
+    def data(self) -> bytes:
+        head = MAGIC + struct.pack("<BII", self.connectivity, len(self.grid), len(self.grid[0]))
+        return head + b"".join(tile.data() for row in self.grid for tile in row)
+
+    def patches(self) -> list[list[Patch]]:
+        """Return the patches of each tile."""
+        return [
+            [(at, row, col, number) for row, number in tile.patches()]
+            for at, line in enumerate(self.grid)
+            for col, tile in enumerate(line)
+        ]
+
+
+@dataclass(frozen=True)
+class Tables:
+    """A join request: the number of maps, and tables over these maps."""
+
+    width: int
+    tables: tuple[tuple[Entry, ...], ...]
+
+    def data(self) -> bytes:
+        out = MAGIC + struct.pack("<BBI", TABLES, self.width, len(self.tables))
+        for table in self.tables:
+            cells = [NULL if cell is None else cell for line, _ in table for cell in line]
+            out += struct.pack(f"<Q{len(table)}Q", len(table), *(count for _, count in table))
+            out += struct.pack(f"<{len(cells)}i", *cells)
+        return out
+
+
+def numbered(cells: Cells, with_corners: bool) -> list[list[Cell]]:
+    """Return the numbers of a map's patches, in the order of their first cells."""
+    numbers: list[list[Cell]] = [[None] * len(row) for row in cells]
+    count = itertools.count(1)
+    for first in itertools.product(range(len(cells)), range(len(cells[0]))):
+        category, number = cells[first[0]][first[1]], numbers[first[0]][first[1]]
+        if category is None or number is not None:
+            continue
+        number, to_visit = next(count), [first]
+        while to_visit:
+            row, col = to_visit.pop()
+            numbers[row][col] = number
+            for near in neighbours(row, col, with_corners):
+                if 0 <= near[0] < len(cells) and 0 <= near[1] < len(cells[0]):
+                    is_new = numbers[near[0]][near[1]] is None
+                    if is_new and cells[near[0]][near[1]] == category:
+                        to_visit.append(near)
+    return numbers
+
+
+def border_of(cells: Cells, with_corners: bool) -> Border:
+    maps = cells, numbered(cells, with_corners)
+    rows = [tuple(tuple(of[at]) for of in maps) for at in (0, -1)]
+    cols = [tuple(tuple(row[at] for row in of) for of in maps) for at in (0, -1)]
+    most = itertools.accumulate((max([0, *filter(None, row)]) for row in maps[1]), max)
+    begun = tuple(upto - before for before, upto in itertools.pairwise([0, *most]))
+    return Border((*rows, *cols), begun)
+
+
+@dataclass(frozen=True)
+class Cut:
+    """A map, and the first rows and columns of its tiles."""
+
+    cells: Cells
+    tops: list[int]
+    lefts: list[int]
+    connectivity: int
+
+    def rows(self) -> list[list[tuple[slice, slice]]]:
+        """Return the rows and columns of each tile, for each row of tiles."""
+        rows = itertools.pairwise([*self.tops, len(self.cells)])
+        cols = list(itertools.pairwise([*self.lefts, len(self.cells[0])]))
+        return [[(slice(*span), slice(*other)) for other in cols] for span in rows]
+
+    def request(self) -> Tiles:
+        with_corners = CORNERS[self.connectivity]
+        return Tiles(
+            self.connectivity,
+            tuple(
+                tuple(border_of(part(self.cells, *place), with_corners) for place in row)
+                for row in self.rows()
+            ),
+        )
+
+    def numbering(self) -> Numbering:
+        """Return the numbering, by numbering the patches of the full map and of each tile."""
+        with_corners = CORNERS[self.connectivity]
+        full, runs = numbered(self.cells, with_corners), list[Run]()
+        for tile, place in enumerate(itertools.chain(*self.rows()), 1):
+            own = numbered(part(self.cells, *place), with_corners)
+            pairs = set(zip(itertools.chain(*own), itertools.chain(*part(full, *place))))
+            runs += runs_of(tile, [number for one, number in sorted(pairs - {(None, None)})])
+        return max(filter(None, itertools.chain(*full)), default=0), runs
+
+
+def part(cells: Cells, rows: slice, cols: slice) -> Cells:
+    return [row[cols] for row in cells[rows]]
+
+
+# The model
+
+
+def runs_of(tile: int, numbers: Sequence[int]) -> Iterator[Run]:
+    """Yield the longest runs of a tile's patches that have consecutive numbers in the full map."""
+    begin = 0
+    for end in range(1, len(numbers) + 1):
+        if end == len(numbers) or numbers[end] != numbers[end - 1] + 1:
+            yield tile, begin + 1, end, numbers[begin]
+            begin = end
+
+
+def is_side(patches: int, side: Side) -> bool:
+    """Return whether cells and numbers match. Adjacent cells are in one patch if and only if they
+    have one category."""
+    cells = list(zip(*side))
+    return all(
+        number is None if cell is None else number is not None and 1 <= number <= patches
+        for cell, number in cells
+    ) and all(
+        (cell == other) == (number == other_number)
+        for (cell, number), (other, other_number) in itertools.pairwise(cells)
+    )
+
+
+def is_border(tile: Border) -> bool:
+    """Return whether each side is possible, and the sides agree about the corners."""
+    rows, cols = ([list(zip(*side)) for side in pair] for pair in (tile.sides[:2], tile.sides[2:]))
+    return all(is_side(sum(tile.begun), side) for side in tile.sides) and all(
+        rows[i][-j] == cols[j][-i] for i in (0, 1) for j in (0, 1)
+    )
+
+
+def marks(tiles: Tiles, row: int, col: int, side: int) -> list[Mark]:
+    tile = tiles.grid[row][col]
+    begins = {number: begin for begin, number in tile.patches()}
+    return [
+        None if cell is None or number is None else (cell, (row, begins[number], col, number))
+        for cell, number in zip(*tile.sides[side])
+    ]
+
+
+def seams(tiles: Tiles) -> Iterator[tuple[list[Mark], list[Mark]]]:
+    """Yield the cells on both sides of each seam: of two tiles of a row, and of two rows of tiles."""
+    rows, cols = range(len(tiles.grid)), range(len(tiles.grid[0]))
+    for row, col in itertools.product(rows, cols[1:]):
+        yield marks(tiles, row, col - 1, 3), marks(tiles, row, col, 2)
+    for row in rows[1:]:
+        yield (
+            [mark for col in cols for mark in marks(tiles, row - 1, col, 1)],
+            [mark for col in cols for mark in marks(tiles, row, col, 0)],
+        )
+
+
+def joined(tiles: Tiles) -> Numbering:
+    """Return the numbering of the tiles' patches, which continue where they meet along a seam."""
+    patches = tiles.patches()
+    met: dict[Patch, list[Patch]] = {patch: [] for tile in patches for patch in tile}
+    reach = int(CORNERS[tiles.connectivity])  # cells to both sides that a cell also touches
+    for one, other in seams(tiles):
+        for at, mark in enumerate(other):
+            for beyond in one[max(at - reach, 0) : at + reach + 1]:
+                if mark and beyond and mark[0] == beyond[0]:
+                    met[mark[1]].append(beyond[1])
+                    met[beyond[1]].append(mark[1])
+    numbers, count = dict[Patch, int](), 0
+    for first in sorted(met):
+        count += first not in numbers
+        to_visit = [] if first in numbers else [first]
+        while to_visit:
+            patch = to_visit.pop()
+            numbers[patch] = count
+            to_visit += [near for near in met[patch] if near not in numbers]
+    runs = (runs_of(at, [numbers[it] for it in tile]) for at, tile in enumerate(patches, 1))
+    return count, list(itertools.chain(*runs))
+
+
+def summed(tables: Tables) -> list[Entry]:
+    """Return each combination once, in order and with null last, with the sum of its counts."""
+    sums: dict[Line, int] = {}
+    for line, count in itertools.chain(*tables.tables):
+        sums[line] = sums.get(line, 0) + count
+    return sorted(sums.items(), key=lambda it: [(cell is None, cell or 0) for cell in it[0]])
+
+
+class JoinReader(Reader):
+    """Reads a join request. `complete` counts the complete tiles or tables."""
+
+    complete = 0
+
+    def need(self, is_so: bool, text: bytes) -> None:
+        if not is_so:
+            raise BadRequest(text)
+
+    def line(self, count: int) -> Line:
+        cells = struct.unpack(f"<{count}i", self.take(4 * count))
+        return tuple(None if cell == NULL else cell for cell in cells)
+
+    def tile(self, rows: Optional[int], cols: Optional[int]) -> Border:
+        """Read a tile, whose size must equal the given rows and columns."""
+        own_rows, own_cols = self.number("I"), self.number("I")
+        self.need(1 <= own_rows <= MOST_SIDE and 1 <= own_cols <= MOST_SIDE, b"bad size")
+        self.need(rows in (None, own_rows) and cols in (None, own_cols), b"other size")
+        lengths = own_cols, own_cols, own_rows, own_rows
+        sides = tuple((self.line(length), self.line(length)) for length in lengths)
+        tile = Border(sides, struct.unpack(f"<{own_rows}I", self.take(4 * own_rows)))
+        self.need(is_border(tile), b"bad border")
+        self.complete += 1
+        return tile
+
+    def request(self) -> Union[Tiles, Tables]:
+        self.need(self.take(len(MAGIC)) == MAGIC, b"bad magic")
+        kind = self.number("B")
+        self.need(kind == TABLES or kind in CORNERS, b"bad kind")
+        request = self.tables() if kind == TABLES else self.tiles(kind)
+        self.need(self.at == len(self.data), b"bytes after the request")
+        return request
+
+    def tables(self) -> Tables:
+        width = self.number("B")
+        self.need(1 <= width <= MOST_WIDTH, b"bad width")
+        count, cells, found = self.number("I"), 0, list[tuple[Entry, ...]]()
+        self.need(count > 0, b"bad number of tables")
+        for self.complete in range(count):
+            counts = list[int]()
+            for _ in range(self.number("Q")):
+                counts.append(self.number("Q"))
+                self.need(counts[-1] > 0, b"bad count")
+            cells += sum(counts)
+            self.need(cells <= MOST_CELLS, b"too many cells")
+            found.append(tuple((self.line(width), one) for one in counts))
+        self.complete = count
+        return Tables(width, tuple(found))
+
+    def tiles(self, connectivity: int) -> Tiles:
+        rows, cols = self.number("I"), self.number("I")
+        self.need(1 <= rows * cols <= MOST_TILES, b"bad number of tiles")
+        grid: list[tuple[Border, ...]] = []
+        for _ in range(rows):
+            line: list[Border] = []
+            for col in range(cols):
+                above = grid[-1][col].cols if grid else None
+                line.append(self.tile(line[0].rows if line else None, above))
+            grid.append(tuple(line))
+        return Tiles(connectivity, tuple(grid))
+
+
+Response = tuple[Union[None, Numbering, list[Entry]], Done]
+
+
+def expected(data: bytes) -> Optional[Response]:
+    """Return the expected response, or None if there are too many patches to list."""
+    reader = JoinReader(data)
+    try:
+        request = reader.request()
+    except BadRequest as fault:
+        return None, Done(1, 1, reader.complete, 0, 0, fault.text)
+    if isinstance(request, Tables):
+        return summed(request), Done()
+    if sum(sum(tile.begun) for row in request.grid for tile in row) > MODELLED_PATCHES:
+        return None
+    return joined(request), Done()
+
+
+class ResponseReader(JoinReader):
+    def numbering(self) -> Numbering:
+        patches, runs = self.number("Q"), self.number("Q")
+        return patches, [struct.unpack("<4Q", self.take(32)) for _ in range(runs)]
+
+    def sums(self) -> list[Entry]:
+        entries, width = self.number("Q"), self.number("Q")
+        counts = [self.number("Q") for _ in range(entries)]
+        return [(self.line(width), count) for count in counts]
+
+    def response(self) -> Response:
+        if self.take(8) != b"RCELLA1\n":
+            raise ValueError("not a response")
+        found: Union[None, Numbering, list[Entry]] = None
+        kind = self.take(4)
+        if kind in (b"JOIN", b"SUMS"):
+            found = self.numbering() if kind == b"JOIN" else self.sums()
+            kind = self.take(4)
+        if kind != b"DONE":
+            raise ValueError(f"no frame of a join: {kind!r}")
+        done = Done(*(self.number("Q") for _ in range(5)), self.take(self.number("Q")))
+        if self.at < len(self.data):
+            raise ValueError("bytes after the response")
+        return found, done
+
+
+# Requests to try
+
+
+def cut_of(text: str, tops: list[int], lefts: list[int], connectivity: int = 4) -> Cut:
+    """Return a map that is given as rows of digits, with `.` for null."""
+    cells = [[None if it == "." else int(it) for it in row] for row in text.split()]
+    return Cut(cells, tops, lefts, connectivity)
+
+
+# Each map, and its numbering, computed by hand.
+EXAMPLES: dict[str, tuple[Cut, Numbering]] = {
+    "a patch across a seam": (
+        cut_of("899.", [0], [0, 2]),
+        (2, [(1, 1, 2, 1), (2, 1, 1, 2)]),
+    ),
+    "patches in the order of the full map": (
+        cut_of("1234 5634", [0], [0, 2]),
+        (6, [(1, 1, 2, 1), (1, 3, 4, 5), (2, 1, 2, 3)]),
+    ),
+    "the corner of four tiles, by corners": (
+        cut_of("12 21", [0, 1], [0, 1], 8),
+        (2, [(1, 1, 1, 1), (2, 1, 1, 2), (3, 1, 1, 2), (4, 1, 1, 1)]),
+    ),
+    "the corner of four tiles, by edges": (
+        cut_of("12 21", [0, 1], [0, 1]),
+        (4, [(1, 1, 1, 1), (2, 1, 1, 2), (3, 1, 1, 3), (4, 1, 1, 4)]),
+    ),
+    "two patches of a tile meet outside": (
+        cut_of("121 111", [0, 1], [0]),
+        (2, [(1, 1, 2, 1), (1, 3, 3, 1), (2, 1, 1, 1)]),
+    ),
+    "a tile of null": (cut_of("1. 1.", [0], [0, 1]), (1, [(1, 1, 1, 1)])),
+    "nothing": (cut_of("..", [0], [0, 1]), (0, [])),
+}
+GOOD = cut_of("1122. 13224 13.44", [0, 2], [0, 2, 4], 8).request()
+TWO_TABLES = Tables(
+    2, ((((7, None), 5), ((-3, 2), 1)), (), (((None, -9), 2), ((7, None), 2**40), ((7, -1), 3)))
+)
+SUMS = [((-3, 2), 1), ((7, -1), 3), ((7, None), 2**40 + 5), ((None, -9), 2)]
+
+
+def changed(tile: Border, side: int, line: int, at: int, value: Cell) -> Border:
+    """Return a border with another cell (line 0) or number (line 1) at a place of a side."""
+    lines = list(tile.sides[side])
+    lines[line] = (*lines[line][:at], value, *lines[line][at + 1 :])
+    return replace(tile, sides=(*tile.sides[:side], (lines[0], lines[1]), *tile.sides[side + 1 :]))
+
+
+def named_errors() -> Iterator[tuple[str, bytes]]:
+    """Yield requests with each error, and the error's text."""
+    data, tile = GOOD.data(), GOOD.grid[0][0]
+    yield "bad magic", b"RCELLJ2" + data[7:]
+    for kind in (0, 2, 3, 5, 9, 255):  # kind 1 is followed by tables
+        yield "bad kind", MAGIC + bytes([kind]) + data[9:]
+    for sizes in ((0, 1), (1, 0), (0, 0), (2**16, 2**16), (2**32 - 1, 2**32 - 1)):
+        yield "bad number of tiles", MAGIC + struct.pack("<BII", 4, *sizes) + data[17:]
+    for sizes in ((0, 1), (1, 0), (MOST_SIDE + 1, 1), (1, 2**32 - 1)):
+        yield "bad size", MAGIC + struct.pack("<BIIII", 4, 1, 1, *sizes) + bytes(10**6)
+    wide, high = (cut_of(text, [0], [0]).request().grid[0][0] for text in ("111", "1 1"))
+    one = cut_of("1", [0], [0]).request().grid[0][0]
+    yield "other size", Tiles(4, ((one, high),)).data()
+    yield "other size", Tiles(4, ((one,), (wide,))).data()
+    yield "bytes after the request", data + b"\0"
+    yield "bytes after the request", data + data
+    yield "request too short", data[:-1]
+    yield "request too short", MAGIC + struct.pack("<BII", 8, 1, MOST_TILES)
+    for bad in spoiled(tile):
+        yield "bad border", Tiles(8, ((bad,),)).data()
+        yield "bad border", Tiles(8, ((tile, bad),)).data()
+
+
+def named_table_errors() -> Iterator[tuple[str, bytes]]:
+    """Yield requests of tables with each error, and the error's text."""
+    data = TWO_TABLES.data()
+    for width in (0, MOST_WIDTH + 1, 255):
+        yield "bad width", MAGIC + bytes([TABLES, width]) + data[10:]
+    yield "bad number of tables", MAGIC + struct.pack("<BBI", TABLES, 1, 0)
+    yield "bad count", Tables(1, ((((4,), 1),), (((4,), 1), ((5,), 0)))).data()
+    for tables in ((((4,), 2**63), ((5,), 2**63)),), ((((4,), 2**64 - 1),), (((4,), 1),)):
+        yield "too many cells", Tables(1, tables).data()
+    yield "request too short", MAGIC + struct.pack("<BBI", TABLES, 1, 2**32 - 1)
+    yield "request too short", MAGIC + struct.pack("<BBIQ", TABLES, 16, 1, 2**64 - 1)
+    yield "bytes after the request", data + b"\0"
+
+
+def spoiled(tile: Border) -> Iterator[Border]:
+    """Yield borders that cannot be a tile's."""
+    for side, (cells, _) in enumerate(tile.sides):
+        for at, cell in enumerate(cells):
+            other = 7 if cell is None else None  # null, if the cell has a category
+            yield changed(tile, side, 0, at, other)
+            for number in (0, -1, sum(tile.begun) + 1, 2**31 - 1, other):
+                yield changed(tile, side, 1, at, number)
+        for at in (0, len(cells) - 1):  # the other side keeps the cell of the corner
+            yield changed(tile, side, 0, at, (cells[at] or 0) + 1)
+    yield replace(tile, begun=(0,) * tile.rows)
+
+
+def randomly_changed(chance: random.Random, tiles: Tiles) -> Tiles:
+    """Return tiles of which one has another cell, number or count."""
+    row, col = chance.randrange(len(tiles.grid)), chance.randrange(len(tiles.grid[0]))
+    tile, line = tiles.grid[row][col], tiles.grid[row]
+    side, value = chance.randrange(len(tile.sides)), chance.choice([None, 1, 2, 3, 4])
+    at = chance.randrange(len(tile.sides[side][0]))
+    tile = changed(tile, side, chance.randrange(2), at, value)
+    if chance.random() < 0.2:
+        at = chance.randrange(tile.rows)
+        tile = replace(tile, begun=(*tile.begun[:at], chance.randrange(4), *tile.begun[at + 1 :]))
+    line = (*line[:col], tile, *line[col + 1 :])
+    return replace(tiles, grid=(*tiles.grid[:row], line, *tiles.grid[row + 1 :]))
+
+
+def random_cut(chance: random.Random) -> Cut:
+    rows, cols = chance.randint(1, 14), chance.randint(1, 14)
+    categories = chance.choice([[1, 2], [1, 1, 2, None], [1, 2, 3, -7, None], [5, None]])
+    cells = [[chance.choice(categories) for _ in range(cols)] for _ in range(rows)]
+    if chance.random() < 0.3:  # longer patches
+        for row, above in zip(cells[1:], cells):
+            row[:] = [old if chance.random() < 0.7 else new for old, new in zip(above, row)]
+    tops, lefts = (
+        [0, *sorted(chance.sample(range(1, length), chance.randint(0, min(length - 1, 4))))]
+        for length in (rows, cols)
+    )
+    return Cut(cells, tops, lefts, chance.choice([4, 8]))
+
+
+def random_tables(chance: random.Random) -> Tables:
+    width, greatest = chance.randint(1, MOST_WIDTH), chance.choice([1, 9, 2**31 - 1])
+    if chance.random() < 0.7:
+        width = chance.randint(1, 3)
+
+    def entry() -> Entry:
+        cells = (chance.randint(-greatest, greatest) for _ in range(width))
+        line = tuple(None if chance.random() < 0.2 else cell for cell in cells)
+        return line, chance.choice([1, 7, chance.randint(1, 2**55)])
+
+    sizes = (chance.randint(0, 30) for _ in range(chance.randint(1, 6)))
+    return Tables(width, tuple(tuple(entry() for _ in range(size)) for size in sizes))
+
+
+class Tests:
+    """Counts the tests, and prints the errors."""
+
+    def __init__(self, program: str):
+        self.program, self.passed, self.failed = program, 0, 0
+
+    def check(self, name: str, wrong: str) -> None:
+        self.passed += not wrong
+        self.failed += bool(wrong)
+        if wrong:
+            print(f"{name}: {wrong}")
+
+    def wrong(self, data: bytes) -> str:
+        """Return the error in the response to a request, or nothing."""
+        if data.startswith(b"RCELLQ1\n") or data.startswith(b"RCELLP1\n"):
+            return ""  # the damage made it a request of another kind
+        run = subprocess.run(
+            [self.program], input=data, stdout=subprocess.PIPE, check=False, timeout=SECONDS
+        )
+        wanted, given = expected(data), ResponseReader(run.stdout).response()
+        if run.returncode != given[1].status or (wanted is not None and given != wanted):
+            return f"{data!r}\nexpected {wanted}\nreceived {given} and status {run.returncode}"
+        return ""
+
+
+def check_examples(tests: Tests) -> None:
+    for name, (cut, numbering) in EXAMPLES.items():
+        tiles = cut.request()
+        models = joined(tiles), cut.numbering()
+        tests.check(name, "" if models == (numbering,) * 2 else f"the models say {models}")
+        tests.check(name, tests.wrong(tiles.data()))
+    tests.check("tables", "" if summed(TWO_TABLES) == SUMS else f"the model says {SUMS}")
+    for tables in (TWO_TABLES, Tables(16, ((),)), Tables(1, ((((4,), 2**64 - 1),), ()))):
+        tests.check("tables", tests.wrong(tables.data()))
+
+
+def check_errors(tests: Tests) -> None:
+    for text, data in (*named_errors(), *named_table_errors()):
+        found = expected(data)
+        says = found[1].text.decode() if found else "too many patches"
+        tests.check(text, "" if says == text else f"the model says {says} of {data!r}")
+        tests.check(text, tests.wrong(data))
+    for data in (GOOD.data(), TWO_TABLES.data()):
+        for length in range(len(data)):
+            tests.check(f"the first {length} bytes", tests.wrong(data[:length]))
+
+
+def check_random_tables(tests: Tests, chance: random.Random, name: str) -> None:
+    """Check the sum of tables. The sums of parts of a list must add up to the sum of the list."""
+    tables = random_tables(chance)
+    at = chance.randint(0, len(tables.tables))
+    parts = (replace(tables, tables=part) for part in (tables.tables[:at], tables.tables[at:]))
+    sums = tuple(tuple(summed(part)) for part in parts)
+    is_sum = summed(replace(tables, tables=sums)) == summed(tables)
+    tests.check(name, "" if is_sum else f"the sums of parts do not add up: {tables}")
+    data = tables.data()
+    tests.check(name, tests.wrong(damaged_bytes(chance, data) if chance.random() < 0.2 else data))
+
+
+def check_random_tiles(tests: Tests, chance: random.Random, name: str) -> None:
+    cut = random_cut(chance)
+    tiles = cut.request()
+    models = joined(tiles), cut.numbering()
+    tests.check(name, "" if models[0] == models[1] else f"the models say {models} of {cut}")
+    kind = chance.random()
+    if kind < 0.4:
+        tiles = randomly_changed(chance, tiles)
+    data = tiles.data()
+    tests.check(name, tests.wrong(damaged_bytes(chance, data) if kind > 0.8 else data))
+
+
+def main() -> int:
+    programs = os.environ.get("RCELL_BIN", os.path.abspath(f"{__file__}/../../../bin"))
+    parser = argparse.ArgumentParser()
+    parser.add_argument("--program", default=f"{programs}/rcell-pipe")
+    parser.add_argument("--runs", type=int, default=500)
+    parser.add_argument("--seed", type=int, default=1)
+    settings = parser.parse_args()
+    tests = Tests(settings.program)
+    check_examples(tests)
+    check_errors(tests)
+    chance = random.Random(settings.seed)
+    for number in range(settings.runs):
+        name = f"random request {number} of seed {settings.seed}"
+        check_random_tiles(tests, chance, name)
+        check_random_tables(tests, chance, name)
+    print(f"{tests.passed} passed, {tests.failed} failed")
+    return tests.failed > 0
+
+
+if __name__ == "__main__":
+    sys.exit(main())
