@@ -326,7 +326,9 @@ fn write_row_cells<W: Sink>(
     write_run_row(out, block, line, map.stretches(row), fields);
 }
 
-// Writes the lines of all rows.
+// Writes the lines of all rows. Not inlined, because its tables of 32 KiB would stay on the stack while a caller counts
+// cells.
+#[inline(never)]
 fn write_rows<W: Sink>(out: &mut W, block: &mut OutputBlock, map: &CellMap, null_text: &[u8])
     requires { length null_text.now ≤ 64 }
     ensures { Appends W.taken W.faults out.old block.old
