@@ -141,6 +141,7 @@ pub fn evaluate(alloc: Global, bound: &Bound, shelf: &Shelf) -> Result<CellMap, 
     let (compact, places) = bound.over_read_maps(alloc)?;
     let (maps, region) = (shelf.maps(), shelf.region());
     let map = evaluate_fast(alloc, &compact, places.as_slice(), maps, region)?;
+    // The proof needs the region of the map.
     let _map_region = map.region();
     Ok(map)
 }

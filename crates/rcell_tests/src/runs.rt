@@ -372,6 +372,7 @@ fn the_sources_that_were_read_come_back(rt: HostRuntime) -> Result<(), Fail> {
     let mut bytes = [0u8; 7];
     let mut script = ran.script;
     assert_same!(rt; script.take(&mut bytes), Ok(7));
+    assert_same!(rt; bytes.as_slice(), b"r.stats".as_slice());
     for mut grid in ran.grids {
         assert_same!(rt; grid.take(&mut bytes), Ok(0));
     }
