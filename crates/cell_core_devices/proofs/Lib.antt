@@ -2,3 +2,4 @@ pub mod BlockLemmas
 pub mod DeviceLemmas
 pub mod PieceLemmas
 pub mod SupposedLemmas
+pub mod AgreementLemmas

@@ -3,3 +3,4 @@ pub mod Asking
 pub mod Blocks
 pub mod Device
 pub mod Supposed
+pub mod SourceLaw

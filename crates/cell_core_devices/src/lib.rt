@@ -6,6 +6,7 @@
 //! - `block`: `OutputBlock` gathers up to 4096 bytes per put and remembers a failed put, so that
 //!   functions that write return nothing
 //! - `device`: `DeviceFault`, the error of sources and sinks
+//! - `law`: the contents with which the reads of a file agree
 //!
 //! A sink with room for five bytes:
 //!
@@ -22,5 +23,6 @@
 pub mod block;
 pub mod device;
 pub mod history;
+pub mod law;
 pub mod sink;
 pub mod source;

@@ -3,9 +3,9 @@
 ghost use Rattle.std.specs.Prelude.{◌≡◌, ℕ, List};
 ghost use Rattle.cell_core_devices.specs.Supposed.{After};
 ghost use Rattle.cell_core_devices.specs.declared.source.Asked.{Asked};
-ghost use Rattle.cell_core_law.specs.SourceLaw.{AgreementIsRead};
+ghost use Rattle.cell_core_devices.specs.SourceLaw.{AgreementIsRead};
 
-use cell_core_devices::source::{ReadSource, Source};
+use crate::source::{ReadSource, Source};
 use std::io::Read;
 
 /// What the reads of a file returned decides which contents they agree with.

@@ -6,7 +6,7 @@ use Rattle.cell_core_devices.specs.Device.{Coming}
 use Rattle.cell_core_devices.specs.Supposed.{left_after, if_ends_so, supposed_coming}
 use Rattle.cell_core_devices.specs.declared.source.Asked.{Asked}
 use Rattle.cell_core_devices.specs.declared.source.Asked.TheVariants.{Going, Ended, Failed, Again}
-use Rattle.cell_core_law.specs.SourceLaw.{EndsHere, IsReadOf, AgreementIsRead}
+use Rattle.cell_core_devices.specs.SourceLaw.{EndsHere, IsReadOf, AgreementIsRead}
 
 -- a list that begins with these items is these items and the rest
 splits : (gave all left : List ℕ) → left_after gave all ≡ Some left → all ≡ gave ++ left

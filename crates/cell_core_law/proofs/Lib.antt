@@ -1,2 +1,0 @@
--- Lemmas on the contents with which reads agree.
-pub mod AgreementLemmas

@@ -1,2 +1,0 @@
--- Laws about sources.
-pub mod SourceLaw
