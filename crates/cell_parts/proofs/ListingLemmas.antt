@@ -10,7 +10,7 @@ use Rattle.std.specs.FinMap.Entries.{find}
 use Rattle.std.specs.declared.cmp.Ordering.TheVariants.{Less}
 use Rattle.cell_stats_combinations.specs.Combinations.{Combination, combination_cmp}
 use Rattle.cell_stats_combinations.proofs.OrderLemmas.{combination_cmp-exact, is_equal}
-use Rattle.cell_stats_entries.specs.Listed.{entry_of, listed_of}
+use Rattle.cell_stats_combinations.specs.Listed.{entry_of, listed_of}
 use Rattle.cell_stats.specs.CategoryTables.{Pairs}
 use Rattle.cell_stats.proofs.TableLemmas.{found-listed, keys_of, stands}
 use Rattle.cell_parts.specs.TableParts.{count_in, IsMerge}

@@ -2,7 +2,7 @@
 use Rattle.std.specs.Prelude.{◌≡◌, List, All, map, flat_map, sum_by}
 use Rattle.std.specs.List.Sorted.{IsStrictlySortedBy}
 use Rattle.cell_stats_combinations.specs.Combinations.{Combination, combination_cmp}
-use Rattle.cell_stats_entries.specs.Listed.{HasNoZero, listed_of}
+use Rattle.cell_stats_combinations.specs.Listed.{HasNoZero, listed_of}
 use Rattle.cell_stats.specs.CategoryTables.{Pairs}
 use Rattle.cell_parts.specs.TableParts.{IsMerge}
 

@@ -10,7 +10,7 @@ use Rattle.std.specs.FinMap as finmap
 use Rattle.std.specs.FinMap.Entries.{find, is_sorted, below_all, same_entries}
 use Rattle.cell_stats_combinations.specs.Combinations.{Combination, combination_cmp, combination_cmp_total}
 use Rattle.cell_stats_counts.specs.Counts.{count_of}
-use Rattle.cell_stats_entries.specs.Listed.{Counts, entry_of, listed_of, HasNoZero}
+use Rattle.cell_stats_combinations.specs.Listed.{Counts, entry_of, listed_of, HasNoZero}
 use Rattle.cell_stats_combinations.specs.declared.skip.Skip.{Skip}
 use Rattle.cell_stats.specs.CategoryTables.{Pairs, IsTable, counts_of, table_of}
 use Rattle.cell_stats_combinations.specs.LeftOut.{kept_cells, is_left_out}

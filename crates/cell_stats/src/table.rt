@@ -7,7 +7,7 @@ ghost use Rattle.cell_stats_combinations.specs.Combinations.{combination_cmp};
 ghost use Rattle.std.specs.Option.{option_map};
 ghost use Rattle.cell_stats.specs.CategoryTables.{Pairs, TableValue, rest_after};
 ghost use Rattle.cell_stats.specs.TableText.{printed_pairs};
-ghost use Rattle.cell_stats_entries.specs.Listed.{AreAscending};
+ghost use Rattle.cell_stats_combinations.specs.Listed.{AreAscending};
 
 use cell_stats_combinations::combination::Combo;
 use std::cmp::Ordering;

@@ -1,5 +1,6 @@
-//! Defines combinations of the categories of several maps, and walks along the rows of these maps (GRASS
-//! manual: r.stats). Null is last in the order (profile).
+//! Defines combinations of the categories of several maps, walks along the rows of these maps, and lists
+//! entries: combinations, each with a number of cells (GRASS manual: r.stats). Null is last in the order
+//! (profile).
 //!
 //! - `combination`: `Combo`, one cell of each map, ordered by the first, then the second, ..
 //! - `combination_text`: `Combo::read` reads cells separated by commas, or returns a `ComboFault`
@@ -7,6 +8,11 @@
 //! - `selection`: `Selection`, the maps of a shelf that are tabulated, and the `Skip`
 //! - `cursor`: `Cursor` walks along a row by runs; `pass_all` walks over several maps at once
 //! - `law`: a text is read as a combination if and only if it spells one
+//! - `ordered`: `ordered_entries` sorts a list of entries, with one entry per combination
+//! - `gathered`: `Gathered` keeps combinations of many maps side by side, and counts cells of them
+//! - `pair_place`: `PairPlace` keeps a combination of one or two maps with its count
+//! - `scattered`: `Ranks` numbers combinations in their order; `scatter` sorts places by these numbers, digit by digit
+//! - `codes`: `code_of` numbers a cell
 //!
 //! Two categories, or null, from `text`:
 //!
@@ -19,9 +25,14 @@
 //! ```
 #![tactic(auto)]
 
+pub mod codes;
 pub mod combination;
 pub mod combination_text;
 pub mod cursor;
+pub mod gathered;
 pub mod law;
+pub mod ordered;
+pub mod pair_place;
+pub mod scattered;
 pub mod selection;
 pub mod skip;

@@ -8,7 +8,7 @@ use Rattle.std.specs.declared.cmp.Ordering.TheVariants.{Less, Equal}
 use Rattle.cell_core.specs.Grid.{CellValue}
 use Rattle.cell_core_values.specs.Cell.{cell_cmp}
 use Rattle.cell_stats_combinations.specs.Combinations.{Combination, combination_cmp, combination_cmp_total}
-use Rattle.cell_stats_entries.specs.Listed.{Counts, AreAscending}
+use Rattle.cell_stats_combinations.specs.Listed.{Counts, AreAscending}
 use Rattle.cell_stats_counts.specs.parts.Alone.{alone}
 use Rattle.cell_stats_counts.specs.parts.RisingEnds.{AscendsUpTo}
 

@@ -2,7 +2,7 @@
 use Rattle.std.specs.Prelude.{ℕ, ◌≡◌, List, count_by}
 use Rattle.std.specs.Ordering.{eq_by_cmp}
 use Rattle.cell_stats_combinations.specs.Combinations.{Combination, combination_cmp}
-use Rattle.cell_stats_entries.specs.Listed.{Counts, listed_of, AreAscending, HasNoZero}
+use Rattle.cell_stats_combinations.specs.Listed.{Counts, listed_of, AreAscending, HasNoZero}
 
 -- the number of cells that have the combination
 abbrev pub count_of : Combination → List Combination → ℕ

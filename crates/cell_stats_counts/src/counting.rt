@@ -10,8 +10,8 @@ use cell_core::cell::Cell;
 use cell_core::memory::Memory;
 use cell_core::shelf::Shelf;
 use cell_stats_combinations::combination::Combo;
-use cell_stats_entries::gathered::{Gathered, gather};
-use cell_stats_entries::pair_place::PAIR;
+use cell_stats_combinations::gathered::{Gathered, gather};
+use cell_stats_combinations::pair_place::PAIR;
 use std::alloc::Global;
 
 // The smallest and the largest initial number of places of a table. All numbers of places are powers of two.

@@ -17,10 +17,10 @@ use cell_core::memory::Memory;
 use cell_core::shelf::Shelf;
 use cell_stats_combinations::combination::Combo;
 use cell_stats_combinations::cursor::{Cursor, cursors_of, pass_all, restart_all, start};
+use cell_stats_combinations::gathered::list_gathered;
+use cell_stats_combinations::ordered::ordered_entries;
 use cell_stats_combinations::selection::Selection;
 use cell_stats_combinations::skip::{Skip, is_left_out};
-use cell_stats_entries::gathered::list_gathered;
-use cell_stats_entries::ordered::ordered_entries;
 use std::alloc::Global;
 
 // Counts the cells of a row in groups of columns in which no map changes, with cursors that start at its first cells.

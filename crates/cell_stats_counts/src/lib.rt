@@ -2,7 +2,7 @@
 //!
 //! - `counts`: `count_cells`, the counts of some maps of a shelf
 //! - private: `counting`, which counts combinations of one or two maps in a table (`paired`, laid out by `ranges`,
-//!   listed by `rising` for one map), others side by side (`Gathered` of cell_stats_entries); `alone`, one map by
+//!   listed by `rising` for one map), others side by side (`Gathered` of cell_stats_combinations); `alone`, one map by
 //!   itself; `varied`, rows cell by cell
 #![tactic(auto)]
 

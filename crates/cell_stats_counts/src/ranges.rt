@@ -9,7 +9,7 @@ use crate::paired::Layout;
 use cell_core::map::CellMap;
 use cell_core::shelf::Shelf;
 use cell_core_values::small_cells::cell_of_byte;
-use cell_stats_entries::scattered::CodeRange;
+use cell_stats_combinations::scattered::CodeRange;
 
 // The approximate number of rows of a map that are sampled.
 const SAMPLE: u32 = 8;

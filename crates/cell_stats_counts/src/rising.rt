@@ -3,15 +3,15 @@
 ghost use Rattle.std.specs.Prelude.{◌≡◌, ◌+◌, ◌<◌, ◌++◌, ◌∷◌, [], All, OnOk, IfOk, IsTrue};
 ghost use Rattle.std.specs.declared.cmp.Ordering.TheVariants.{Less};
 ghost use Rattle.cell_stats_combinations.specs.Combinations.{Combination, combination_cmp};
-ghost use Rattle.cell_stats_entries.specs.Listed.{listed_of, AreAscending, HasNoZero};
+ghost use Rattle.cell_stats_combinations.specs.Listed.{listed_of, AreAscending, HasNoZero};
 ghost use Rattle.cell_stats_counts.specs.parts.Alone.{alone};
-ghost use Rattle.cell_stats_entries.specs.PairPlaces.{paired_by, paired_of};
+ghost use Rattle.cell_stats_combinations.specs.PairPlaces.{paired_by, paired_of};
 ghost use Rattle.cell_stats_counts.specs.parts.RisingEnds.{AscendsTo};
 
 use cell_core::cell::Cell;
 use cell_core::memory::Memory;
 use cell_stats_combinations::combination::Combo;
-use cell_stats_entries::pair_place::PairPlace;
+use cell_stats_combinations::pair_place::PairPlace;
 
 // The end of a list of categories: the last one, and whether the list is known to ascend.
 #[derive(Clone, Copy)]

@@ -3,8 +3,8 @@
 ghost use Rattle.std.specs.Prelude.{◌≡◌, ◌+◌, ◌<◌, ◌^◌, OnOk, IfOk, length, map};
 ghost use Rattle.cell_core.specs.Grid.{row_at};
 ghost use Rattle.cell_stats_combinations.specs.Combinations.{Combination};
-ghost use Rattle.cell_stats_entries.specs.Listed.{listed_of, HasNoZero};
-ghost use Rattle.cell_stats_entries.specs.PairPlaces.{paired_of};
+ghost use Rattle.cell_stats_combinations.specs.Listed.{listed_of, HasNoZero};
+ghost use Rattle.cell_stats_combinations.specs.PairPlaces.{paired_of};
 ghost use Rattle.cell_stats_counts.specs.parts.HeldPlaces.{HasPairRoom};
 ghost use Rattle.cell_stats_counts.specs.parts.Alone.{alone};
 ghost use Rattle.cell_stats_counts.specs.parts.RowCells.{both, count_from};

@@ -5,7 +5,8 @@ use Rattle.std.specs.Ordering.{eq_by_cmp}
 use Rattle.std.proofs.lemmas.List.Elements.{All-append, All-head, All-nil, All-tail}
 use Rattle.std.proofs.lemmas.List.Sums.{sum_by-append, sum_by-cons}
 use Rattle.cell_stats_combinations.specs.Combinations.{Combination, combination_cmp}
-use Rattle.cell_stats_entries.specs.Listed.{AreAscending, Counts, HasNoZero, ListedFits, ListsSame, entry_of, listed_of}
+use Rattle.cell_stats_combinations.specs.Listed.{AreAscending, Counts, HasNoZero, ListedFits, ListsSame}
+use Rattle.cell_stats_combinations.specs.Listed.{entry_of, listed_of}
 use Rattle.rcell_pipe_join.specs.TableEntries.{AreSums, cells_of_table}
 
 abbrev joined : List Counts → Counts

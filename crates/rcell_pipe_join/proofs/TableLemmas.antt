@@ -2,7 +2,7 @@
 use Rattle.std.proofs.Common.{◌≡◌, ◌∙◌, ℕ, ◌<◌, List, All, length, get_or, ap, sym, subst, arith}
 use Rattle.std.proofs.lemmas.List.{get_or-map, length-map}
 use Rattle.cell_stats_combinations.specs.Combinations.{Combination}
-use Rattle.cell_stats_entries.specs.Listed.{Counts, HasNoZero}
+use Rattle.cell_stats_combinations.specs.Listed.{Counts, HasNoZero}
 use Rattle.rcell_pipe_join.specs.parts.TableCounts.{entry_counts}
 
 -- if no count is 0, no entry has a count of 0

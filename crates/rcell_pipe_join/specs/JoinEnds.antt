@@ -4,7 +4,7 @@ use Rattle.cell_cats_areas.specs.declared.clump.Joining.{Joining}
 use Rattle.cell_join_numbers.specs.declared.stretch.Stretch.{Stretch}
 use Rattle.cell_join_tiles.specs.JoinedTiles.{AreRunsOf, GridClumps}
 use Rattle.cell_join_tiles.specs.Values.{BorderValue}
-use Rattle.cell_stats_entries.specs.Listed.{Counts}
+use Rattle.cell_stats_combinations.specs.Listed.{Counts}
 use Rattle.rcell_pipe_request.specs.declared.error.RequestError.{RequestError}
 use Rattle.rcell_pipe_response.specs.declared.end.PipeError.{PipeError}
 use Rattle.rcell_pipe_response.specs.declared.end.PipeError.TheVariants as errors

@@ -1,7 +1,7 @@
 -- The bytes of the response to a join request (profile).
 use Rattle.std.specs.Prelude.{ℕ, List, ◌++◌, length, flat_map, codes}
 use Rattle.cell_join_numbers.specs.declared.stretch.Stretch.{Stretch}
-use Rattle.cell_stats_entries.specs.Listed.{Counts}
+use Rattle.cell_stats_combinations.specs.Listed.{Counts}
 use Rattle.rcell_pipe_frames.specs.FrameBytes.{EndValue, number_bytes, combinations_bytes, end_bytes, response_magic}
 
 -- a run: its tile, its first and last patch in the tile, and the number of its first patch in the full map

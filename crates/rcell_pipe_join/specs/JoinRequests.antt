@@ -6,7 +6,7 @@ use Rattle.cell_core_values.specs.Answers.{◌>>=◌}
 use Rattle.cell_cats_areas.specs.declared.clump.Joining.{Joining}
 use Rattle.cell_cats_areas.specs.declared.clump.Joining.TheVariants.{Edges, EdgesAndCorners}
 use Rattle.cell_join_tiles.specs.Values.{BorderValue}
-use Rattle.cell_stats_entries.specs.Listed.{Counts}
+use Rattle.cell_stats_combinations.specs.Listed.{Counts}
 use Rattle.rcell_pipe_request.specs.declared.error.ErrorKind.TheVariants as kinds
 use Rattle.rcell_pipe_request.specs.declared.error.RequestError.{RequestError}
 use Rattle.rcell_pipe_request.specs.RequestFields.{FieldReading, Placed, error_at, number_at}

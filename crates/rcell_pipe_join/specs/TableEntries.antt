@@ -6,7 +6,7 @@ use Rattle.std.specs.Int.{w8, w32, w64}
 use Rattle.cell_core_devices.specs.Device.{Coming}
 use Rattle.cell_core_values.specs.Answers.{◌>>=◌}
 use Rattle.cell_stats_combinations.specs.Combinations.{Combination}
-use Rattle.cell_stats_entries.specs.Listed.{Counts, AreAscending, HasNoZero, listed_of}
+use Rattle.cell_stats_combinations.specs.Listed.{Counts, AreAscending, HasNoZero, listed_of}
 use Rattle.rcell_pipe_request.specs.declared.error.ErrorKind.TheVariants as kinds
 use Rattle.rcell_pipe_request.specs.RequestFields.{FieldReading, Placed, error_at, number_at, end_at, steps}
 use Rattle.rcell_pipe_join.specs.BorderGrids.{wide_cells_at}

@@ -1,12 +1,12 @@
 //! Adds up tables.
 
 ghost use Rattle.std.specs.Prelude.{◌≡◌, ◌<◌, ◌^◌, All, IfOk, flat_map, sum_by};
-ghost use Rattle.cell_stats_entries.specs.Listed.{HasNoZero};
+ghost use Rattle.cell_stats_combinations.specs.Listed.{HasNoZero};
 ghost use Rattle.rcell_pipe_join.specs.TableEntries.{AreSums, cells_of_table, table_values};
 
 use crate::table_reading::Entries;
 use cell_core::memory::Memory;
-use cell_stats_entries::ordered::ordered_entries;
+use cell_stats_combinations::ordered::ordered_entries;
 use std::alloc::Global;
 
 // Returns the entries of all tables, one table after another.

@@ -2,7 +2,7 @@
 
 ghost use Rattle.std.specs.Prelude.{◌≡◌, ◌+◌, ◌<◌, ◌≤◌, ◌^◌, [], All, IfNone, IfOk, IfSome, OnOk, length, sum, sum_by};
 ghost use Rattle.std.specs.Int.{w64};
-ghost use Rattle.cell_stats_entries.specs.Listed.{HasNoZero};
+ghost use Rattle.cell_stats_combinations.specs.Listed.{HasNoZero};
 ghost use Rattle.rcell_pipe_request.specs.RequestFields.{number_at, steps};
 ghost use Rattle.rcell_pipe_request.specs.Feeds.{ReadsField, ReadsPlaced, ReadsPlacedToEnd};
 ghost use Rattle.rcell_pipe_join.specs.TableEntries.{cells_of_table, few_counts_at, one_more_count, one_more_entry, one_more_table, table_at, table_count_at, table_values, tables_at, width_at};

@@ -6,10 +6,10 @@ use Rattle.cell_stats_combinations.specs.declared.skip.Skip.{Skip}
 use Rattle.cell_stats_combinations.specs.Combinations.{Combination, all_combinations}
 use Rattle.cell_stats_counts.specs.Counts.{count_of}
 use Rattle.cell_stats_combinations.specs.LeftOut.{kept_cells}
-use Rattle.cell_stats_entries.specs.Listed.{Counts, listed_of, HasNoZero}
-use Rattle.cell_stats_entries.specs.PairPlaces.{paired_of}
+use Rattle.cell_stats_combinations.specs.Listed.{Counts, listed_of, HasNoZero}
+use Rattle.cell_stats_combinations.specs.PairPlaces.{paired_of}
 use Rattle.cell_stats_combinations.specs.parts.Same.{is_same}
-use Rattle.cell_stats_entries.specs.SideBySide.{gathered_of, IsSideBySide}
+use Rattle.cell_stats_combinations.specs.SideBySide.{gathered_of, IsSideBySide}
 
 -- the number of cells of a combination that are counted
 abbrev pub total_of : ℕ → Combination → CountPlaces → Counts → ℕ

@@ -1,10 +1,10 @@
 -- Counts of combinations of one or two maps in a table.
 use Rattle.std.specs.Prelude.{ℕ, ◌≡◌, ◌<◌, ◌+◌, ◌^◌, List, length, cond}
-use Rattle.cell_stats_entries.specs.declared.pair_place.PairPlace.{PairPlace}
+use Rattle.cell_stats_combinations.specs.declared.pair_place.PairPlace.{PairPlace}
 use Rattle.cell_stats_combinations.specs.Combinations.{Combination}
 use Rattle.cell_stats_combinations.specs.parts.Same.{is_same}
-use Rattle.cell_stats_entries.specs.Listed.{Counts, listed_of}
-use Rattle.cell_stats_entries.specs.PairPlaces.{paired_of}
+use Rattle.cell_stats_combinations.specs.Listed.{Counts, listed_of}
+use Rattle.cell_stats_combinations.specs.PairPlaces.{paired_of}
 
 -- the table counts no cells
 abbrev pub AreFree : List PairPlace → Type 0

@@ -5,7 +5,7 @@ use Rattle.cell_core.specs.Grid.{CellValue}
 use Rattle.cell_core_values.specs.Cell.{cell_cmp}
 use Rattle.cell_stats_counts.specs.declared.rising.RisingEnd.{RisingEnd}
 use Rattle.cell_stats_combinations.specs.Combinations.{combination_cmp}
-use Rattle.cell_stats_entries.specs.Listed.{Counts, AreAscending}
+use Rattle.cell_stats_combinations.specs.Listed.{Counts, AreAscending}
 use Rattle.cell_stats_counts.specs.parts.Alone.{alone}
 
 -- the list ascends, and each category above `last` is above all entries

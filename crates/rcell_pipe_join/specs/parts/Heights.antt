@@ -6,7 +6,7 @@ use Rattle.cell_join_tiles.specs.Values.{BorderValue}
 use Rattle.cell_join_tiles.specs.parts.RowMarks.{AreEven}
 use Rattle.rcell_pipe_join.specs.JoinRequests.{JoinRequestValue, BorderGrid, TableList}
 use Rattle.rcell_pipe_join.specs.TableEntries.{cells_of_table}
-use Rattle.cell_stats_entries.specs.Listed.{HasNoZero}
+use Rattle.cell_stats_combinations.specs.Listed.{HasNoZero}
 
 -- the tiles of a row have one number of rows
 abbrev pub AreOfOneHeight : List BorderValue → Type 0

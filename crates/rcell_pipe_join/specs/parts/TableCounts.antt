@@ -1,6 +1,6 @@
 -- The counts of entries.
 use Rattle.std.specs.Prelude.{ℕ, ◌≡◌, List, length, map, take}
-use Rattle.cell_stats_entries.specs.Listed.{Counts}
+use Rattle.cell_stats_combinations.specs.Listed.{Counts}
 
 abbrev pub entry_counts : Counts → List ℕ
 entry_counts entries = map (λ entry. entry.1) entries

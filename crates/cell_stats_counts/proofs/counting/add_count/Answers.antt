@@ -1,5 +1,5 @@
 use Rattle.std.proofs.Common.{◌+◌, ◌<◌, ◌^◌, ℕ, arith}
-use Rattle.cell_stats_entries.specs.Listed.{listed_of}
+use Rattle.cell_stats_combinations.specs.Listed.{listed_of}
 use Rattle.cell_stats_counts.proofs.counting.add_count.Goals as goal
 
 part : (paired listed gathered count : ℕ) → paired + listed + gathered + count < 2 ^ 64 → gathered + count < 2 ^ 64

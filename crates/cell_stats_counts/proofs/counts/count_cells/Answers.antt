@@ -1,5 +1,5 @@
 use Rattle.std.proofs.Common.{◌≡◌, ℕ, ◌<◌, ◌+◌, ◌^◌, ◌∙◌, arith}
-use Rattle.cell_stats_entries.specs.Listed.{listed_of}
+use Rattle.cell_stats_combinations.specs.Listed.{listed_of}
 use Rattle.cell_stats_counts.proofs.RunCountLemmas.{few-alone}
 use Rattle.cell_stats_counts.proofs.counts.count_cells.Goals as goal
 

@@ -1,7 +1,7 @@
 use Rattle.std.proofs.Common.{◌≡◌, ◌<◌, ◌≤◌, ◌^◌, arith, ap, refl, sym, ◌∙◌, ◌+◌, ℕ}
 use Rattle.cell_core_values.specs.Region.{RegionValue}
 use Rattle.cell_stats_counts.specs.parts.CountsUnderWay.{total_of}
-use Rattle.cell_stats_entries.specs.SideBySide.{gathered_of}
+use Rattle.cell_stats_combinations.specs.SideBySide.{gathered_of}
 use Rattle.cell_stats_counts.proofs.RunCountLemmas.{fits-alone}
 use Rattle.cell_stats_counts.proofs.RowLemmas.{twin, counted-both}
 use Rattle.cell_stats_counts.proofs.counts.count_row.Goals as goal

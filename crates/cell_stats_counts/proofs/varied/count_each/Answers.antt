@@ -3,8 +3,8 @@ use Rattle.std.specs.Vec.{with_items}
 use Rattle.std.proofs.lemmas.List.{length-map, with_items_is}
 use Rattle.cell_stats_combinations.specs.Combinations.{Combination}
 use Rattle.cell_stats_combinations.specs.LeftOut.{is_left_out}
-use Rattle.cell_stats_entries.specs.Listed.{listed_of}
-use Rattle.cell_stats_entries.specs.PairPlaces.{paired_of}
+use Rattle.cell_stats_combinations.specs.Listed.{listed_of}
+use Rattle.cell_stats_combinations.specs.PairPlaces.{paired_of}
 use Rattle.cell_stats_counts.specs.parts.RowCells.{count_from}
 use Rattle.cell_stats_counts.specs.parts.Alone.{alone}
 use Rattle.cell_stats_counts.proofs.RowLemmas.{count_from-end, alone-at, cell-left, cell-more, cell-few}

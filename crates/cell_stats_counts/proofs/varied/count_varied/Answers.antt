@@ -5,8 +5,8 @@ use Rattle.cell_core_values.specs.Region.{RegionValue}
 use Rattle.cell_core.specs.Grid.{CellValue, row_at}
 use Rattle.cell_stats_combinations.specs.Combinations.{Combination}
 use Rattle.cell_stats_combinations.specs.LeftOut.{is_left_out}
-use Rattle.cell_stats_entries.specs.Listed.{listed_of}
-use Rattle.cell_stats_entries.specs.PairPlaces.{paired_of}
+use Rattle.cell_stats_combinations.specs.Listed.{listed_of}
+use Rattle.cell_stats_combinations.specs.PairPlaces.{paired_of}
 use Rattle.cell_stats_counts.specs.parts.RowCells.{both, count_from}
 use Rattle.cell_stats_counts.proofs.RowLemmas.{count_from-end, length-both, pair-at, cell-left, cell-more, cell-few}
 use Rattle.cell_stats_counts.proofs.RowLemmas.{joined, joined_few, none, one_more, next_few}

@@ -1,7 +1,7 @@
 use Rattle.std.proofs.Common.{◌≡◌, ◌+◌, ◌-◌, ◌<◌, ◌≤◌, length}
 use Rattle.cell_stats_combinations.specs.Combinations.{Combination}
-use Rattle.cell_stats_entries.specs.Listed.{listed_of, HasNoZero}
-use Rattle.cell_stats_entries.specs.PairPlaces.{paired_of}
+use Rattle.cell_stats_combinations.specs.Listed.{listed_of, HasNoZero}
+use Rattle.cell_stats_combinations.specs.PairPlaces.{paired_of}
 use Rattle.cell_stats_counts.specs.parts.RowCells.{both, count_from}
 use Rattle.cell_stats_counts.proofs.varied.count_varied.Given as goal
 

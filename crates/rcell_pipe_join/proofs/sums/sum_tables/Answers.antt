@@ -1,5 +1,5 @@
 use Rattle.std.proofs.Common.{sym, subst}
-use Rattle.cell_stats_entries.specs.Listed.{HasNoZero, ListedFits}
+use Rattle.cell_stats_combinations.specs.Listed.{HasNoZero, ListedFits}
 use Rattle.rcell_pipe_join.specs.TableEntries.{table_values}
 use Rattle.rcell_pipe_join.proofs.SumLemmas.{joined-fits, joined-some, sums-are}
 use Rattle.rcell_pipe_join.proofs.sums.sum_tables.Goals as goal

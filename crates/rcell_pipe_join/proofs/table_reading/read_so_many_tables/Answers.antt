@@ -1,7 +1,7 @@
 use Rattle.std.proofs.Common.{[], length, arith}
 use Rattle.rcell_pipe_request.specs.RequestFields.{steps}
 use Rattle.rcell_pipe_request.specs.Feeds.{left}
-use Rattle.cell_stats_entries.specs.Listed.{HasNoZero}
+use Rattle.cell_stats_combinations.specs.Listed.{HasNoZero}
 use Rattle.rcell_pipe_join.specs.TableEntries.{cells_of_table, one_more_table, table_values}
 use Rattle.rcell_pipe_request.proofs.StepLemmas.{steps-on, steps-end, steps-done, PlacedFails-of}
 use Rattle.rcell_pipe_join.proofs.table_reading.read_so_many_tables.Goals as goal

@@ -3,7 +3,7 @@ use Rattle.cell_core_devices.specs.Device.{Coming}
 use Rattle.cell_core_devices.specs.declared.source.Asked.TheVariants.{Going}
 use Rattle.rcell_pipe_request.specs.RequestFields.{steps}
 use Rattle.rcell_pipe_request.specs.Feeds.{fits, left, AsksTo}
-use Rattle.cell_stats_entries.specs.Listed.{HasNoZero}
+use Rattle.cell_stats_combinations.specs.Listed.{HasNoZero}
 use Rattle.rcell_pipe_join.specs.TableEntries.{cells_of_table, one_more_table, table_values}
 use Rattle.rcell_pipe_join.proofs.table_reading.read_so_many_tables.Given as goal
 

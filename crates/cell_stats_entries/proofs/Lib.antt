@@ -1,3 +1,0 @@
-pub mod GatheredLemmas
-pub mod JoinLemmas
-pub mod SideLemmas

@@ -1,2 +1,0 @@
--- Sorting a list of entries.
-pub mod Joined
