@@ -3,7 +3,7 @@ use Rattle.std.proofs.Common.{◌≡◌, ℕ, true, false, List, [], ◌∷◌, 
 use Rattle.std.specs.Prelude.{sum_by, decimal}
 use Rattle.std.specs.List.{flat_map}
 use Rattle.cell_core.specs.Shelf.{ShelfValue}
-use Rattle.rcell_script_commands.specs.declared.command.StatsOptions.{StatsOptions}
+use Rattle.rcell_script.specs.declared.command.StatsOptions.{StatsOptions}
 use Rattle.cell_stats.specs.TableLaw.{TableAgrees, CountsAddUp}
 use Rattle.cell_stats.specs.TableText.{FormatValue, table_text, printed_pairs, line_text, combination_fields}
 use Rattle.cell_stats.specs.CategoryTables.{Pairs, table_of}

@@ -1,7 +1,7 @@
 -- The output of r.stats.
 use Rattle.std.proofs.Common.{◌≡◌, ℕ, true, false, List, Option, refl}
 use Rattle.cell_core.specs.Shelf.{ShelfValue}
-use Rattle.rcell_script_commands.specs.declared.command.StatsOptions.{StatsOptions}
+use Rattle.rcell_script.specs.declared.command.StatsOptions.{StatsOptions}
 use Rattle.cell_stats_combinations.specs.Combinations.{Combination}
 use Rattle.cell_stats.specs.CategoryTables.{Pairs, table_of}
 use Rattle.cell_stats.specs.TableText.{FormatValue, table_text, printed_pairs, cell_lines}

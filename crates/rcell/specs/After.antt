@@ -2,8 +2,8 @@
 use Rattle.std.specs.Prelude.{◌≡◌}
 use Rattle.cell_core.specs.Shelf.{ShelfValue}
 use Rattle.rcell.specs.Making.{IsWithValues, IsWithClasses, IsWithNumbers}
-use Rattle.rcell_script_commands.specs.declared.command.Command.{Command}
-use Rattle.rcell_script_commands.specs.declared.command.Command.TheVariants.{Mapcalc, Reclass, Clump, Stats, OutAscii}
+use Rattle.rcell_script.specs.declared.command.Command.{Command}
+use Rattle.rcell_script.specs.declared.command.Command.TheVariants.{Mapcalc, Reclass, Clump, Stats, OutAscii}
 
 -- the shelf after a command: if the command makes a map, the map is added at the end with its name; otherwise the shelf
 -- does not change

@@ -1,7 +1,7 @@
 -- The errors of a run: when each is reported, and which grid it names (profile).
 use Rattle.std.specs.Prelude.{ℕ, ◌≡◌, ◌≢◌, ◌<◌, ⊤, Result, Ok, Err}
 use Rattle.cell_ascii_meaning.specs.declared.grid_fault.GridKind.TheVariants as grid_kinds
-use Rattle.rcell_script_commands.specs.declared.script_fault.ScriptKind.TheVariants as script_kinds
+use Rattle.rcell_script.specs.declared.script_fault.ScriptKind.TheVariants as script_kinds
 use Rattle.rcell.specs.declared.run_fault.RunFault.{RunFault}
 use Rattle.rcell.specs.declared.run_fault.RunFault.TheVariants.{GridTwice, GridRegion, Grid, ScriptRead, ScriptSize, Script, Memory, Write}
 

@@ -2,8 +2,8 @@
 use Rattle.std.specs.Prelude.{ℕ, ◌≡◌, ◌*◌, true, false, List, [], ◌∷◌, ◌++◌, None, sum_by, decimal}
 use Rattle.std.specs.List.{flat_map}
 use Rattle.cell_core.specs.Shelf.{ShelfValue}
-use Rattle.rcell_script_commands.specs.declared.command.Command.TheVariants.{Stats}
-use Rattle.rcell_script_commands.specs.declared.command.StatsOptions.{StatsOptions}
+use Rattle.rcell_script.specs.declared.command.Command.TheVariants.{Stats}
+use Rattle.rcell_script.specs.declared.command.StatsOptions.{StatsOptions}
 use Rattle.cell_stats.specs.CategoryTables.{Pairs, IsTable}
 use Rattle.cell_stats.specs.TableText.{table_text, printed_pairs, line_text, combination_fields}
 use Rattle.cell_stats_combinations.specs.declared.skip.Skip.TheVariants.{Nothing}

@@ -3,7 +3,7 @@
 ghost use Rattle.std.specs.Prelude.{◌≡◌, OnOk, OnErr, IfOk, IfErr};
 ghost use Rattle.cell_core_devices.specs.Device.{after_put};
 ghost use Rattle.cell_core_devices.specs.Blocks.{Appends};
-ghost use Rattle.rcell_script_commands.specs.FittingCommands.{FitsCommand};
+ghost use Rattle.rcell_script.specs.FittingCommands.{FitsCommand};
 ghost use Rattle.rcell_script.specs.FittingScripts.{Fits};
 ghost use Rattle.rcell.specs.After.{IsShelfAfter};
 ghost use Rattle.rcell.specs.Output.{command_text};

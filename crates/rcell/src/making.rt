@@ -3,7 +3,7 @@
 ghost use Rattle.std.specs.Prelude.{◌≡◌, ◌≤◌, ◌<◌, None, length, OnOk, OnErr};
 ghost use Rattle.cell_calc_binding.specs.Reach.{top_of};
 ghost use Rattle.cell_core_values.specs.Name.{place_of};
-ghost use Rattle.rcell_script_commands.specs.FittingCommands.{FitsCommand};
+ghost use Rattle.rcell_script.specs.FittingCommands.{FitsCommand};
 ghost use Rattle.rcell.specs.After.{IsShelfAfter};
 ghost use Rattle.rcell.specs.Making.{IsWithValues, IsWithClasses, IsWithNumbers, with_map};
 

@@ -1,7 +1,7 @@
 //! The errors of a run.
 
 use cell_ascii::grid_fault::GridFault;
-use rcell_script_commands::script_fault::ScriptFault;
+use rcell_script::script_fault::ScriptFault;
 
 /// Why a run failed. `grid` is the index of a grid, from 0.
 #[derive(Clone, Copy, Debug, PartialEq, Eq)]

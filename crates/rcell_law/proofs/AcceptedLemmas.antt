@@ -8,10 +8,10 @@ use Rattle.cell_core.specs.Grid.{Grid, IsFilled}
 use Rattle.cell_core.specs.Shelf.{ShelfValue}
 use Rattle.cell_ascii_meaning.specs.GridText.{Denotes}
 use Rattle.rcell.specs.Sources.{Named}
-use Rattle.rcell_script_commands.proofs.PlaceLemmas.{place_of-within}
-use Rattle.rcell_script_commands.specs.declared.command.Command.{Command}
-use Rattle.rcell_script_commands.specs.declared.command.Command.TheVariants.{Mapcalc, Reclass, Clump, Stats, OutAscii}
-use Rattle.rcell_script_commands.specs.CommandSpelling.{SpellsCommand}
+use Rattle.rcell_script.proofs.LookupLemmas.{place_of-within}
+use Rattle.rcell_script.specs.declared.command.Command.{Command}
+use Rattle.rcell_script.specs.declared.command.Command.TheVariants.{Mapcalc, Reclass, Clump, Stats, OutAscii}
+use Rattle.rcell_script.specs.CommandSpelling.{SpellsCommand}
 use Rattle.rcell_script.specs.Lines.{ScriptLine, script_lines, numbered_lines}
 use Rattle.rcell_script.specs.Scripts.{Group, none, skipped, command, reclass, IsScript}
 use Rattle.rcell_script.specs.declared.statement.Statement.{Statement}

@@ -6,7 +6,7 @@ use Rattle.std.proofs.lemmas.List.{map-append}
 use Rattle.std.proofs.lemmas.List.Elements.{All-append}
 use Rattle.cell_core.specs.Shelf.{ShelfValue}
 use Rattle.cell_cats.specs.Rule.{RuleValue}
-use Rattle.rcell_script_commands.specs.declared.command.Command.TheVariants.{Reclass}
+use Rattle.rcell_script.specs.declared.command.Command.TheVariants.{Reclass}
 use Rattle.rcell_script.specs.KnownMaps.{known_after}
 use Rattle.rcell_script.specs.Lines.{ScriptLine, script_lines, numbered_lines}
 use Rattle.rcell_script.specs.ReclassRules.{AreRules}

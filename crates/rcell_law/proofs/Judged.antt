@@ -11,12 +11,12 @@ use Rattle.cell_calc_language.specs.Assignment.{IsAssignment, IsAssignmentText}
 use Rattle.cell_calc_language.specs.GrammarFault.{Reports, IsGrammarFault, IsTextFault}
 use Rattle.cell_calc_language.proofs.Law.{one}
 use Rattle.cell_calc_language.proofs.Judged.{IsJudged, each_judged}
-use Rattle.rcell_script_commands.specs.Commands.{mapcalc_of, IsMapcalc, head_of_words, is_mapcalc, IsShortHead, IsHeadOf}
-use Rattle.rcell_script_commands.specs.RMapcalc.{assignment_text}
-use Rattle.rcell_script_commands.specs.declared.script_fault.ScriptFault.{ScriptFault}
-use Rattle.rcell_script_commands.specs.declared.script_fault.ScriptKind.{ScriptKind}
-use Rattle.rcell_script_commands.specs.declared.script_fault.ScriptKind.TheVariants.{Calc, LongLine}
-use Rattle.rcell_script_commands.specs.declared.heads.Head.{Head}
+use Rattle.rcell_script.specs.Commands.{mapcalc_of, IsMapcalc, head_of_words, is_mapcalc, IsShortHead, IsHeadOf}
+use Rattle.rcell_script.specs.RMapcalc.{assignment_text}
+use Rattle.rcell_script.specs.declared.script_fault.ScriptFault.{ScriptFault}
+use Rattle.rcell_script.specs.declared.script_fault.ScriptKind.{ScriptKind}
+use Rattle.rcell_script.specs.declared.script_fault.ScriptKind.TheVariants.{Calc, LongLine}
+use Rattle.rcell_script.specs.declared.heads.Head.{Head}
 use Rattle.rcell_script.specs.Lines.{script_lines}
 use Rattle.rcell_script.specs.ScriptsRead.{start, IsScriptReading}
 use Rattle.rcell_script.specs.ReadScripts.{IsReadAs, IsScriptFault}

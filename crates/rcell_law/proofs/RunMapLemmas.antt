@@ -41,10 +41,10 @@ use Rattle.cell_calc_grammar.specs.declared.calc_fault.CalcFault.{CalcFault}
 use Rattle.cell_calc_grammar.specs.declared.token.Placed.{Placed}
 use Rattle.cell_calc_grammar.proofs.SpellingLemmas.{are_spelled}
 use Rattle.rcell.specs.Sources.{Named}
-use Rattle.rcell_script_commands.specs.CommandSpelling.{SpellsCommand}
-use Rattle.rcell_script_commands.specs.RMapcalc.{assignment_text}
-use Rattle.rcell_script_commands.specs.declared.command.Command.{Command}
-use Rattle.rcell_script_commands.specs.declared.command.Command.TheVariants.{Mapcalc, Reclass, Clump, Stats, OutAscii}
+use Rattle.rcell_script.specs.CommandSpelling.{SpellsCommand}
+use Rattle.rcell_script.specs.RMapcalc.{assignment_text}
+use Rattle.rcell_script.specs.declared.command.Command.{Command}
+use Rattle.rcell_script.specs.declared.command.Command.TheVariants.{Mapcalc, Reclass, Clump, Stats, OutAscii}
 use Rattle.rcell_script.specs.Lines.{ScriptLine, script_lines, numbered_lines}
 use Rattle.rcell_script.specs.Scripts as scripts
 use Rattle.rcell_script.specs.Scripts.{Group, IsScript}

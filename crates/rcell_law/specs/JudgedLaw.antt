@@ -1,6 +1,6 @@
 -- A law of all script texts.
 use Rattle.std.specs.Prelude.{ℕ, ◌⊎◌, List}
-use Rattle.rcell_script_commands.specs.declared.script_fault.ScriptFault.{ScriptFault}
+use Rattle.rcell_script.specs.declared.script_fault.ScriptFault.{ScriptFault}
 use Rattle.rcell_script.specs.ReadScripts.{IsScriptFault}
 use Rattle.rcell_script.specs.Scripts.{IsScript}
 use Rattle.rcell_script.specs.declared.statement.Statement.{Statement}

@@ -12,9 +12,9 @@ use Rattle.cell_stats.specs.CategoryTables.{Pairs}
 use Rattle.cell_stats_combinations.specs.LeftOut.{kept_cells}
 use Rattle.cell_stats.specs.TableText.{FormatValue, cell_fields, cell_line, cell_lines, combination_fields, count_fields, label_of_cell, line_text, pair_line, table_text}
 use Rattle.rcell_script.specs.declared.statement.Statement.{Statement}
-use Rattle.rcell_script_commands.specs.declared.command.Command.{Command}
-use Rattle.rcell_script_commands.specs.declared.command.Command.TheVariants.{Mapcalc, Reclass, Clump, Stats, OutAscii}
-use Rattle.rcell_script_commands.specs.declared.command.StatsOptions.{StatsOptions}
+use Rattle.rcell_script.specs.declared.command.Command.{Command}
+use Rattle.rcell_script.specs.declared.command.Command.TheVariants.{Mapcalc, Reclass, Clump, Stats, OutAscii}
+use Rattle.rcell_script.specs.declared.command.StatsOptions.{StatsOptions}
 use Rattle.rcell.specs.Output.{Executes, combinations_of, command_text, stats_text, format_of}
 use Rattle.rcell_pipe_frames.specs.Frames.{OutputFrame, Cells, Table, printed_fields, printed_line, frame_text, combination_labels, listed_pairs, each_once, cell_pairs, cells_format, table_frame, stats_frame, map_frames, command_frames, GivesFrames}
 use Rattle.rcell_pipe_frames.specs.FrameLaw.{FramesAreOutput, OutputIsFrames}

@@ -5,7 +5,7 @@ use Rattle.cell_core.specs.Shelf.{ShelfValue}
 use Rattle.cell_stats_combinations.specs.Combinations.{shelf_combinations}
 use Rattle.cell_stats.specs.CategoryTables.{Pairs, table_of}
 use Rattle.cell_stats.specs.TableText.{printed_pairs}
-use Rattle.rcell_script_commands.specs.declared.command.StatsOptions.{StatsOptions}
+use Rattle.rcell_script.specs.declared.command.StatsOptions.{StatsOptions}
 use Rattle.rcell.specs.Output.{format_of}
 use Rattle.rcell_pipe_frames.specs.Frames.{cell_pairs, cells_format, table_frame, stats_frame}
 use Rattle.rcell_pipe_frames.specs.FrameBytes.{table_bytes, frame_bytes}

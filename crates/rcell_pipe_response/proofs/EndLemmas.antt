@@ -5,9 +5,9 @@ use Rattle.cell_core_devices.specs.Device.{Faults, append_known, after_put, afte
 use Rattle.cell_core_devices.specs.Blocks.{capped_count, BlockValue, Appended, Appends}
 use Rattle.cell_core.specs.Shelf.{ShelfValue}
 use Rattle.rcell_script.specs.ReadScripts.{IsScriptFault}
-use Rattle.rcell_script_commands.specs.declared.script_fault.ScriptFault.{ScriptFault}
-use Rattle.rcell_script_commands.specs.declared.script_fault.ScriptKind.{ScriptKind}
-use Rattle.rcell_script_commands.specs.declared.script_fault.ScriptKind.TheVariants as script_kinds
+use Rattle.rcell_script.specs.declared.script_fault.ScriptFault.{ScriptFault}
+use Rattle.rcell_script.specs.declared.script_fault.ScriptKind.{ScriptKind}
+use Rattle.rcell_script.specs.declared.script_fault.ScriptKind.TheVariants as script_kinds
 use Rattle.rcell_pipe_response.specs.parts.ScriptKinds.{is_memory}
 use Rattle.rcell_script.specs.declared.statement.Statement.{Statement}
 use Rattle.cell_ascii_writer.proofs.PutLemmas.{appended_put}

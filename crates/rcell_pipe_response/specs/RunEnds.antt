@@ -7,10 +7,10 @@ use Rattle.cell_core.specs.Shelf.{ShelfValue}
 use Rattle.rcell_script.specs.Scripts.{IsScript}
 use Rattle.rcell_script.specs.ReadScripts.{IsScriptFault}
 use Rattle.rcell_script.specs.declared.statement.Statement.{Statement}
-use Rattle.rcell_script_commands.specs.declared.script_fault.ScriptFault.{ScriptFault}
-use Rattle.rcell_script_commands.specs.declared.script_fault.ScriptKind.{ScriptKind}
-use Rattle.rcell_script_commands.specs.declared.script_fault.ScriptKind.TheVariants as script_kinds
-use Rattle.rcell_script_commands.specs.ScriptTexts.{kind_text as script_text}
+use Rattle.rcell_script.specs.declared.script_fault.ScriptFault.{ScriptFault}
+use Rattle.rcell_script.specs.declared.script_fault.ScriptKind.{ScriptKind}
+use Rattle.rcell_script.specs.declared.script_fault.ScriptKind.TheVariants as script_kinds
+use Rattle.rcell_script.specs.ScriptTexts.{kind_text as script_text}
 use Rattle.rcell.specs.Output.{IsOutput}
 use Rattle.rcell_pipe_request.specs.declared.error.ErrorKind.{ErrorKind}
 use Rattle.rcell_pipe_request.specs.declared.error.ErrorKind.TheVariants as kinds

@@ -5,7 +5,7 @@ ghost use Rattle.cell_core_devices.specs.Blocks.{Appends};
 ghost use Rattle.rcell_pipe_frames.specs.FrameBytes.{end_bytes};
 ghost use Rattle.rcell_pipe_response.specs.RunEnds.{kind_text, request_status, script_column, done_end, request_end, script_end, question_text, question_end, memory_end, error_status, end_status_after, end_value};
 ghost use Rattle.rcell_pipe_response.specs.parts.ScriptKinds.{is_memory};
-ghost use Rattle.rcell_script_commands.specs.ScriptTexts.{kind_text as script_text};
+ghost use Rattle.rcell_script.specs.ScriptTexts.{kind_text as script_text};
 
 use crate::question_error::{QuestionError, QuestionKind};
 use cell_core::block::OutputBlock;

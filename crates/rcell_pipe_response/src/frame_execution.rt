@@ -2,7 +2,7 @@
 
 ghost use Rattle.std.specs.Prelude.{◌≡◌, ◌<◌, ◌≤◌, All, length, IfSome, OnOk, OnErr, IfErr};
 ghost use Rattle.cell_core_devices.specs.Blocks.{Appends};
-ghost use Rattle.rcell_script_commands.specs.FittingCommands.{FitsCommand};
+ghost use Rattle.rcell_script.specs.FittingCommands.{FitsCommand};
 ghost use Rattle.rcell_script.specs.FittingScripts.{Fits};
 ghost use Rattle.rcell.specs.After.{IsShelfAfter};
 ghost use Rattle.rcell_pipe_frames.specs.Frames.{command_frames, stats_frame};

@@ -8,7 +8,7 @@ ghost use Rattle.cell_core.specs.Shelf.{ShelfValue};
 ghost use Rattle.rcell_script.specs.FittingScripts.{Fits};
 ghost use Rattle.rcell_script.specs.Scripts.{IsScript};
 ghost use Rattle.rcell_script.specs.declared.statement.Statement.{Statement};
-ghost use Rattle.rcell_script_commands.specs.ScriptTexts.{kind_text};
+ghost use Rattle.rcell_script.specs.ScriptTexts.{kind_text};
 ghost use Rattle.rcell_pipe_request.specs.declared.error.RequestError.{RequestError};
 ghost use Rattle.rcell_pipe_request.specs.Requests.{RunRequestValue, run_request_value};
 ghost use Rattle.rcell_pipe_request.specs.Questions.{QuestionValue, question_values};

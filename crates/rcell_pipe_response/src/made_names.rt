@@ -1,7 +1,7 @@
 //! Collects the names of all maps of a script.
 
 ghost use Rattle.std.specs.Prelude.{◌≡◌, IfOk, OnOk};
-ghost use Rattle.rcell_script_commands.specs.FittingCommands.{FitsCommand};
+ghost use Rattle.rcell_script.specs.FittingCommands.{FitsCommand};
 ghost use Rattle.rcell_script.specs.FittingScripts.{Fits};
 ghost use Rattle.rcell_script.specs.KnownMaps.{known_after};
 ghost use Rattle.rcell_pipe_response.specs.QuestionFrames.{all_names};

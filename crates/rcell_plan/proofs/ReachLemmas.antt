@@ -18,8 +18,8 @@ use Rattle.cell_calc_binding.specs.Reach.{up_at, down_at}
 use Rattle.cell_calc_binding.specs.Value.{value, argument_values}
 use Rattle.cell_calc_law.specs.HaloParts.{left_at, right_at, calls, call_any, value_seen_from, values_seen_from}
 use Rattle.cell_calc_law.specs.LocalLaw.{asks_where}
-use Rattle.rcell_script_commands.specs.declared.command.Command.{Command}
-use Rattle.rcell_script_commands.specs.declared.command.Command.TheVariants.{Mapcalc, Reclass, Clump, Stats, OutAscii}
+use Rattle.rcell_script.specs.declared.command.Command.{Command}
+use Rattle.rcell_script.specs.declared.command.Command.TheVariants.{Mapcalc, Reclass, Clump, Stats, OutAscii}
 use Rattle.rcell_script.specs.declared.statement.Statement.{Statement}
 use Rattle.rcell_plan.specs.declared.needs.Need.{Need}
 use Rattle.rcell_plan.specs.declared.planning.Plan.{Plan}

@@ -12,7 +12,7 @@ use Rattle.rcell_script.specs.Scripts.{IsScript}
 use Rattle.rcell_script.specs.ReadScripts.{IsScriptFault}
 use Rattle.rcell_script.specs.ScriptLaw.{NoFaultOfAScript, OneScript}
 use Rattle.rcell_script.specs.declared.statement.Statement.{Statement}
-use Rattle.rcell_script_commands.specs.declared.script_fault.ScriptFault.{ScriptFault}
+use Rattle.rcell_script.specs.declared.script_fault.ScriptFault.{ScriptFault}
 use Rattle.rcell_pipe_request.specs.declared.error.FieldStop.{FieldStop}
 use Rattle.rcell_pipe_request.specs.declared.error.FieldStop.TheVariants as field_stops
 use Rattle.rcell_pipe_request.specs.declared.error.RequestStop.{RequestStop}

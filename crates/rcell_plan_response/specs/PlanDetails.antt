@@ -2,8 +2,8 @@
 use Rattle.std.specs.Prelude.{ℕ, ℤ, ◌-◌, List, [], slice_get, unwrap_or}
 use Rattle.std.specs.List.{filter_map}
 use Rattle.cell_cats.specs.Reclass.{label_entry}
-use Rattle.rcell_script_commands.specs.declared.command.Command.{Command}
-use Rattle.rcell_script_commands.specs.declared.command.Command.TheVariants.{Mapcalc, Reclass, Clump, Stats, OutAscii}
+use Rattle.rcell_script.specs.declared.command.Command.{Command}
+use Rattle.rcell_script.specs.declared.command.Command.TheVariants.{Mapcalc, Reclass, Clump, Stats, OutAscii}
 use Rattle.rcell_script.specs.declared.statement.Statement.{Statement}
 use Rattle.rcell_plan_response.specs.declared.position_calls.PositionCall.{PositionCall}
 use Rattle.rcell_plan_response.specs.PositionCalls.{calls_in_line}

@@ -10,7 +10,7 @@ use Rattle.cell_calc_grammar.specs.declared.token.Token.{Token}
 use Rattle.cell_calc_grammar.specs.declared.token.Token.TheVariants as token
 use Rattle.cell_calc_grammar.specs.Function.{function_of}
 use Rattle.cell_calc_grammar.specs.Tokens.{token_list}
-use Rattle.rcell_script_commands.specs.RMapcalc.{assignment_text}
+use Rattle.rcell_script.specs.RMapcalc.{assignment_text}
 use Rattle.rcell_plan_response.specs.declared.position_calls.PositionCall.{PositionCall}
 
 -- the code of a position function

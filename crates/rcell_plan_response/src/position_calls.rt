@@ -8,7 +8,7 @@ use cell_calc_grammar::function::{Function, function_of};
 use cell_calc_grammar::token::{Placed, Sign, Token};
 use cell_calc_grammar::tokens::tokens;
 use cell_core::memory::Memory;
-use rcell_script_commands::r_mapcalc::assignment_text;
+use rcell_script::r_mapcalc::assignment_text;
 use std::alloc::Global;
 
 /// A call, from the column of its first byte to the column of its last byte. Columns start at 1.

@@ -14,26 +14,26 @@ use Rattle.cell_cats.specs.declared.rules.LineKind.TheVariants as line_kind
 use Rattle.cell_cats.specs.declared.rules.RuleFault.{RuleFault}
 use Rattle.cell_core_values.specs.Answers.{◌>>=◌}
 use Rattle.cell_core_values.specs.Blanks.{trimmed_text}
-use Rattle.rcell_script_commands.specs.Commands.{IsHead}
-use Rattle.rcell_script_commands.specs.Skipped.{IsSkipped}
+use Rattle.rcell_script.specs.Commands.{IsHead}
+use Rattle.rcell_script.specs.Skipped.{IsSkipped}
 use Rattle.rcell_script.specs.Lines.{ScriptLine, numbered_lines, script_lines}
-use Rattle.rcell_script_commands.specs.RReclass.{SpellsReclass}
+use Rattle.rcell_script.specs.RReclass.{SpellsReclass}
 use Rattle.rcell_script.specs.ReclassRules.{IsEnd, AreRules}
-use Rattle.rcell_script_commands.specs.CommandSpelling.{SpellsCommand}
+use Rattle.rcell_script.specs.CommandSpelling.{SpellsCommand}
 use Rattle.rcell_script.specs.Scripts.{Group, IsGrouped}
 use Rattle.rcell_script.specs.ReclassRules as reclass_rules
 use Rattle.rcell_script.specs.Scripts as grouping
 use Rattle.rcell_script.specs.KnownMaps.{known_after}
 use Rattle.rcell_script.specs.ScriptsRead.{start, after_head, after_rule, as_rule, rule_line, IsScriptReading}
-use Rattle.rcell_script_commands.specs.declared.script_fault.ScriptKind.{ScriptKind}
-use Rattle.rcell_script_commands.specs.declared.script_fault.ScriptKind.TheVariants.{LongLine}
-use Rattle.rcell_script_commands.specs.declared.heads.Head.{Head}
-use Rattle.rcell_script_commands.specs.declared.heads.Head.TheVariants.{Skipped, Whole, Opened}
+use Rattle.rcell_script.specs.declared.script_fault.ScriptKind.{ScriptKind}
+use Rattle.rcell_script.specs.declared.script_fault.ScriptKind.TheVariants.{LongLine}
+use Rattle.rcell_script.specs.declared.heads.Head.{Head}
+use Rattle.rcell_script.specs.declared.heads.Head.TheVariants.{Skipped, Whole, Opened}
 use Rattle.rcell_script.specs.declared.line_reading.OpenReclass.{OpenReclass}
 use Rattle.rcell_script.specs.declared.line_reading.Progress.{Progress}
-use Rattle.rcell_script_commands.specs.declared.command.Command.TheVariants.{Reclass}
+use Rattle.rcell_script.specs.declared.command.Command.TheVariants.{Reclass}
 use Rattle.rcell_script.specs.declared.statement.Statement.{Statement}
-use Rattle.rcell_script_commands.proofs.SpellingLemmas.{head-says, says-head}
+use Rattle.rcell_script.proofs.SpellingLemmas.{head-says, says-head}
 
 -- ---- a line among rules
 

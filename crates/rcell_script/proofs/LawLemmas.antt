@@ -2,17 +2,17 @@
 use Rattle.std.proofs.Common.{◌≡◌, ℕ, ◌+◌, List, [], ◌∷◌, Option, Some, None, Result, Ok, Err, MatchResult, ap, sym, ◌∙◌, subst}
 use Rattle.std.specs.Prelude.{nat_lt, length, Bool, true, false}
 use Rattle.cell_core_values.specs.Words.{words_of}
-use Rattle.rcell_script_commands.specs.Commands.{is_mapcalc, IsShortHead, IsHeadOf, IsHead}
+use Rattle.rcell_script.specs.Commands.{is_mapcalc, IsShortHead, IsHeadOf, IsHead}
 use Rattle.rcell_script.specs.ScriptsRead.{IsNextTo, IsScriptReading, after_head, start}
 use Rattle.rcell_script.specs.Lines.{script_lines}
 use Rattle.rcell_script.specs.Scripts.{IsScript}
 use Rattle.rcell_script.specs.ReadScripts.{IsReadAs, IsScriptFault}
 use Rattle.rcell_script.specs.ScriptLaw.{OneScript, NoFaultOfAScript, ReadingDenotes}
-use Rattle.rcell_script_commands.proofs.CalcLemmas.{OneAssignment, one_mapcalc}
+use Rattle.rcell_script.proofs.CalcLemmas.{OneAssignment, one_mapcalc}
 use Rattle.rcell_script.proofs.GroupingLemmas.{read-grouped}
-use Rattle.rcell_script_commands.specs.declared.script_fault.ScriptFault.{ScriptFault}
-use Rattle.rcell_script_commands.specs.declared.script_fault.ScriptKind.{ScriptKind}
-use Rattle.rcell_script_commands.specs.declared.heads.Head.{Head}
+use Rattle.rcell_script.specs.declared.script_fault.ScriptFault.{ScriptFault}
+use Rattle.rcell_script.specs.declared.script_fault.ScriptKind.{ScriptKind}
+use Rattle.rcell_script.specs.declared.heads.Head.{Head}
 use Rattle.rcell_script.specs.declared.line_reading.OpenReclass.{OpenReclass}
 use Rattle.rcell_script.specs.declared.line_reading.Progress.{Progress}
 use Rattle.rcell_script.specs.declared.statement.Statement.{Statement}

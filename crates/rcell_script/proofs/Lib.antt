@@ -1,3 +1,13 @@
+pub mod NullTextLemmas
+pub mod NameLemmas
+pub mod OptionLemmas
+pub mod OptionLaw
+pub mod LookupLemmas
+pub mod FaultLemmas
+pub mod CalcLemmas
+pub mod MapcalcLemmas
+pub mod SkippedLemmas
+pub mod SpellingLemmas
 pub mod LawLemmas
 pub mod PlaceLemmas
 pub mod ReadingLemmas

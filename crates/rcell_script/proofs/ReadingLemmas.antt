@@ -6,8 +6,8 @@ use Rattle.rcell_script.specs.Lines.{script_lines}
 use Rattle.rcell_script.specs.ScriptsRead.{start, at_end, IsNext, IsScriptReading}
 use Rattle.rcell_script.specs.Scripts.{IsScript}
 use Rattle.rcell_script.specs.ReadScripts.{IsScriptFault}
-use Rattle.rcell_script_commands.specs.declared.script_fault.ScriptFault.{ScriptFault}
-use Rattle.rcell_script_commands.specs.declared.script_fault.ScriptKind.TheVariants.{Memory}
+use Rattle.rcell_script.specs.declared.script_fault.ScriptFault.{ScriptFault}
+use Rattle.rcell_script.specs.declared.script_fault.ScriptKind.TheVariants.{Memory}
 use Rattle.rcell_script.specs.declared.line_reading.Progress.{Progress}
 use Rattle.rcell_script.specs.declared.statement.Statement.{Statement}
 use Rattle.rcell_script.proofs.GroupingLemmas.{read-grouped}

@@ -6,17 +6,17 @@ use Rattle.cell_cats.specs.declared.rules.LineKind.{LineKind}
 use Rattle.cell_cats.specs.declared.rules.LineKind.TheVariants as line_kind
 use Rattle.rcell_script.specs.KnownMaps.{known_after}
 use Rattle.rcell_script.specs.ScriptsRead.{start, with_statement, after_head, after_rule}
-use Rattle.rcell_script_commands.specs.FittingCommands.{FitsCommand, FitsHead}
+use Rattle.rcell_script.specs.FittingCommands.{FitsCommand, FitsHead}
 use Rattle.rcell_script.specs.FittingScripts.{Fits}
-use Rattle.rcell_script_commands.specs.ScriptFaults.{ReadsLine}
-use Rattle.rcell_script_commands.specs.declared.script_fault.ScriptFault.{ScriptFault}
-use Rattle.rcell_script_commands.specs.declared.script_fault.ScriptKind.{ScriptKind}
-use Rattle.rcell_script_commands.specs.declared.heads.Head.{Head}
-use Rattle.rcell_script_commands.specs.declared.heads.Head.TheVariants.{Skipped, Whole, Opened}
+use Rattle.rcell_script.specs.ScriptFaults.{ReadsLine}
+use Rattle.rcell_script.specs.declared.script_fault.ScriptFault.{ScriptFault}
+use Rattle.rcell_script.specs.declared.script_fault.ScriptKind.{ScriptKind}
+use Rattle.rcell_script.specs.declared.heads.Head.{Head}
+use Rattle.rcell_script.specs.declared.heads.Head.TheVariants.{Skipped, Whole, Opened}
 use Rattle.rcell_script.specs.declared.line_reading.OpenReclass.{OpenReclass}
 use Rattle.rcell_script.specs.declared.line_reading.Progress.{Progress}
-use Rattle.rcell_script_commands.specs.declared.command.Command.{Command}
-use Rattle.rcell_script_commands.specs.declared.command.Command.TheVariants.{Reclass}
+use Rattle.rcell_script.specs.declared.command.Command.{Command}
+use Rattle.rcell_script.specs.declared.command.Command.TheVariants.{Reclass}
 use Rattle.rcell_script.specs.declared.statement.Statement.{Statement}
 use Rattle.rcell_script.specs.parts.Sound.{FitsBlock, known_after_all, IsSound}
 

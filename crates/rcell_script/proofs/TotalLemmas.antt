@@ -1,9 +1,9 @@
 -- Each text is read to its end or to its first error, given that each line has a reading.
 use Rattle.std.proofs.Common.{ℕ, ◌+◌, List, [], ◌∷◌, Option, Some, None, Result, Ok, Err, refl}
-use Rattle.rcell_script_commands.specs.Commands.{IsHead}
-use Rattle.rcell_script_commands.specs.declared.script_fault.ScriptFault.{ScriptFault}
-use Rattle.rcell_script_commands.specs.declared.script_fault.ScriptKind.{ScriptKind}
-use Rattle.rcell_script_commands.specs.declared.heads.Head.{Head}
+use Rattle.rcell_script.specs.Commands.{IsHead}
+use Rattle.rcell_script.specs.declared.script_fault.ScriptFault.{ScriptFault}
+use Rattle.rcell_script.specs.declared.script_fault.ScriptKind.{ScriptKind}
+use Rattle.rcell_script.specs.declared.heads.Head.{Head}
 use Rattle.rcell_script.specs.Lines.{script_lines}
 use Rattle.rcell_script.specs.ScriptsRead.{start, at_end, after_head, after_rule, rule_line, IsNextTo, IsNext, IsScriptReading}
 use Rattle.rcell_script.specs.declared.line_reading.OpenReclass.{OpenReclass}

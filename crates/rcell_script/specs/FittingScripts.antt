@@ -1,6 +1,6 @@
 -- Statements that fit the maps known before them.
 use Rattle.std.specs.Prelude.{ℕ, List, [], ◌∷◌}
-use Rattle.rcell_script_commands.specs.FittingCommands.{FitsCommand}
+use Rattle.rcell_script.specs.FittingCommands.{FitsCommand}
 use Rattle.rcell_script.specs.KnownMaps.{known_after}
 use Rattle.rcell_script.specs.declared.statement.Statement.{Statement}
 

@@ -2,8 +2,8 @@
 use Rattle.std.specs.Prelude.{ℕ, ◌≡◌, List, Ok, Err}
 use Rattle.rcell_script.specs.Lines.{script_lines}
 use Rattle.rcell_script.specs.ScriptsRead.{IsScriptReading, start}
-use Rattle.rcell_script_commands.specs.declared.script_fault.ScriptFault.{ScriptFault}
-use Rattle.rcell_script_commands.specs.declared.script_fault.ScriptKind.TheVariants.{Memory}
+use Rattle.rcell_script.specs.declared.script_fault.ScriptFault.{ScriptFault}
+use Rattle.rcell_script.specs.declared.script_fault.ScriptKind.TheVariants.{Memory}
 use Rattle.rcell_script.specs.declared.statement.Statement.{Statement}
 
 -- the text is read as these statements, line by line from the top

@@ -2,7 +2,7 @@
 use Rattle.std.specs.Prelude.{ℕ, ◌≡◌, List, ◌∷◌, codes, []}
 use Rattle.cell_cats.specs.Rule.{RuleValue}
 use Rattle.cell_cats.specs.RuleLine.{SpellsRule}
-use Rattle.rcell_script_commands.specs.Skipped.{IsSkipped}
+use Rattle.rcell_script.specs.Skipped.{IsSkipped}
 use Rattle.cell_core_values.specs.Blanks.{trimmed_text}
 use Rattle.rcell_script.specs.Lines.{ScriptLine}
 

@@ -3,12 +3,12 @@ use Rattle.std.specs.Prelude.{ℕ, List, ◌≤◌, [], ◌∷◌, ◌++◌, len
 use Rattle.cell_cats.specs.Rule.{RuleValue}
 use Rattle.rcell_script.specs.KnownMaps.{known_after}
 use Rattle.rcell_script.specs.Lines.{script_lines, ScriptLine, numbered_lines}
-use Rattle.rcell_script_commands.specs.Skipped.{IsSkipped}
-use Rattle.rcell_script_commands.specs.RReclass.{SpellsReclass}
-use Rattle.rcell_script_commands.specs.CommandSpelling.{SpellsCommand}
+use Rattle.rcell_script.specs.Skipped.{IsSkipped}
+use Rattle.rcell_script.specs.RReclass.{SpellsReclass}
+use Rattle.rcell_script.specs.CommandSpelling.{SpellsCommand}
 use Rattle.rcell_script.specs.ReclassRules.{IsEnd, AreRules}
-use Rattle.rcell_script_commands.specs.declared.command.Command.{Command}
-use Rattle.rcell_script_commands.specs.declared.command.Command.TheVariants.{Reclass}
+use Rattle.rcell_script.specs.declared.command.Command.{Command}
+use Rattle.rcell_script.specs.declared.command.Command.TheVariants.{Reclass}
 use Rattle.rcell_script.specs.declared.statement.Statement.{Statement}
 
 -- how lines group into statements: one line per command, and for r.reclass also the lines of its rules and of `end`; a

@@ -5,18 +5,18 @@ use Rattle.cell_cats.specs.RuleReading.{with_line}
 use Rattle.cell_cats.specs.declared.rules.LineKind.{LineKind}
 use Rattle.cell_cats.specs.declared.rules.LineKind.TheVariants as line_kind
 use Rattle.cell_cats.specs.declared.rules.RuleFault.{RuleFault}
-use Rattle.rcell_script_commands.specs.Commands.{IsHead}
+use Rattle.rcell_script.specs.Commands.{IsHead}
 use Rattle.rcell_script.specs.KnownMaps.{known_after}
-use Rattle.rcell_script_commands.specs.declared.script_fault.ScriptFault.{ScriptFault}
-use Rattle.rcell_script_commands.specs.declared.script_fault.ScriptKind.{ScriptKind}
-use Rattle.rcell_script_commands.specs.declared.script_fault.ScriptKind.TheVariants.{LongLine, MissingEnd}
-use Rattle.rcell_script_commands.specs.ScriptFaults.{of_rule}
-use Rattle.rcell_script_commands.specs.declared.heads.Head.{Head}
-use Rattle.rcell_script_commands.specs.declared.heads.Head.TheVariants.{Skipped, Whole, Opened}
+use Rattle.rcell_script.specs.declared.script_fault.ScriptFault.{ScriptFault}
+use Rattle.rcell_script.specs.declared.script_fault.ScriptKind.{ScriptKind}
+use Rattle.rcell_script.specs.declared.script_fault.ScriptKind.TheVariants.{LongLine, MissingEnd}
+use Rattle.rcell_script.specs.ScriptFaults.{of_rule}
+use Rattle.rcell_script.specs.declared.heads.Head.{Head}
+use Rattle.rcell_script.specs.declared.heads.Head.TheVariants.{Skipped, Whole, Opened}
 use Rattle.rcell_script.specs.declared.line_reading.OpenReclass.{OpenReclass}
 use Rattle.rcell_script.specs.declared.line_reading.Progress.{Progress}
-use Rattle.rcell_script_commands.specs.declared.command.Command.{Command}
-use Rattle.rcell_script_commands.specs.declared.command.Command.TheVariants.{Reclass}
+use Rattle.rcell_script.specs.declared.command.Command.{Command}
+use Rattle.rcell_script.specs.declared.command.Command.TheVariants.{Reclass}
 use Rattle.rcell_script.specs.declared.statement.Statement.{Statement}
 
 -- the state before the first line

@@ -1,2 +1,6 @@
--- Definitions that only private functions and proofs use.
+-- Definitions that only private functions, conversions of errors and proofs use.
+pub mod Keys
+pub mod Faults
+pub mod CalcFaults
+pub mod Giving
 pub mod Sound

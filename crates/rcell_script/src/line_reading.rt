@@ -5,18 +5,18 @@ ghost use Rattle.std.specs.Option.{option_map};
 ghost use Rattle.cell_core_values.specs.Answers.{Answers};
 ghost use Rattle.rcell_script.specs.KnownMaps.{known_after, made_by};
 ghost use Rattle.rcell_script.specs.ScriptsRead.{start, with_statement, after_head, after_rule, rule_line, IsNext, at_end};
-ghost use Rattle.rcell_script_commands.specs.FittingCommands.{FitsCommand, FitsHead};
-ghost use Rattle.rcell_script_commands.specs.ScriptFaults.{ReadsLine};
+ghost use Rattle.rcell_script.specs.FittingCommands.{FitsCommand, FitsHead};
+ghost use Rattle.rcell_script.specs.ScriptFaults.{ReadsLine};
 ghost use Rattle.rcell_script.specs.ReadScripts.{ReportsMemoryAtZero};
 ghost use Rattle.rcell_script.specs.parts.Sound.{IsSound, FitsBlock};
 
+use crate::command::Command;
+use crate::heads::{Head, MOST_LINE, head_of};
+use crate::script_fault::{ScriptFault, ScriptKind};
 use crate::statement::{Script, Statement};
 use cell_cats::rules::{LineKind, Rules};
 use cell_core::memory::Memory;
 use cell_core::name::{Name, Names};
-use rcell_script_commands::command::Command;
-use rcell_script_commands::heads::{Head, MOST_LINE, head_of};
-use rcell_script_commands::script_fault::{ScriptFault, ScriptKind};
 use std::alloc::Global;
 
 /// An r.reclass whose rules are being read.

@@ -7,9 +7,9 @@ ghost use Rattle.rcell_script.specs.FittingScripts.{Fits};
 
 use crate::line_reading::{NO_MEMORY, Progress};
 use crate::lines::lines_of;
+use crate::script_fault::{ScriptFault, ScriptKind};
 use crate::statement::Script;
 use cell_core::name::Names;
-use rcell_script_commands::script_fault::{ScriptFault, ScriptKind};
 use std::alloc::Global;
 
 /// Parses a script over maps with these names. In statements, a place is an index into the known names, followed by the

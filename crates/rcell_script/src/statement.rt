@@ -2,8 +2,8 @@
 
 ghost use Rattle.std.specs.Prelude.{◌≡◌, OnOk, OnErr, ◌++◌, [], ◌∷◌};
 
+pub use crate::command::{Command, Places, StatsOptions};
 use cell_core::memory::Memory;
-pub use rcell_script_commands::command::{Command, Places, StatsOptions};
 use std::alloc::Global;
 use std::marker::Model;
 

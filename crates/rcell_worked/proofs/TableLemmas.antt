@@ -7,8 +7,8 @@ use Rattle.cell_stats.specs.TableText.{table_text, printed_pairs}
 use Rattle.cell_stats_combinations.specs.Combinations.{Combination, combination_cmp, combination_cmp_total}
 use Rattle.cell_stats_combinations.specs.LeftOut.{kept_cells}
 use Rattle.cell_stats_counts.specs.Counts.{count_of}
-use Rattle.rcell_script_commands.specs.declared.command.Command.TheVariants.{Stats}
-use Rattle.rcell_script_commands.specs.declared.command.StatsOptions.{StatsOptions}
+use Rattle.rcell_script.specs.declared.command.Command.TheVariants.{Stats}
+use Rattle.rcell_script.specs.declared.command.StatsOptions.{StatsOptions}
 use Rattle.rcell.specs.Output.{combinations_of, format_of, command_text}
 
 -- pairs put one by one into an ordered list

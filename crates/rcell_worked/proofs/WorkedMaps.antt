@@ -4,7 +4,7 @@ use Rattle.cell_core.specs.Grid.{Grid, no_labels}
 use Rattle.cell_core.specs.Shelf.{ShelfValue}
 use Rattle.cell_stats_combinations.specs.declared.skip.Skip.TheVariants.{Nothing}
 use Rattle.rcell.specs.Loading.{shelf_of_one}
-use Rattle.rcell_script_commands.specs.declared.command.StatsOptions.{StatsOptions}
+use Rattle.rcell_script.specs.declared.command.StatsOptions.{StatsOptions}
 use Rattle.rcell_worked.specs.WorkedNumbers.{class}
 
 abbrev pub land_map : Grid

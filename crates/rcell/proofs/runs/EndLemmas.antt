@@ -16,8 +16,8 @@ use Rattle.rcell.specs.runs.Execution.{is_write, stops_write, Stops}
 use Rattle.rcell.specs.runs.Outcomes.{Failing, IsDone}
 use Rattle.cell_ascii_meaning.specs.declared.grid_fault.GridKind.{GridKind}
 use Rattle.cell_ascii_meaning.specs.declared.grid_fault.GridKind.TheVariants as grid_kinds
-use Rattle.rcell_script_commands.specs.declared.script_fault.ScriptKind.{ScriptKind}
-use Rattle.rcell_script_commands.specs.declared.script_fault.ScriptKind.TheVariants as script_kinds
+use Rattle.rcell_script.specs.declared.script_fault.ScriptKind.{ScriptKind}
+use Rattle.rcell_script.specs.declared.script_fault.ScriptKind.TheVariants as script_kinds
 use Rattle.rcell.specs.runs.Statuses.{grid_status, script_status, fault_status, status_after}
 use Rattle.rcell.proofs.runs.ExecutionLemmas.{done_within, line_above}
 

@@ -10,13 +10,13 @@ use Rattle.cell_core.specs.Shelf.{ShelfValue}
 use Rattle.cell_core_devices.specs.Blocks.{BlockValue, Appends}
 use Rattle.cell_ascii_writer.proofs.PutLemmas.{appended_put}
 use Rattle.rcell_script.specs.KnownMaps.{known_after}
-use Rattle.rcell_script_commands.specs.FittingCommands.{FitsCommand}
+use Rattle.rcell_script.specs.FittingCommands.{FitsCommand}
 use Rattle.rcell_script.specs.FittingScripts.{Fits}
-use Rattle.rcell_script_commands.specs.declared.command.Command.{Command}
-use Rattle.rcell_script_commands.specs.declared.command.Command.TheVariants.{Stats, OutAscii}
+use Rattle.rcell_script.specs.declared.command.Command.{Command}
+use Rattle.rcell_script.specs.declared.command.Command.TheVariants.{Stats, OutAscii}
 use Rattle.rcell_script.specs.declared.statement.Statement.{Statement}
 use Rattle.rcell.specs.After.{IsShelfAfter}
-use Rattle.rcell_script_commands.specs.declared.command.StatsOptions.{StatsOptions}
+use Rattle.rcell_script.specs.declared.command.StatsOptions.{StatsOptions}
 use Rattle.rcell.specs.Output.{Executes, command_text, stats_text}
 use Rattle.rcell.specs.parts.OutputSteps.{HasExecuted}
 use Rattle.rcell.specs.runs.Execution.{IsShelfBefore, IsWithin}

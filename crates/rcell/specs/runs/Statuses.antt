@@ -2,8 +2,8 @@
 use Rattle.std.specs.Prelude.{ℕ, Option, Some, None}
 use Rattle.cell_ascii_meaning.specs.declared.grid_fault.GridKind.{GridKind}
 use Rattle.cell_ascii_meaning.specs.declared.grid_fault.GridKind.TheVariants as grid_kinds
-use Rattle.rcell_script_commands.specs.declared.script_fault.ScriptKind.{ScriptKind}
-use Rattle.rcell_script_commands.specs.declared.script_fault.ScriptKind.TheVariants as script_kinds
+use Rattle.rcell_script.specs.declared.script_fault.ScriptKind.{ScriptKind}
+use Rattle.rcell_script.specs.declared.script_fault.ScriptKind.TheVariants as script_kinds
 use Rattle.rcell.specs.declared.run_fault.RunFault.{RunFault}
 use Rattle.rcell.specs.declared.run_fault.RunFault.TheVariants.{GridTwice, GridRegion, Grid, ScriptRead, ScriptSize, Script, Memory, Write}
 

@@ -7,7 +7,7 @@ use Rattle.cell_core_devices.specs.Supposed.{to_come}
 use Rattle.rcell_script.specs.ReadScripts.{IsScriptFault}
 use Rattle.rcell_script.specs.ScriptLaw.{OneScript, NoFaultOfAScript}
 use Rattle.rcell_script.specs.Scripts.{IsScript}
-use Rattle.rcell_script_commands.specs.declared.script_fault.ScriptFault.{ScriptFault}
+use Rattle.rcell_script.specs.declared.script_fault.ScriptFault.{ScriptFault}
 use Rattle.rcell_script.specs.declared.statement.Statement.{Statement}
 use Rattle.rcell.specs.RunFaults.{IsOfInput}
 use Rattle.rcell.specs.ScriptText.{script_text}

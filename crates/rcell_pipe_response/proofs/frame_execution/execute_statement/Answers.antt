@@ -3,9 +3,9 @@ use Rattle.std.specs.Prelude.{slice_get}
 use Rattle.std.specs.Result.{OnOk}
 use Rattle.cell_core.specs.Grid.{Grid}
 use Rattle.cell_core.specs.Shelf.{ShelfValue}
-use Rattle.rcell_script_commands.specs.declared.command.Command.{Command}
-use Rattle.rcell_script_commands.specs.declared.command.Command.TheVariants.{Stats, OutAscii}
-use Rattle.rcell_script_commands.specs.declared.command.StatsOptions.{StatsOptions}
+use Rattle.rcell_script.specs.declared.command.Command.{Command}
+use Rattle.rcell_script.specs.declared.command.Command.TheVariants.{Stats, OutAscii}
+use Rattle.rcell_script.specs.declared.command.StatsOptions.{StatsOptions}
 use Rattle.rcell_pipe_frames.specs.Frames.{command_frames, grid_frame, stats_frame}
 use Rattle.rcell_pipe_frames.specs.FrameBytes.{frame_bytes, frames_bytes, grid_bytes}
 use Rattle.rcell_pipe_response.proofs.frame_execution.execute_statement.Goals as goal

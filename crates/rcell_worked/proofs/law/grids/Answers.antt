@@ -6,7 +6,7 @@ use Rattle.cell_ascii_meaning.specs.GridTokens.{grid_start, word_from}
 use Rattle.cell_calc_grammar.specs.Grammar.{IsOffset, IsExpression, offsets, moved, below}
 use Rattle.cell_calc_language.specs.Assignment.{IsAssignmentText}
 use Rattle.cell_calc_language.specs.declared.assignment.Assignment.{Assignment}
-use Rattle.rcell_script_commands.specs.RMapcalc.{assignment_text}
+use Rattle.rcell_script.specs.RMapcalc.{assignment_text}
 use Rattle.rcell.specs.Making.{AreValues}
 use Rattle.cell_calc_grammar.specs.Term.{Map, map_name}
 use Rattle.cell_calc_grammar.specs.Token.{token_number_at}

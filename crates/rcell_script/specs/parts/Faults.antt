@@ -1,0 +1,10 @@
+-- Converts errors of names to errors of options.
+use Rattle.cell_core_values.specs.declared.name.NameFault.{NameFault}
+use Rattle.cell_core_values.specs.declared.name.NameFault.TheVariants as name
+use Rattle.rcell_script.specs.declared.option_fault.OptionFault.{OptionFault}
+use Rattle.rcell_script.specs.declared.option_fault.OptionFault.TheVariants.{BadName, Memory}
+
+-- the option error for an error of a name
+abbrev pub of_name : NameFault → OptionFault
+of_name name.BadName = BadName
+of_name name.Memory = Memory

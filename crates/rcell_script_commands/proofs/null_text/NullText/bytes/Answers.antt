@@ -1,5 +1,0 @@
-use Rattle.rcell_script_commands.proofs.NullTextLemmas.{IsNullText-given}
-use Rattle.rcell_script_commands.proofs.null_text.NullText.bytes.Goals as goal
-
-pub returns-clause-text : goal.returns-clause-text
-returns-clause-text c = rw (← c.self.view_is) (IsNullText-given _ c.self.invariant)
