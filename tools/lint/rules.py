@@ -24,7 +24,6 @@ WORKED = "Worked.antt"
 CRATES_OF_STEPS = {
     "cell_calc_grammar",
     "cell_calc_language",
-    "cell_calc_binding",
     "cell_calc",
     "rcell_plan",
 }

@@ -6,13 +6,13 @@ use Rattle.std.proofs.lemmas.Int.{ints}
 use Rattle.std.proofs.lemmas.List.{get_or-map, length-map}
 use Rattle.cell_core.specs.Grid.{Grid, CellValue, cell_at, row_at, IsFilled, no_labels}
 use Rattle.cell_core_values.specs.Region.{RegionValue}
-use Rattle.cell_calc_binding.specs.Applied.{grid_position, call_result}
-use Rattle.cell_calc_binding.specs.Formula.{Formula}
-use Rattle.cell_calc_binding.specs.Offsets.{cell_in}
-use Rattle.cell_calc_binding.specs.Reach.{IsProper}
-use Rattle.cell_calc_binding.specs.Value.{value}
-use Rattle.cell_calc_binding.specs.parts.TreeSteps.{IsProperStep}
-use Rattle.cell_calc_binding.proofs.Steps.{proper_steps}
+use Rattle.cell_calc_language.specs.Applied.{grid_position, call_result}
+use Rattle.cell_calc_language.specs.Formula.{Formula}
+use Rattle.cell_calc_language.specs.Offsets.{cell_in}
+use Rattle.cell_calc_language.specs.Reach.{IsProper}
+use Rattle.cell_calc_language.specs.Value.{value}
+use Rattle.cell_calc_language.specs.parts.TreeSteps.{IsProperStep}
+use Rattle.cell_calc_language.proofs.FormulaSteps.{proper_steps}
 use Rattle.cell_calc_grammar.specs.Postfix.{postfix, values_after}
 use Rattle.cell_calc_grammar.specs.declared.function.Function.{Function}
 use Rattle.cell_calc_grammar.specs.declared.function.Function.TheVariants as function

@@ -3,7 +3,7 @@ use Rattle.std.proofs.Common.{◌≡◌, ◌<◌, ◌+◌, ℕ, zero, suc, ℤ, 
 use Rattle.std.specs.Prelude.{slice_get}
 use Rattle.std.proofs.lemmas.Int.{ints}
 use Rattle.cell_core.specs.Grid.{CellValue}
-use Rattle.cell_calc_binding.specs.Offsets.{item_at}
+use Rattle.cell_calc_language.specs.Offsets.{item_at}
 use Rattle.cell_calc.specs.Window.{Window, Reaches}
 use Rattle.cell_calc.specs.WindowsOver.{row_below}
 use Rattle.cell_calc.specs.parts.InReach.{IsInReach}

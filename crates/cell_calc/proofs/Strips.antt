@@ -5,8 +5,8 @@ use Rattle.std.proofs.lemmas.List.{get_or-drop, get_or-take, get_or_append_left,
 use Rattle.std.proofs.lemmas.Int.{ints}
 use Rattle.cell_core.specs.Grid.{CellValue}
 use Rattle.cell_calc_grammar.specs.declared.operator.Operator.{Operator}
-use Rattle.cell_calc_binding.specs.Applied.{operator_value}
-use Rattle.cell_calc_binding.specs.Offsets.{item_at}
+use Rattle.cell_calc_language.specs.Applied.{operator_value}
+use Rattle.cell_calc_language.specs.Offsets.{item_at}
 use Rattle.cell_calc.specs.RowValues.{at}
 
 -- if the cells at the start of a row and the cells after them have a property, all cells of the row have it

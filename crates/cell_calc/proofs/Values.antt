@@ -7,20 +7,20 @@ use Rattle.cell_core.specs.Grid.{Grid, CellValue}
 use Rattle.cell_calc_language.specs.Grammatical.{up_by, down_by}
 use Rattle.cell_calc_grammar.specs.declared.step.Step.{Step}
 use Rattle.cell_calc_grammar.specs.declared.step.Step.TheVariants as step
-use Rattle.cell_calc_binding.specs.Formula.{Formula, Formulas, NoTrees, Then}
-use Rattle.cell_calc_binding.specs.Reach.{IsProper, top_at, up_at, down_at, top_of, up_of, down_of}
-use Rattle.cell_calc_binding.specs.Applied.{GridPosition, operator_value, call_result, negated_cell, inverted_cell}
-use Rattle.cell_calc_binding.specs.Offsets.{cell_in, item_at, row_of}
-use Rattle.cell_calc_binding.specs.Value.{value, argument_values}
+use Rattle.cell_calc_language.specs.Formula.{Formula, Formulas, NoTrees, Then}
+use Rattle.cell_calc_language.specs.Reach.{IsProper, top_at, up_at, down_at, top_of, up_of, down_of}
+use Rattle.cell_calc_language.specs.Applied.{GridPosition, operator_value, call_result, negated_cell, inverted_cell}
+use Rattle.cell_calc_language.specs.Offsets.{cell_in, item_at, row_of}
+use Rattle.cell_calc_language.specs.Value.{value, argument_values}
 use Rattle.cell_calc.specs.Window.{Window, IsWindowOf, Reaches, IsOver, HasReach}
 use Rattle.cell_calc.specs.parts.Operands.{IsReadyStep, seen_cell}
 use Rattle.cell_calc_grammar.specs.Postfix.{postfix, arity, values_after}
-use Rattle.cell_calc_binding.specs.parts.TreeSteps.{IsProperStep}
+use Rattle.cell_calc_language.specs.parts.TreeSteps.{IsProperStep}
 use Rattle.cell_calc.specs.WindowsOver.{row_below}
 use Rattle.cell_calc.specs.parts.InReach.{IsInReach}
 use Rattle.cell_calc_grammar.proofs.PostfixLemmas.{listed, IsMeaning, after_postfix}
 use Rattle.cell_calc.proofs.Rings.{held_row}
-use Rattle.cell_calc_binding.proofs.Steps.{proper_steps, below_greatest, top-postfix, up-postfix, down-postfix}
+use Rattle.cell_calc_language.proofs.FormulaSteps.{proper_steps, below_greatest, top-postfix, up-postfix, down-postfix}
 
 -- the result of a step over maps, from the values of its operands
 abbrev pub over_maps : List Grid → GridPosition → Step ℕ → List CellValue → CellValue

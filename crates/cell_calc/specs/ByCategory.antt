@@ -2,8 +2,8 @@
 use Rattle.std.specs.Prelude.{◌≡◌, ℕ, pos, Bool, true, false, All, List, [], Some, None, slice_index_or}
 use Rattle.cell_core.specs.Grid.{CellValue}
 use Rattle.cell_core_values.specs.Region.{RegionValue}
-use Rattle.cell_calc_binding.specs.Applied.{grid_position, operator_value, call_result, negated_cell, inverted_cell}
-use Rattle.cell_calc_binding.specs.Formula.{Formula}
+use Rattle.cell_calc_language.specs.Applied.{grid_position, operator_value, call_result, negated_cell, inverted_cell}
+use Rattle.cell_calc_language.specs.Formula.{Formula}
 use Rattle.cell_calc_grammar.specs.Postfix.{postfix, values_after}
 use Rattle.cell_calc_grammar.specs.declared.step.Step.{Step}
 use Rattle.cell_calc_grammar.specs.declared.step.Step.TheVariants as step

@@ -5,9 +5,9 @@ ghost use Rattle.cell_calc.specs.ByCategory.{IsCategoryStep, IsByCategory, value
 
 use crate::rows_of_values::along_columns;
 use crate::window::RowWindow;
-use cell_calc_binding::bound::Bound;
 use cell_calc_grammar::function::Function;
 use cell_calc_grammar::step::Step;
+use cell_calc_language::bound::Bound;
 use cell_core::cell::Cell;
 use cell_core::memory::Memory;
 use cell_core::region::Region;

@@ -1,13 +1,13 @@
 //! Applies functions to rows of arguments.
 
 ghost use Rattle.std.specs.Prelude.{◌≡◌, ◌≤◌, ◌<◌, ◌+◌, length, OnOk};
-ghost use Rattle.cell_calc_binding.specs.CellOperators.{if_of, least, greatest_cell, known_cells, first_known, last_argument, truth, is_null};
-ghost use Rattle.cell_calc_binding.specs.Applied.{grid_position, size_of, call_result};
+ghost use Rattle.cell_calc_language.specs.CellOperators.{if_of, least, greatest_cell, known_cells, first_known, last_argument, truth, is_null};
+ghost use Rattle.cell_calc_language.specs.Applied.{grid_position, size_of, call_result};
 ghost use Rattle.cell_calc.specs.RowValues.{Becomes, AreWide, arguments_at};
 
 use crate::rows;
-use cell_calc_binding::cell_operators;
 use cell_calc_grammar::function::Function;
+use cell_calc_language::cell_operators;
 use cell_calc_modes::modes;
 use cell_core::cell::Cell;
 use cell_core::memory::Memory;

@@ -33,9 +33,9 @@ mod strip;
 pub mod window;
 mod window_rows;
 
-pub use cell_calc_binding::binding::resolve;
-pub use cell_calc_binding::bound::Bound;
 pub use cell_calc_language::assignment::{Assignment, parse};
+pub use cell_calc_language::binding::resolve;
+pub use cell_calc_language::bound::Bound;
 pub use cell_calc_language::calc_fault::{CalcFault, CalcKind};
 pub use cell_calc_language::expr::Expr;
 pub use rows_of_values::eval_row;

@@ -1,8 +1,8 @@
 //! Operands of the steps of an expression, along strips.
 
 ghost use Rattle.std.specs.Prelude.{◌≡◌, ◌<◌, ◌++◌, [], ◌∷◌, length, slice_get, IfOk, OnOk};
-ghost use Rattle.cell_calc_binding.specs.Applied.{operator_value};
-ghost use Rattle.cell_calc_binding.specs.CellOperators.{chosen_cell};
+ghost use Rattle.cell_calc_language.specs.Applied.{operator_value};
+ghost use Rattle.cell_calc_language.specs.CellOperators.{chosen_cell};
 ghost use Rattle.cell_calc.specs.parts.Operands.{IsStrip, IsOperandReady, AtColumns, operand_at, HasCells};
 ghost use Rattle.cell_calc.specs.WindowsOver.{row_below};
 ghost use Rattle.cell_calc.specs.parts.InReach.{IsInReach};
@@ -11,8 +11,8 @@ ghost use Rattle.cell_calc.specs.RowValues.{at, Becomes};
 use crate::rows;
 use crate::strip::{Operand, Strip};
 use crate::window::RowWindow;
-use cell_calc_binding::cell_operators;
 use cell_calc_grammar::operator::Operator;
+use cell_calc_language::cell_operators;
 use cell_core::cell::Cell;
 use cell_core::memory::Memory;
 use std::alloc::Global;

@@ -1,14 +1,14 @@
 //! Applies operators and functions to rows of cells.
 
 ghost use Rattle.std.specs.Prelude.{◌≡◌, ◌≤◌, ◌<◌, ◌≤ℤ◌, ◌<ℤ◌, ℕ, pos, length, None, Some, IfSome, ◌+ℤ◌, ◌+◌};
-ghost use Rattle.cell_calc_binding.specs.CellOperators.{chosen_cell, truth, is_null, lesser, greater};
-ghost use Rattle.cell_calc_binding.specs.Applied.{operator_value, size_of, negated_cell, inverted_cell};
-ghost use Rattle.cell_calc_binding.specs.Offsets.{item_at};
-ghost use Rattle.cell_calc_binding.specs.Joins.{known_lesser, known_greater};
+ghost use Rattle.cell_calc_language.specs.CellOperators.{chosen_cell, truth, is_null, lesser, greater};
+ghost use Rattle.cell_calc_language.specs.Applied.{operator_value, size_of, negated_cell, inverted_cell};
+ghost use Rattle.cell_calc_language.specs.Offsets.{item_at};
+ghost use Rattle.cell_calc_language.specs.Joins.{known_lesser, known_greater};
 ghost use Rattle.cell_calc.specs.RowValues.{at, Becomes};
 
-use cell_calc_binding::cell_operators;
 use cell_calc_grammar::operator::Operator;
+use cell_calc_language::cell_operators;
 use cell_core::cell::Cell;
 
 /// Writes a cell to every column of a row.

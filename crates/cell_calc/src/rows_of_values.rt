@@ -2,11 +2,11 @@
 
 ghost use Rattle.std.specs.Prelude.{◌≡◌, ◌<◌, ◌≤◌, ℕ, List, [], ◌∷◌, length, slice_get, slice_index_or, All, None, IfOk, OnOk, OnErr};
 ghost use Rattle.cell_core.specs.Grid.{Grid};
-ghost use Rattle.cell_calc_binding.specs.Applied.{grid_position};
+ghost use Rattle.cell_calc_language.specs.Applied.{grid_position};
 ghost use Rattle.cell_calc.specs.RowValues.{at};
 ghost use Rattle.cell_calc_grammar.specs.Postfix.{values_after, AreEnough};
-ghost use Rattle.cell_calc_binding.specs.Reach.{top_of, up_of, down_of};
-ghost use Rattle.cell_calc_binding.specs.Value.{value};
+ghost use Rattle.cell_calc_language.specs.Reach.{top_of, up_of, down_of};
+ghost use Rattle.cell_calc_language.specs.Value.{value};
 ghost use Rattle.cell_calc.specs.Window.{IsOver, HasReach};
 ghost use Rattle.cell_calc.specs.parts.Operands.{IsReadyStep, seen_cell};
 ghost use Rattle.cell_calc.specs.parts.InPlace.{IsInPlace};
@@ -18,8 +18,8 @@ use crate::common_stretches::{short_windows, spread};
 use crate::in_place::few_stretches;
 use crate::strip::{Spare, Strip};
 use crate::window::RowWindow;
-use cell_calc_binding::bound::Bound;
 use cell_calc_grammar::step::Step;
+use cell_calc_language::bound::Bound;
 use cell_core::cell::Cell;
 use cell_core::memory::Memory;
 use cell_core::region::Region;

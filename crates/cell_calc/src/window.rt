@@ -2,7 +2,7 @@
 
 ghost use Rattle.std.specs.Prelude.{◌≡◌, ◌≤◌, ◌<◌, ◌+◌, ◌+ℤ◌, ℤ, pos, length, None, Some, IfOk, IfSome, IfNone, ◌<ℤ◌};
 ghost use Rattle.cell_core.specs.Grid.{Grid};
-ghost use Rattle.cell_calc_binding.specs.Offsets.{row_of, cell_at_offset, item_at};
+ghost use Rattle.cell_calc_language.specs.Offsets.{row_of, cell_at_offset, item_at};
 ghost use Rattle.cell_calc.specs.Window.{IsWindowOf, Reaches};
 ghost use Rattle.cell_calc.specs.CommonStretches.{centre_row};
 ghost use Rattle.cell_calc.specs.WindowsOver.{row_below};

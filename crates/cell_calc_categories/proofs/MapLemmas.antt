@@ -3,7 +3,7 @@ use Rattle.std.proofs.Common.{◌≡◌, ◌<◌, ℕ, List, [], length, map, ge
 use Rattle.std.specs.Prelude.{IfSome, slice_get}
 use Rattle.std.proofs.lemmas.List.{get_or-map}
 use Rattle.cell_core.specs.Grid.{Grid, CellValue, cell_at, row_at, IsFilled, no_labels}
-use Rattle.cell_calc_binding.specs.Formula.{Formula}
+use Rattle.cell_calc_language.specs.Formula.{Formula}
 use Rattle.cell_calc.specs.ByCategory.{IsByCategory, value_of_cell}
 use Rattle.cell_calc.specs.RowValues.{at}
 use Rattle.cell_calc.proofs.CategoryValues.{value_by_category}

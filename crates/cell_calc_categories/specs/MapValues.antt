@@ -2,9 +2,9 @@
 use Rattle.std.specs.Prelude.{◌≡◌, ◌<◌, ℕ, List}
 use Rattle.cell_core.specs.Grid.{Grid, cell_at, no_labels}
 use Rattle.cell_core_values.specs.Region.{RegionValue}
-use Rattle.cell_calc_binding.specs.Applied.{grid_position}
-use Rattle.cell_calc_binding.specs.Formula.{Formula}
-use Rattle.cell_calc_binding.specs.Value.{value}
+use Rattle.cell_calc_language.specs.Applied.{grid_position}
+use Rattle.cell_calc_language.specs.Formula.{Formula}
+use Rattle.cell_calc_language.specs.Value.{value}
 
 -- the map covers the region without labels, and each cell has the expression's value
 pub record HasValues (f : Formula) (r : RegionValue) (maps : List Grid) (m : Grid) : Type 0 where

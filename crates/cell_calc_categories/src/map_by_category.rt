@@ -13,7 +13,7 @@ ghost use Rattle.cell_calc_categories.specs.parts.ValueTables.{IsValueTable, IsB
 
 use crate::span::{CategorySpan, span_of};
 use cell_calc::by_category::{is_by_category, values_of_cells};
-use cell_calc_binding::bound::Bound;
+use cell_calc_language::bound::Bound;
 use cell_core::cell::Cell;
 use cell_core::map::{CellMap, MapBuilder};
 use cell_core::memory::Memory;

@@ -6,3 +6,10 @@ pub mod Grammatical
 pub mod PostfixLemmas
 pub mod Total
 pub mod Judged
+pub mod Fit
+pub mod Compact
+pub mod Index
+pub mod Moved
+pub mod Placing
+pub mod FormulaSteps
+pub mod Worked

@@ -7,12 +7,12 @@ use Rattle.std.proofs.lemmas.Bool.{eqb-true, eq-eqb}
 use Rattle.cell_core.specs.Grid.{Grid, CellValue, cell_at}
 use Rattle.cell_calc_grammar.specs.declared.function.Function.{Function}
 use Rattle.cell_calc_grammar.specs.declared.function.Function.TheVariants as function
-use Rattle.cell_calc_binding.specs.Applied.{GridPosition, negated_cell, inverted_cell, operator_value, call_result}
-use Rattle.cell_calc_binding.specs.Offsets.{cell_in}
-use Rattle.cell_calc_binding.specs.Compact.{ReadsMap, AreReading}
-use Rattle.cell_calc_binding.specs.Formula as formula
-use Rattle.cell_calc_binding.specs.Formula.{Formula, Map, Formulas}
-use Rattle.cell_calc_binding.specs.Value.{value, argument_values}
+use Rattle.cell_calc_language.specs.Applied.{GridPosition, negated_cell, inverted_cell, operator_value, call_result}
+use Rattle.cell_calc_language.specs.Offsets.{cell_in}
+use Rattle.cell_calc_language.specs.Compact.{ReadsMap, AreReading}
+use Rattle.cell_calc_language.specs.Formula as formula
+use Rattle.cell_calc_language.specs.Formula.{Formula, Map, Formulas}
+use Rattle.cell_calc_language.specs.Value.{value, argument_values}
 use Rattle.cell_stats_combinations.specs.Combinations.{Combination, cell_of_map, combination_at}
 use Rattle.cell_calc_law.specs.LocalLaw.{asks_where, IsLocal, AreLocal, OneValueACombination, LocalGoesByCombinations}
 

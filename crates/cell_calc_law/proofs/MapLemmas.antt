@@ -6,10 +6,10 @@ use Rattle.std.proofs.lemmas.List.Elements.{All-get_or}
 use Rattle.cell_core_values.specs.Region.{RegionValue}
 use Rattle.cell_core.specs.Grid.{Grid, CellValue, IsFilled, cell_at}
 use Rattle.cell_core.specs.Shelf.{ShelfValue}
-use Rattle.cell_calc_binding.specs.Applied.{grid_position}
-use Rattle.cell_calc_binding.specs.CellOperators.{chosen_cell, truth, is_null}
-use Rattle.cell_calc_binding.specs.Formula.{Formula, Map}
-use Rattle.cell_calc_binding.specs.Value.{value}
+use Rattle.cell_calc_language.specs.Applied.{grid_position}
+use Rattle.cell_calc_language.specs.CellOperators.{chosen_cell, truth, is_null}
+use Rattle.cell_calc_language.specs.Formula.{Formula, Map}
+use Rattle.cell_calc_language.specs.Value.{value}
 use Rattle.rcell.specs.Making.{AreValues}
 
 -- two lists of rows of one region are equal if their cells are

@@ -4,12 +4,12 @@ use Rattle.std.specs.Prelude.{◌≡◌, ℕ, ◌⊎◌, Bool, true, false, List
 use Rattle.std.proofs.lemmas.Bool.{cases_lt}
 use Rattle.cell_core_values.specs.Region.{RegionValue}
 use Rattle.cell_core.specs.Grid.{Grid, IsFilled}
-use Rattle.cell_calc_binding.specs.Applied.{GridPosition, grid_position}
+use Rattle.cell_calc_language.specs.Applied.{GridPosition, grid_position}
 use Rattle.cell_calc_language.specs.Grammatical.{up_by, down_by}
-use Rattle.cell_calc_binding.specs.Formula as formula
-use Rattle.cell_calc_binding.specs.Formula.{Formula, Formulas}
-use Rattle.cell_calc_binding.specs.Reach.{up_of, down_of, up_of_all, down_of_all}
-use Rattle.cell_calc_binding.specs.Value.{value}
+use Rattle.cell_calc_language.specs.Formula as formula
+use Rattle.cell_calc_language.specs.Formula.{Formula, Formulas}
+use Rattle.cell_calc_language.specs.Reach.{up_of, down_of, up_of_all, down_of_all}
+use Rattle.cell_calc_language.specs.Value.{value}
 use Rattle.cell_calc_law.specs.HaloParts.{left_of, right_of, left_of_all, right_of_all, ReadsWithin, value_seen_from}
 use Rattle.cell_calc_law.specs.HaloParts.{calls, asks_rows, asks_cols}
 use Rattle.cell_parts.specs.Parts.{Rectangle, AreCutOut}

@@ -10,7 +10,7 @@ use Rattle.std.proofs.lemmas.Bool.{cases_lt}
 use Rattle.std.proofs.lemmas.List.{get_or_past}
 use Rattle.cell_core_values.specs.Region.{RegionValue}
 use Rattle.cell_core.specs.Grid.{Grid, CellValue, IsFilled, cell_at}
-use Rattle.cell_calc_binding.specs.Offsets.{item_at, cell_in, cell_at_offset, row_of}
+use Rattle.cell_calc_language.specs.Offsets.{item_at, cell_in, cell_at_offset, row_of}
 use Rattle.cell_stats_combinations.specs.Combinations.{Combination, combination_cmp, combination_at, all_combinations}
 use Rattle.cell_stats_counts.specs.Counts.{count_of}
 use Rattle.cell_calc_law.specs.LocalLaw.{cells_alone, cells_of_shelf}

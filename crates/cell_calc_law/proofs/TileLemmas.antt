@@ -5,10 +5,10 @@ use Rattle.cell_core.specs.Grid.{Grid, CellValue, cell_at}
 use Rattle.cell_core.specs.Shelf.{ShelfValue}
 use Rattle.cell_calc_grammar.specs.declared.function.Function.{Function}
 use Rattle.cell_calc_grammar.specs.declared.function.Function.TheVariants.{Row, Column}
-use Rattle.cell_calc_binding.specs.Applied.{GridPosition, grid_position, negated_cell, inverted_cell, operator_value, call_result}
-use Rattle.cell_calc_binding.proofs.Fit.{fit_number}
-use Rattle.cell_calc_binding.specs.Formula.{Formula, Number, Map, Negated, Not, Binary, Call, Formulas, NoTrees, Then}
-use Rattle.cell_calc_binding.specs.Value.{value, argument_values}
+use Rattle.cell_calc_language.specs.Applied.{GridPosition, grid_position, negated_cell, inverted_cell, operator_value, call_result}
+use Rattle.cell_calc_language.proofs.Fit.{fit_number}
+use Rattle.cell_calc_language.specs.Formula.{Formula, Number, Map, Negated, Not, Binary, Call, Formulas, NoTrees, Then}
+use Rattle.cell_calc_language.specs.Value.{value, argument_values}
 use Rattle.cell_calc_law.specs.HaloParts.{value_seen_from, values_seen_from}
 use Rattle.cell_parts.specs.Parts.{Rectangle}
 use Rattle.cell_calc_law.specs.ReachParts.{reach_of, IsCellInside}

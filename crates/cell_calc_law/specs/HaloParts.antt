@@ -6,12 +6,12 @@ use Rattle.cell_core.specs.Grid.{Grid, CellValue, IsFilled}
 use Rattle.cell_calc_grammar.specs.declared.function.Function.{Function}
 use Rattle.cell_calc_grammar.specs.declared.function.Function.TheVariants.{Row, Column, RowCount, ColumnCount}
 use Rattle.cell_calc_language.specs.Grammatical.{up_by, down_by}
-use Rattle.cell_calc_binding.specs.Applied.{GridPosition, grid_position, negated_cell, inverted_cell, operator_value, call_result}
-use Rattle.cell_calc_binding.specs.Offsets.{cell_in}
+use Rattle.cell_calc_language.specs.Applied.{GridPosition, grid_position, negated_cell, inverted_cell, operator_value, call_result}
+use Rattle.cell_calc_language.specs.Offsets.{cell_in}
 use Rattle.cell_calc_grammar.specs.Tree.{fold_maps, fold_all}
-use Rattle.cell_calc_binding.specs.Formula.{Formula, Number, Map, Negated, Not, Binary, Call, Formulas, NoTrees, Then}
-use Rattle.cell_calc_binding.specs.Reach.{up_of, down_of}
-use Rattle.cell_calc_binding.specs.Value.{value}
+use Rattle.cell_calc_language.specs.Formula.{Formula, Number, Map, Negated, Not, Binary, Call, Formulas, NoTrees, Then}
+use Rattle.cell_calc_language.specs.Reach.{up_of, down_of}
+use Rattle.cell_calc_language.specs.Value.{value}
 use Rattle.cell_parts.specs.Parts.{Rectangle, AreCutOut}
 
 -- the number of columns to the left in an offset, if it is an offset of map i

@@ -7,10 +7,10 @@ use Rattle.cell_core.specs.Grid.{Grid, CellValue, IsFilled}
 use Rattle.cell_core.specs.Shelf.{ShelfValue}
 use Rattle.cell_calc_grammar.specs.declared.function.Function.{Function}
 use Rattle.cell_calc_grammar.specs.declared.function.Function.TheVariants.{If, IsNull, Row, Column, RowCount, ColumnCount}
-use Rattle.cell_calc_binding.specs.Applied.{GridPosition, grid_position}
-use Rattle.cell_calc_binding.specs.Compact.{ReadsMap}
-use Rattle.cell_calc_binding.specs.Formula.{Formula, Number, Map, Negated, Not, Binary, Call, Formulas, NoTrees, Then}
-use Rattle.cell_calc_binding.specs.Value.{value}
+use Rattle.cell_calc_language.specs.Applied.{GridPosition, grid_position}
+use Rattle.cell_calc_language.specs.Compact.{ReadsMap}
+use Rattle.cell_calc_language.specs.Formula.{Formula, Number, Map, Negated, Not, Binary, Call, Formulas, NoTrees, Then}
+use Rattle.cell_calc_language.specs.Value.{value}
 use Rattle.cell_stats_combinations.specs.Combinations.{Combination, combination_at, all_combinations}
 use Rattle.cell_stats_combinations.specs.declared.skip.Skip.TheVariants.{Nothing}
 use Rattle.cell_stats_counts.specs.Counts.{count_of}

@@ -2,8 +2,8 @@
 use Rattle.std.specs.Prelude.{ℕ, ◌≤◌, ◌<◌, ◌+◌, ◌-◌, max, min}
 use Rattle.cell_core_values.specs.Region.{RegionValue}
 use Rattle.cell_calc_language.specs.Grammatical.{up_by, down_by}
-use Rattle.cell_calc_binding.specs.Formula.{Formula, Number, Map, Negated, Not, Binary, Call, Formulas, NoTrees, Then}
-use Rattle.cell_calc_binding.specs.Reach.{up_of, down_of}
+use Rattle.cell_calc_language.specs.Formula.{Formula, Number, Map, Negated, Not, Binary, Call, Formulas, NoTrees, Then}
+use Rattle.cell_calc_language.specs.Reach.{up_of, down_of}
 use Rattle.cell_calc_law.specs.HaloParts.{left_of, right_of}
 use Rattle.cell_parts.specs.Parts.{Rectangle}
 

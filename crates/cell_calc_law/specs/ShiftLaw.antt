@@ -3,7 +3,7 @@
 use Rattle.std.specs.Prelude.{ℕ, ℤ, pos, ◌≡◌, ◌+ℤ◌, ◌<◌, ◌≤◌, ◌⊎◌, List, [], ◌∷◌, length, All, Some, None}
 use Rattle.cell_core.specs.Grid.{Grid, IsFilled, cell_at}
 use Rattle.cell_core.specs.Shelf.{ShelfValue}
-use Rattle.cell_calc_binding.specs.Formula.{Map}
+use Rattle.cell_calc_language.specs.Formula.{Map}
 use Rattle.cell_stats_counts.specs.Counts.{count_of}
 use Rattle.rcell.specs.Making.{AreValues, with_map}
 use Rattle.cell_calc_law.specs.LocalLaw.{cells_alone, cells_of_shelf}

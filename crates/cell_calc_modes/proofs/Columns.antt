@@ -7,8 +7,8 @@ use Rattle.std.proofs.lemmas.List.{length-map, take_all}
 use Rattle.std.proofs.lemmas.List.Sums.{fold_more}
 use Rattle.cell_core.specs.Grid.{CellValue}
 use Rattle.cell_calc_modes.specs.ColumnCells.{at, column}
-use Rattle.cell_calc_binding.specs.CellOperators.{lesser, greater, least, greatest_cell, known_cells, last_argument}
-use Rattle.cell_calc_binding.specs.Joins.{known_lesser, known_greater}
+use Rattle.cell_calc_language.specs.CellOperators.{lesser, greater, least, greatest_cell, known_cells, last_argument}
+use Rattle.cell_calc_language.specs.Joins.{known_lesser, known_greater}
 
 -- a column has one cell per argument
 pub column_length : {V : Type 0} (f : V → List CellValue) (xs : List V) (k : ℕ)

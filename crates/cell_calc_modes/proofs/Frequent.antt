@@ -19,8 +19,8 @@ use Rattle.std.proofs.lemmas.List.Sums.{sum_by_push, sum_by-cons, list_all-from_
 use Rattle.std.proofs.lemmas.List.Sums.{count_by-le-length}
 use Rattle.cell_core_values.specs.Cell.{cell_cmp, cell_eq, cell_eq-Decides}
 use Rattle.cell_core.specs.Grid.{CellValue}
-use Rattle.cell_calc_binding.specs.CellOperators.{lesser, least, known_cells, is_null, occurrences, is_most_frequent}
-use Rattle.cell_calc_binding.specs.CellOperators.{most_frequent, mode}
+use Rattle.cell_calc_language.specs.CellOperators.{lesser, least, known_cells, is_null, occurrences, is_most_frequent}
+use Rattle.cell_calc_language.specs.CellOperators.{most_frequent, mode}
 use Rattle.cell_calc_modes.specs.parts.Modes.{IsLongestRun, HaveLongest, unless_null}
 use Rattle.cell_calc_modes.specs.ColumnCells.{at, column}
 use Rattle.cell_calc_modes.proofs.Columns.{column_item, column_length, whole}

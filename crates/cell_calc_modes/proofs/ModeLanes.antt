@@ -14,7 +14,7 @@ use Rattle.std.proofs.lemmas.Simd.{tops_compared, length-zip2, get_or-zip2, leng
 use Rattle.std.proofs.lemmas.Simd.{get_or-replicate}
 use Rattle.cell_core_values.specs.Cell.{cell_eq}
 use Rattle.cell_core.specs.Grid.{CellValue}
-use Rattle.cell_calc_binding.specs.CellOperators.{is_null, known_cells, occurrences, most_frequent}
+use Rattle.cell_calc_language.specs.CellOperators.{is_null, known_cells, occurrences, most_frequent}
 use Rattle.cell_calc_modes.specs.ColumnCells.{at, column}
 use Rattle.cell_calc_modes.specs.parts.ModeLanes.{key_cell, lane_cells, IsMostOften, HaveMost}
 use Rattle.cell_calc_modes.proofs.Columns.{column_item, column_length, whole}

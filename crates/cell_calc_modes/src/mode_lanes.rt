@@ -2,7 +2,7 @@
 //! with all earlier ones.
 
 ghost use Rattle.std.specs.Prelude.{◌≡◌, ◌≤◌, ◌<◌, ◌+◌, ◌==◌, ℕ, length, slice_index_or, All, OnOk, nat_lt, if◌then◌else◌};
-ghost use Rattle.cell_calc_binding.specs.CellOperators.{most_frequent, known_cells, occurrences};
+ghost use Rattle.cell_calc_language.specs.CellOperators.{most_frequent, known_cells, occurrences};
 ghost use Rattle.cell_calc_modes.specs.ColumnCells.{at, Becomes, AreWide, arguments_at};
 ghost use Rattle.cell_calc_modes.specs.parts.ModeLanes.{key_cell, lane, lane_cells};
 

@@ -4,12 +4,12 @@
 ghost use Rattle.std.specs.Prelude.{◌≡◌, ◌≤◌, ◌<◌, ◌+◌, List, length, take, All, IsPermutation, IsSorted, OnOk, nat_lt, if◌then◌else◌, false};
 ghost use Rattle.cell_core_values.specs.Cell.{cell_cmp, cell_eq};
 ghost use Rattle.cell_core.specs.Grid.{CellValue};
-ghost use Rattle.cell_calc_binding.specs.CellOperators.{most_frequent, mode, known_cells, is_null};
+ghost use Rattle.cell_calc_language.specs.CellOperators.{most_frequent, mode, known_cells, is_null};
 ghost use Rattle.cell_calc_modes.specs.ColumnCells.{at, Becomes, AreWide, arguments_at};
 ghost use Rattle.cell_calc_modes.specs.parts.Modes.{unless_null};
 
 use crate::mode_lanes::{self, BLOCK};
-use cell_calc_binding::cell_operators::is_null;
+use cell_calc_language::cell_operators::is_null;
 use cell_core::cell::Cell;
 use cell_core::memory::Memory;
 use std::alloc::Global;

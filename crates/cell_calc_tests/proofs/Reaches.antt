@@ -1,8 +1,8 @@
 -- Windows that reach as far as an expression reads, with one more window.
 use Rattle.std.proofs.Common.{◌≡◌, ◌<◌, ◌+◌, ℕ, zero, suc, List, [], ◌∷◌, ◌++◌, length, refl, arith, Some, below_more}
 use Rattle.std.specs.Prelude.{slice_get}
-use Rattle.cell_calc_binding.specs.Formula.{Formula}
-use Rattle.cell_calc_binding.specs.Reach.{up_of, down_of}
+use Rattle.cell_calc_language.specs.Formula.{Formula}
+use Rattle.cell_calc_language.specs.Reach.{up_of, down_of}
 use Rattle.cell_calc.specs.Window.{Window, HasReach}
 
 -- an item before the appended items keeps its index

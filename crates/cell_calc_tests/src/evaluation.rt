@@ -1,7 +1,7 @@
 //! Evaluates expressions along a row for tests, and checks the row if memory runs out.
 
 ghost use Rattle.std.specs.Prelude.{◌≡◌, ◌<◌, ◌≤◌, ℕ, length, slice_get, IfOk};
-ghost use Rattle.cell_calc_binding.specs.Reach.{top_of, up_of, down_of};
+ghost use Rattle.cell_calc_language.specs.Reach.{top_of, up_of, down_of};
 ghost use Rattle.cell_calc.specs.Window.{HasReach};
 
 use cell_calc::Bound;

@@ -1,7 +1,7 @@
 -- A command leaves only one shelf and writes only one output; outputs of consecutive parts join.
 use Rattle.std.proofs.Common.{◌≡◌, ℕ, [], ◌∷◌, ◌++◌, List, Option, Some, None, refl, ap, sym, ◌∙◌, arith, subst, append_assoc}
 use Rattle.std.specs.Prelude.{slice_get}
-use Rattle.cell_calc_binding.specs.Formula.{Formula}
+use Rattle.cell_calc_language.specs.Formula.{Formula}
 use Rattle.cell_cats_areas.proofs.LawLemmas.{same_grid, same_rows}
 use Rattle.cell_cats_areas.specs.ClumpLaw.{ClumpingIsOne}
 use Rattle.cell_cats_areas.specs.declared.clump.Joining.{Joining}

@@ -7,8 +7,8 @@ use Rattle.std.proofs.Math.ListN.{set}
 use Rattle.std.specs.Prelude.{slice_get, slice_index_or, All}
 use Rattle.cell_core.specs.Grid.{Grid, CellValue}
 use Rattle.cell_calc.specs.Window.{IsOver, HasReach}
-use Rattle.cell_calc_binding.specs.Formula.{Formula}
-use Rattle.cell_calc_binding.specs.Reach.{up_of, down_of}
+use Rattle.cell_calc_language.specs.Formula.{Formula}
+use Rattle.cell_calc_language.specs.Reach.{up_of, down_of}
 use Rattle.cell_calc.specs.Window.{Window, IsWindowOf}
 use Rattle.rcell.specs.parts.WindowsSet.{IsSet, AreSet, then_maps, picked_maps}
 

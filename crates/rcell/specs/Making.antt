@@ -1,8 +1,8 @@
 -- The maps that r.mapcalc, r.reclass and r.clump make (their manuals); each is added at the end of the shelf (profile).
 use Rattle.std.specs.Prelude.{ℕ, ◌≡◌, ◌<◌, List, [], ◌∷◌, ◌++◌, Option, Some, None, slice_get}
-use Rattle.cell_calc_binding.specs.Formula.{Formula}
-use Rattle.cell_calc_binding.specs.Applied.{grid_position}
-use Rattle.cell_calc_binding.specs.Value.{value}
+use Rattle.cell_calc_language.specs.Formula.{Formula}
+use Rattle.cell_calc_language.specs.Applied.{grid_position}
+use Rattle.cell_calc_language.specs.Value.{value}
 use Rattle.cell_cats.specs.Reclass.{reclassed_map}
 use Rattle.cell_cats.specs.Rule.{RuleValue}
 use Rattle.cell_cats_areas.specs.Areas.{IsClumping}

@@ -1,14 +1,14 @@
 //! Executes the statements that make a map, and adds the map to the shelf.
 
 ghost use Rattle.std.specs.Prelude.{◌≡◌, ◌≤◌, ◌<◌, None, length, OnOk, OnErr};
-ghost use Rattle.cell_calc_binding.specs.Reach.{top_of};
+ghost use Rattle.cell_calc_language.specs.Reach.{top_of};
 ghost use Rattle.cell_core_values.specs.Name.{place_of};
 ghost use Rattle.rcell_script.specs.FittingCommands.{FitsCommand};
 ghost use Rattle.rcell.specs.After.{IsShelfAfter};
 ghost use Rattle.rcell.specs.Making.{IsWithValues, IsWithClasses, IsWithNumbers, with_map};
 
 use crate::map_of_values::evaluate;
-use cell_calc_binding::bound::Bound;
+use cell_calc_language::bound::Bound;
 use cell_cats::reclassing::reclass;
 use cell_cats::rules::Rules;
 use cell_cats_areas::clump::{Joining, clump_with};

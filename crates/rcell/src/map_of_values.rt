@@ -2,15 +2,15 @@
 
 ghost use Rattle.std.specs.Prelude.{◌≡◌, ◌<◌, ◌≤◌, ◌+◌, length, slice_get, Some, IfOk};
 ghost use Rattle.cell_core_values.specs.Region.{RegionValue};
-ghost use Rattle.cell_calc_binding.specs.Reach.{top_of};
+ghost use Rattle.cell_calc_language.specs.Reach.{top_of};
 ghost use Rattle.rcell.specs.Making.{AreValues};
 ghost use Rattle.rcell.specs.parts.WindowsSet.{AreMapPlaces, AreOfRegion, AreSet, picked_maps};
 ghost use Rattle.cell_calc_categories.specs.MapValues.{HasValues};
 
 use cell_calc::rows_of_values::eval_row;
 use cell_calc::window::RowWindow;
-use cell_calc_binding::bound::Bound;
 use cell_calc_categories::map_by_category::map_by_category;
+use cell_calc_language::bound::Bound;
 use cell_core::cell::Cell;
 use cell_core::map::{CellMap, MapBuilder};
 use cell_core::memory::Memory;

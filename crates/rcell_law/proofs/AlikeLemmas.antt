@@ -9,9 +9,9 @@ use Rattle.std.proofs.lemmas.Option.{slice_get-map, same_Some}
 use Rattle.cell_core_values.specs.Region.{RegionValue}
 use Rattle.cell_core.specs.Grid.{Grid, CellValue, cell_at, no_labels}
 use Rattle.cell_core.specs.Shelf.{ShelfValue}
-use Rattle.cell_calc_binding.specs.Formula.{Formula}
-use Rattle.cell_calc_binding.specs.Value.{value}
-use Rattle.cell_calc_binding.specs.Applied.{GridPosition, grid_position}
+use Rattle.cell_calc_language.specs.Formula.{Formula}
+use Rattle.cell_calc_language.specs.Value.{value}
+use Rattle.cell_calc_language.specs.Applied.{GridPosition, grid_position}
 use Rattle.cell_ascii_meaning.specs.Writing.{grid_text}
 use Rattle.cell_ascii_law.specs.WrittenLaw.{without_labels}
 use Rattle.cell_cats.specs.Rule.{RuleValue}

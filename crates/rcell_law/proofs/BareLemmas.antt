@@ -7,11 +7,11 @@ use Rattle.std.specs.List.{zip, range_with_len}
 use Rattle.std.proofs.lemmas.Option.{slice_get-map}
 use Rattle.cell_core.specs.Grid.{Grid, CellValue, cell_at}
 use Rattle.cell_core.specs.Text.{cell_text}
-use Rattle.cell_calc_binding.specs.Applied.{GridPosition, negated_cell, inverted_cell, operator_value, call_result}
-use Rattle.cell_calc_binding.specs.Offsets.{cell_in}
-use Rattle.cell_calc_binding.specs.Formula.{Formula, Number, Map, Negated, Not, Binary, Call, Formulas, NoTrees}
-use Rattle.cell_calc_binding.specs.Formula.{Then}
-use Rattle.cell_calc_binding.specs.Value.{value, argument_values}
+use Rattle.cell_calc_language.specs.Applied.{GridPosition, negated_cell, inverted_cell, operator_value, call_result}
+use Rattle.cell_calc_language.specs.Offsets.{cell_in}
+use Rattle.cell_calc_language.specs.Formula.{Formula, Number, Map, Negated, Not, Binary, Call, Formulas, NoTrees}
+use Rattle.cell_calc_language.specs.Formula.{Then}
+use Rattle.cell_calc_language.specs.Value.{value, argument_values}
 use Rattle.cell_ascii_meaning.specs.Writing.{grid_text}
 use Rattle.cell_ascii_law.specs.WrittenLaw.{without_labels}
 use Rattle.cell_stats_combinations.specs.Combinations.{Combination, cell_of_map, all_combinations}

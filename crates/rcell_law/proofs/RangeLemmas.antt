@@ -14,17 +14,17 @@ use Rattle.cell_calc_grammar.specs.declared.function.Function.{Function}
 use Rattle.cell_calc_grammar.specs.declared.function.Function.TheVariants as function
 use Rattle.cell_calc_grammar.specs.declared.operator.Operator.{Operator}
 use Rattle.cell_calc_grammar.specs.declared.operator.Operator.TheVariants as operator
-use Rattle.cell_calc_binding.specs.Applied.{GridPosition, operator_value, call_result}
-use Rattle.cell_calc_binding.specs.CellOperators.{fit, is_zero, is_null, truth, of_one, of_both}
+use Rattle.cell_calc_language.specs.Applied.{GridPosition, operator_value, call_result}
+use Rattle.cell_calc_language.specs.CellOperators.{fit, is_zero, is_null, truth, of_one, of_both}
 use Rattle.cell_core_values.specs.Cell.{is_category}
-use Rattle.cell_calc_binding.specs.CellOperators.{is_false, is_true, chosen_cell, lesser, greater, least}
-use Rattle.cell_calc_binding.specs.CellOperators.{greatest_cell}
-use Rattle.cell_calc_binding.specs.CellOperators.{known_cells, most_frequent}
-use Rattle.cell_calc_binding.specs.CellOperators.{is_most_frequent, first_known, if_of}
-use Rattle.cell_calc_binding.specs.Offsets.{item_at, cell_in}
-use Rattle.cell_calc_binding.specs.Formula.{Formula, Number, Map, Negated, Not, Binary, Call, Formulas, NoTrees}
-use Rattle.cell_calc_binding.specs.Formula.{Then}
-use Rattle.cell_calc_binding.specs.Value.{value, argument_values}
+use Rattle.cell_calc_language.specs.CellOperators.{is_false, is_true, chosen_cell, lesser, greater, least}
+use Rattle.cell_calc_language.specs.CellOperators.{greatest_cell}
+use Rattle.cell_calc_language.specs.CellOperators.{known_cells, most_frequent}
+use Rattle.cell_calc_language.specs.CellOperators.{is_most_frequent, first_known, if_of}
+use Rattle.cell_calc_language.specs.Offsets.{item_at, cell_in}
+use Rattle.cell_calc_language.specs.Formula.{Formula, Number, Map, Negated, Not, Binary, Call, Formulas, NoTrees}
+use Rattle.cell_calc_language.specs.Formula.{Then}
+use Rattle.cell_calc_language.specs.Value.{value, argument_values}
 use Rattle.rcell_law.proofs.DenotedLemmas.{AllInRange, InRange, number-in}
 
 -- ---- operators

@@ -15,8 +15,8 @@ use Rattle.cell_core.specs.Grid.{Grid, CellValue, IsFilled}
 use Rattle.cell_core.specs.Shelf.{ShelfValue}
 use Rattle.cell_ascii_meaning.specs.GridText.{Denotes}
 use Rattle.cell_ascii_law.specs.WrittenLaw.{IsWritable}
-use Rattle.cell_calc_binding.specs.Applied.{grid_position}
-use Rattle.cell_calc_binding.specs.Formula.{Formula}
+use Rattle.cell_calc_language.specs.Applied.{grid_position}
+use Rattle.cell_calc_language.specs.Formula.{Formula}
 use Rattle.cell_cats.specs.Rule.{RuleValue, last_such, last_output, outcome, new_category, lists, is_star_rule}
 use Rattle.cell_cats.specs.RuleLine.{SpellsOutput, output_word, SpellsRule}
 use Rattle.cell_cats.specs.Reclass.{reclassed_map, new_row}
@@ -27,7 +27,7 @@ use Rattle.cell_cats_areas.specs.Areas.{Position, cell_at_position, IsEarlierCel
 use Rattle.cell_cats_areas.specs.parts.CellPlaces.{position, cell_place, IsInside}
 use Rattle.cell_cats_areas.proofs.MeetingLemmas.{some_of}
 use Rattle.cell_cats_areas.proofs.StartLemmas.{inside_map, place_lt, place_inside}
-use Rattle.cell_calc_binding.specs.Binding.{place_in, with_places}
+use Rattle.cell_calc_language.specs.Binding.{place_in, with_places}
 use Rattle.cell_calc_grammar.specs.Tree.{with_leaves_all}
 use Rattle.cell_calc_grammar.specs.Tree as term
 use Rattle.cell_calc_grammar.specs.Term.{Term, Terms}

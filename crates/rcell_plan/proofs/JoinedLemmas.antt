@@ -6,7 +6,7 @@ use Rattle.std.proofs.Math.IntN.{sub_ℕ, +ℤ_assoc}
 use Rattle.std.proofs.lemmas.List.Elements.{All-nil, All-cons, All-head, All-tail}
 use Rattle.cell_core.specs.Grid.{Grid}
 use Rattle.cell_calc_language.specs.Grammatical.{up_by, down_by}
-use Rattle.cell_calc_binding.specs.Offsets.{cell_in}
+use Rattle.cell_calc_language.specs.Offsets.{cell_in}
 use Rattle.rcell_plan.specs.declared.needs.Margin.{Margin}
 use Rattle.rcell_plan.specs.declared.needs.Need.{Need}
 use Rattle.rcell_plan.specs.Needs.{margin_of_both, added, joined, with_need, with_needs}

@@ -11,10 +11,10 @@ use Rattle.std.proofs.lemmas.Option.{same_Some, slice_get_past, slice_get-get_or
 use Rattle.cell_core_values.specs.Region.{RegionValue}
 use Rattle.cell_core.specs.Grid.{Grid, CellValue, IsFilled, cell_at}
 use Rattle.cell_core.specs.Shelf.{ShelfValue}
-use Rattle.cell_calc_binding.specs.Applied.{grid_position}
-use Rattle.cell_calc_binding.specs.Offsets.{item_at, row_of, cell_in, cell_at_offset}
-use Rattle.cell_calc_binding.specs.Formula.{Formula}
-use Rattle.cell_calc_binding.specs.Value.{value}
+use Rattle.cell_calc_language.specs.Applied.{grid_position}
+use Rattle.cell_calc_language.specs.Offsets.{item_at, row_of, cell_in, cell_at_offset}
+use Rattle.cell_calc_language.specs.Formula.{Formula}
+use Rattle.cell_calc_language.specs.Value.{value}
 use Rattle.cell_calc_law.proofs.MapLemmas.{one-map-of-values}
 use Rattle.cell_cats.specs.Rule.{RuleValue, new_category}
 use Rattle.cell_cats.specs.Reclass.{reclassed_map, new_row}

@@ -6,16 +6,16 @@ use Rattle.std.proofs.lemmas.List.Elements.{All-nil, All-cons, All-head, All-tai
 use Rattle.cell_core.specs.Grid.{Grid, CellValue}
 use Rattle.cell_calc_grammar.specs.declared.function.Function.{Function}
 use Rattle.cell_calc_grammar.specs.declared.function.Function.TheVariants as function
-use Rattle.cell_calc_binding.specs.Applied.{GridPosition, negated_cell, inverted_cell, operator_value, call_result}
+use Rattle.cell_calc_language.specs.Applied.{GridPosition, negated_cell, inverted_cell, operator_value, call_result}
 use Rattle.cell_calc_grammar.specs.Tree.{fold_maps}
 use Rattle.cell_calc_grammar.specs.declared.step.Step.{Step}
 use Rattle.cell_calc_grammar.specs.declared.step.Step.TheVariants as step
 use Rattle.cell_calc_grammar.specs.Postfix.{postfix, at_step, fold_steps}
 use Rattle.cell_calc_grammar.proofs.PostfixLemmas.{fold-postfix}
-use Rattle.cell_calc_binding.proofs.Steps.{greatest}
-use Rattle.cell_calc_binding.specs.Formula.{Formula, Number, Map, Negated, Not, Binary, Call, Formulas, NoTrees, Then}
-use Rattle.cell_calc_binding.specs.Reach.{up_at, down_at}
-use Rattle.cell_calc_binding.specs.Value.{value, argument_values}
+use Rattle.cell_calc_language.proofs.FormulaSteps.{greatest}
+use Rattle.cell_calc_language.specs.Formula.{Formula, Number, Map, Negated, Not, Binary, Call, Formulas, NoTrees, Then}
+use Rattle.cell_calc_language.specs.Reach.{up_at, down_at}
+use Rattle.cell_calc_language.specs.Value.{value, argument_values}
 use Rattle.cell_calc_law.specs.HaloParts.{left_at, right_at, calls, call_any, value_seen_from, values_seen_from}
 use Rattle.cell_calc_law.specs.LocalLaw.{asks_where}
 use Rattle.rcell_script.specs.declared.command.Command.{Command}

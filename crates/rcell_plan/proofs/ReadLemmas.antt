@@ -3,14 +3,14 @@ use Rattle.std.proofs.Common.{◌≡◌, ℕ, ℤ, pos, ◌+ℤ◌, List, [], �
 use Rattle.std.specs.Prelude.{All, slice_get, flat_map}
 use Rattle.std.proofs.lemmas.List.Elements.{All-nil, All-cons, All-head, All-weaker}
 use Rattle.cell_core.specs.Grid.{Grid, CellValue}
-use Rattle.cell_calc_binding.specs.Applied.{GridPosition, negated_cell, inverted_cell, operator_value, call_result}
-use Rattle.cell_calc_binding.specs.Offsets.{cell_in}
+use Rattle.cell_calc_language.specs.Applied.{GridPosition, negated_cell, inverted_cell, operator_value, call_result}
+use Rattle.cell_calc_language.specs.Offsets.{cell_in}
 use Rattle.cell_calc_grammar.specs.declared.step.Step.{Step}
 use Rattle.cell_calc_grammar.specs.declared.step.Step.TheVariants as step
 use Rattle.cell_calc_grammar.specs.Postfix.{postfix, postfix_all}
-use Rattle.cell_calc_binding.specs.Formula.{Formula, Number, Map, Negated, Not, Binary, Call, Formulas, NoTrees, Then}
-use Rattle.cell_calc_binding.specs.Formula.{count}
-use Rattle.cell_calc_binding.specs.Value.{value, argument_values}
+use Rattle.cell_calc_language.specs.Formula.{Formula, Number, Map, Negated, Not, Binary, Call, Formulas, NoTrees, Then}
+use Rattle.cell_calc_language.specs.Formula.{count}
+use Rattle.cell_calc_language.specs.Value.{value, argument_values}
 use Rattle.rcell_plan.specs.declared.needs.Need.{Need}
 use Rattle.rcell_plan.specs.Needs.{margin_of, moved, with_needs}
 use Rattle.rcell_plan.specs.Plans.{step_reads, needs_at, needs_of_read, needs_of_reads}

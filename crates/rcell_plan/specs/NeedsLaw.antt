@@ -4,7 +4,7 @@ use Rattle.cell_core_values.specs.Region.{RegionValue}
 use Rattle.cell_core.specs.Grid.{Grid, IsFilled}
 use Rattle.cell_core.specs.Shelf.{ShelfValue}
 use Rattle.cell_calc_language.specs.Grammatical.{up_by, down_by}
-use Rattle.cell_calc_binding.specs.Offsets.{cell_in}
+use Rattle.cell_calc_language.specs.Offsets.{cell_in}
 use Rattle.rcell_script.specs.declared.statement.Statement.{Statement}
 use Rattle.rcell.specs.After.{IsShelfAfter}
 use Rattle.rcell_plan.specs.declared.needs.Margin.{Margin}

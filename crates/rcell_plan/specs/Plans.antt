@@ -1,7 +1,7 @@
 -- What statements read, and how far they depend on the given maps, directly or through maps made earlier (profile).
 use Rattle.std.specs.Prelude.{ℕ, zero, suc, ◌+◌, Bool, true, false, List, [], ◌∷◌, ◌++◌, map, flat_map, length}
 use Rattle.std.specs.Prelude.{slice_get, unwrap_or, Option, Some, None, if◌then◌else◌}
-use Rattle.cell_calc_binding.specs.Formula.{Formula}
+use Rattle.cell_calc_language.specs.Formula.{Formula}
 use Rattle.cell_calc_grammar.specs.declared.step.Step.{Step}
 use Rattle.cell_calc_grammar.specs.declared.step.Step.TheVariants as step
 use Rattle.cell_calc_grammar.specs.Postfix.{postfix}

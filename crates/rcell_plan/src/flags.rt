@@ -6,9 +6,9 @@ ghost use Rattle.rcell_plan.specs.Plans.{position_flag, command_flags, command_c
 ghost use Rattle.rcell_plan.specs.parts.PositionSteps.{step_asks};
 ghost use Rattle.cell_calc_law.specs.LocalLaw.{asks_where};
 
-use cell_calc_binding::bound::Bound;
 use cell_calc_grammar::function::Function;
 use cell_calc_grammar::step::Step;
+use cell_calc_language::bound::Bound;
 use rcell_script::statement::Command;
 
 fn asks_where(function: Function) -> bool

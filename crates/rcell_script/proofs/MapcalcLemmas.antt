@@ -2,9 +2,9 @@
 use Rattle.std.proofs.Common.{◌≡◌, ◌≢◌, ℕ, ◌+◌, ◌≤◌, List, length, Option, Some, None, Result, Err, inl, inr, refl, ap, sym, subst, arith}
 use Rattle.std.specs.Option.{unwrap_or}
 use Rattle.cell_core_values.specs.Name.{place_of}
-use Rattle.cell_calc_binding.specs.Binding.{place_in, with_places, IsBindingFault}
-use Rattle.cell_calc_binding.specs.Formula.{Formula}
-use Rattle.cell_calc_binding.specs.Reach.{top_of, top_of_all}
+use Rattle.cell_calc_language.specs.Binding.{place_in, with_places, IsBindingFault}
+use Rattle.cell_calc_language.specs.Formula.{Formula}
+use Rattle.cell_calc_language.specs.Reach.{top_of, top_of_all}
 use Rattle.cell_calc_grammar.specs.Tree.{fold_all, with_leaves_all}
 use Rattle.cell_calc_grammar.specs.Term.{Term, Number, Map, Negated, Not, Binary, Call, Terms, NoTrees, Then}
 use Rattle.cell_calc_language.specs.Unknown.{first_column, unplaced_column, unknown_at, first_unknown}

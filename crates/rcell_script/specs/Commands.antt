@@ -1,7 +1,7 @@
 -- The meaning of a line: skipped, a command, the start of an r.reclass, or an error (order of errors: profile).
 use Rattle.std.specs.Prelude.{ℕ, ◌≡◌, ◌≢◌, ◌⊎◌, List, Option, Some, None, Result, Ok, Err, length, if◌then◌else◌, unwrap_or, Bool, true, false, [], ◌∷◌, nat_lt, bytes_eq, codes}
 use Rattle.cell_ascii_meaning.specs.GridWords.{usual_null}
-use Rattle.cell_calc_binding.specs.Binding.{with_places}
+use Rattle.cell_calc_language.specs.Binding.{with_places}
 use Rattle.cell_core_values.specs.Letters.{byte}
 use Rattle.cell_core_values.specs.Name.{place_of}
 use Rattle.cell_calc_language.specs.Assignment.{IsAssignmentText}

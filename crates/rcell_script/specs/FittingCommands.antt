@@ -1,6 +1,6 @@
 -- Commands that fit the maps known before them.
 use Rattle.std.specs.Prelude.{ℕ, ◌≡◌, ◌≤◌, ◌<◌, List, length, All, IfSome, None}
-use Rattle.cell_calc_binding.specs.Reach.{top_of}
+use Rattle.cell_calc_language.specs.Reach.{top_of}
 use Rattle.cell_core_values.specs.Name.{place_of}
 use Rattle.rcell_script.specs.declared.command.Command.{Command}
 use Rattle.rcell_script.specs.declared.command.Command.TheVariants.{Mapcalc, Reclass, Clump, Stats, OutAscii}

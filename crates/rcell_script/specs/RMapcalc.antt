@@ -1,7 +1,7 @@
 -- r.mapcalc: the assignment in a line (r.mapcalc manual).
 use Rattle.std.specs.Prelude.{ℕ, ◌-◌, List, [], ◌∷◌, ◌++◌, length, replicate, if◌then◌else◌, ◌≡◌, None, codes}
-use Rattle.cell_calc_binding.specs.Binding.{with_places}
-use Rattle.cell_calc_binding.specs.Formula.{Formula}
+use Rattle.cell_calc_language.specs.Binding.{with_places}
+use Rattle.cell_calc_language.specs.Formula.{Formula}
 use Rattle.cell_core_values.specs.Letters.{byte}
 use Rattle.cell_core_values.specs.Name.{place_of}
 use Rattle.cell_calc_language.specs.Assignment.{IsAssignmentText}

@@ -2,7 +2,7 @@
 
 pub use crate::maps::Places;
 use crate::null_text::{NullText, TableNullText};
-use cell_calc_binding::bound::Bound;
+use cell_calc_language::bound::Bound;
 use cell_cats::rules::Rules;
 use cell_cats_areas::clump::Joining;
 use cell_core::name::Name;

@@ -23,7 +23,7 @@ pub struct Script {
 impl Model for Script {
     ghost use Rattle.std.specs.Prelude.{List};
     ghost use Rattle.std.specs.Coded.{codes};
-    ghost use Rattle.cell_calc_binding.specs.contracts.bound.Bound as bound;
+    ghost use Rattle.cell_calc_language.specs.contracts.bound.Bound as bound;
     ghost use Rattle.rcell_script.specs.declared.statement.Statement.{Statement};
 
     ghost Value = { List Statement };

@@ -2,8 +2,8 @@
 use Rattle.std.specs.Prelude.{◌≡◌, ◌≤◌, ◌<◌, ◌+◌, ◌-◌, ◌+ℤ◌, ℕ, pos, All, List, [], ◌∷◌, Vec, Some, None, length, take, drop, map, slice_get, slice_index_or}
 use Rattle.std.specs.Global.{Global}
 use Rattle.cell_core.specs.Grid.{CellValue}
-use Rattle.cell_calc_binding.specs.Applied.{GridPosition, grid_position, operator_value, call_result, negated_cell, inverted_cell}
-use Rattle.cell_calc_binding.specs.Offsets.{item_at}
+use Rattle.cell_calc_language.specs.Applied.{GridPosition, grid_position, operator_value, call_result, negated_cell, inverted_cell}
+use Rattle.cell_calc_language.specs.Offsets.{item_at}
 use Rattle.cell_calc.specs.Window.{Window}
 use Rattle.cell_calc_grammar.specs.Postfix.{arity, values_after}
 use Rattle.cell_calc_grammar.specs.declared.step.Step.{Step}

@@ -2,7 +2,7 @@
 use Rattle.std.specs.Prelude.{◌≡◌, ◌≤◌, ◌<◌, ◌-ℤ◌, ◌<ℤ◌, ◌==◌, ℕ, ℤ, pos, List, [], Some, None, map, slice_index_or}
 use Rattle.std.specs.Prelude.{if◌then◌else◌}
 use Rattle.cell_core.specs.Grid.{CellValue}
-use Rattle.cell_calc_binding.specs.CellOperators.{occurrences}
+use Rattle.cell_calc_language.specs.CellOperators.{occurrences}
 
 -- the cell that a number stands for: null for 0, otherwise categories in ascending order
 abbrev pub key_cell : ℕ → CellValue

@@ -1,7 +1,7 @@
 -- How the most frequent category is found among sorted categories, and the effect of null.
 use Rattle.std.specs.Prelude.{◌≡◌, ◌<◌, ◌≤◌, ◌<ℤ◌, ℕ, ℤ, List, Some, None, if◌then◌else◌}
 use Rattle.cell_core.specs.Grid.{CellValue}
-use Rattle.cell_calc_binding.specs.CellOperators.{occurrences, is_null}
+use Rattle.cell_calc_language.specs.CellOperators.{occurrences, is_null}
 
 -- `best` is the smallest of the most frequent categories and `most` its count; `last` is the last category and `run`
 -- its count

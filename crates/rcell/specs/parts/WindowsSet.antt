@@ -2,8 +2,8 @@
 use Rattle.std.specs.Prelude.{◌≡◌, ◌<◌, ℕ, List, [], ◌∷◌, length, All, Option, Some, None, slice_get}
 use Rattle.cell_core.specs.Grid.{Grid}
 use Rattle.cell_core_values.specs.Region.{RegionValue}
-use Rattle.cell_calc_binding.specs.Formula.{Formula}
-use Rattle.cell_calc_binding.specs.Reach.{up_of, down_of}
+use Rattle.cell_calc_language.specs.Formula.{Formula}
+use Rattle.cell_calc_language.specs.Reach.{up_of, down_of}
 use Rattle.cell_calc.specs.Window.{Window, IsWindowOf}
 
 -- there is a map at each place

@@ -1,7 +1,7 @@
 use Rattle.std.proofs.Common.{◌≡◌, ◌<◌, ◌≤◌, ◌+◌, length, map, sym, ap, ◌∙◌, subst, rules}
 use Rattle.std.proofs.lemmas.List.Elements.{All-same}
 use Rattle.std.proofs.lemmas.Result.{IfOk-from_err}
-use Rattle.cell_calc_binding.specs.Applied.{call_result}
+use Rattle.cell_calc_language.specs.Applied.{call_result}
 use Rattle.cell_calc.specs.RowValues.{column}
 use Rattle.cell_calc.specs.parts.Operands.{position_at}
 use Rattle.cell_calc.proofs.Written.{at_written, changed_width}

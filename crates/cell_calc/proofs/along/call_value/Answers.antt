@@ -1,7 +1,7 @@
 use Rattle.std.proofs.Common.{rules, arith, ◌≡◌, ℕ, ◌∷◌, [], length, refl, Some, pos}
 use Rattle.std.proofs.lemmas.Result.{IfOk-from_err}
-use Rattle.cell_calc_binding.specs.Applied.{size_of}
-use Rattle.cell_calc_binding.specs.CellOperators.{chosen_cell, truth, is_null}
+use Rattle.cell_calc_language.specs.Applied.{size_of}
+use Rattle.cell_calc_language.specs.CellOperators.{chosen_cell, truth, is_null}
 use Rattle.cell_calc.specs.declared.strip.Operand.{Operand}
 use Rattle.cell_calc.specs.parts.Operands.{IsOperandReady, HasCells, IsCalled, operand_at}
 use Rattle.cell_calc.proofs.Operands.{front_is, back_is, more_before, of_last, of_front, three_last, if_ok}

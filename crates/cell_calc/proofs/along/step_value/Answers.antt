@@ -1,7 +1,7 @@
 use Rattle.std.proofs.Common.{rules, arith, ◌≡◌, ◌∷◌, [], length, refl, w32, FitsSigned}
 use Rattle.std.proofs.lemmas.Int.{to_z-of_z}
 use Rattle.std.proofs.lemmas.Result.{IfOk-from_err}
-use Rattle.cell_calc_binding.specs.Applied.{negated_cell, inverted_cell}
+use Rattle.cell_calc_language.specs.Applied.{negated_cell, inverted_cell}
 use Rattle.cell_calc.specs.parts.Operands.{IsOperandReady, operand_at}
 use Rattle.cell_calc.proofs.Operands.{front_is, back_is, none_taken, more_before, of_last, of_front, two_last}
 use Rattle.cell_calc.proofs.Written.{changed_width, changed}

@@ -1,7 +1,7 @@
 use Rattle.std.proofs.Common.{ap, ◌∙◌, [], ◌∷◌, arith}
 use Rattle.std.proofs.lemmas.List.Elements.{All-same}
 use Rattle.cell_calc.specs.RowValues.{at}
-use Rattle.cell_calc_binding.specs.Applied.{grid_position}
+use Rattle.cell_calc_language.specs.Applied.{grid_position}
 use Rattle.cell_calc_grammar.specs.Postfix.{postfix, values_after}
 use Rattle.cell_calc_grammar.proofs.PostfixLemmas.{enough_steps}
 use Rattle.cell_calc.specs.ByCategory.{of_cell, value_of_cell}

@@ -1,6 +1,6 @@
 use Rattle.std.proofs.Common.{◌≡◌, ◌<◌, ◌≤◌, ◌+◌, ℕ, List, [], ◌∷◌, length, map, get_or, sym, ap, ◌∙◌, arith, Some, pos}
 use Rattle.cell_core.specs.Grid.{CellValue}
-use Rattle.cell_calc_binding.specs.CellOperators.{chosen_cell, if_of}
+use Rattle.cell_calc_language.specs.CellOperators.{chosen_cell, if_of}
 use Rattle.cell_calc.specs.RowValues.{at, column}
 use Rattle.cell_calc_modes.proofs.Columns.{item_width}
 use Rattle.cell_calc.proofs.calls.choose_call.Goals as goal

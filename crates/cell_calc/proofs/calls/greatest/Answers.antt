@@ -1,5 +1,5 @@
 use Rattle.std.proofs.Common.{sym, ap, ◌∙◌, map}
-use Rattle.cell_calc_binding.specs.CellOperators.{greater, greatest_cell}
+use Rattle.cell_calc_language.specs.CellOperators.{greater, greatest_cell}
 use Rattle.cell_calc.specs.RowValues.{column}
 use Rattle.cell_calc_modes.proofs.Columns.{item_width, other_width, no_items, fold_step, greatest_all}
 use Rattle.cell_calc.proofs.Places.{within_same}

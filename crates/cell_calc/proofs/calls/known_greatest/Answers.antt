@@ -1,6 +1,6 @@
 use Rattle.std.proofs.Common.{arith, ◌∙◌, None, map}
 use Rattle.cell_calc.specs.RowValues.{column}
-use Rattle.cell_calc_binding.specs.Joins.{known_greater}
+use Rattle.cell_calc_language.specs.Joins.{known_greater}
 use Rattle.cell_calc_modes.proofs.Columns.{fold_step, fold_all, known_greatest_is}
 use Rattle.cell_calc.proofs.calls.known_greatest.Goals as goal
 

@@ -1,7 +1,7 @@
 use Rattle.std.proofs.Common.{rules, ◌<◌, ◌≡◌, ◌+◌, ◌+ℤ◌, ℕ, pos, ap, ◌∙◌, None, w32, FitsSigned}
 use Rattle.std.proofs.lemmas.Int.{to_z-of_z}
-use Rattle.cell_calc_binding.specs.Applied.{operator_value}
-use Rattle.cell_calc_binding.specs.Offsets.{item_at}
+use Rattle.cell_calc_language.specs.Applied.{operator_value}
+use Rattle.cell_calc_language.specs.Offsets.{item_at}
 use Rattle.cell_calc.specs.RowValues.{at}
 use Rattle.cell_calc.proofs.operand.apply_to_operands.Goals as goal
 

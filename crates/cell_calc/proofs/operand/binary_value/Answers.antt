@@ -1,6 +1,6 @@
 use Rattle.std.proofs.Common.{◌≡◌, length, ap, ◌∙◌, rules}
 use Rattle.std.proofs.lemmas.Result.{IfOk-from_err}
-use Rattle.cell_calc_binding.specs.Applied.{operator_value}
+use Rattle.cell_calc_language.specs.Applied.{operator_value}
 use Rattle.cell_calc.specs.RowValues.{at}
 use Rattle.cell_calc.specs.parts.Operands.{operand_at}
 use Rattle.cell_calc.proofs.Rings.{written}

@@ -1,8 +1,8 @@
 use Rattle.std.proofs.Common.{rules, ◌<◌, ◌≡◌, ◌+◌, ◌+ℤ◌, ℕ, pos, sym, ap, ◌∙◌, None, w32, FitsSigned}
 use Rattle.std.proofs.lemmas.Int.{to_z-of_z}
 use Rattle.std.proofs.lemmas.Result.{IfOk-from_err}
-use Rattle.cell_calc_binding.specs.CellOperators.{chosen_cell}
-use Rattle.cell_calc_binding.specs.Offsets.{item_at}
+use Rattle.cell_calc_language.specs.CellOperators.{chosen_cell}
+use Rattle.cell_calc_language.specs.Offsets.{item_at}
 use Rattle.cell_calc.specs.RowValues.{at}
 use Rattle.cell_calc.proofs.Operands.{on_ok}
 use Rattle.cell_calc.proofs.operand.choose_operands.Goals as goal

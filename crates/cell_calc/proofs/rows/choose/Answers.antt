@@ -1,5 +1,5 @@
 use Rattle.std.proofs.Common.{◌≡◌, ◌∙◌, ap, length}
-use Rattle.cell_calc_binding.specs.CellOperators.{chosen_cell}
+use Rattle.cell_calc_language.specs.CellOperators.{chosen_cell}
 use Rattle.cell_calc.specs.RowValues.{at}
 use Rattle.cell_calc.proofs.Places.{within_same, before_end, read, read_old, one_more, others_stay}
 use Rattle.cell_calc.proofs.rows.choose.Goals as goal

@@ -1,6 +1,6 @@
 use Rattle.std.proofs.Common.{◌≡◌, ◌<◌, ◌≤◌, ℕ}
 use Rattle.cell_calc.specs.RowValues.{at}
-use Rattle.cell_calc_binding.specs.CellOperators.{chosen_cell}
+use Rattle.cell_calc_language.specs.CellOperators.{chosen_cell}
 use Rattle.cell_calc.proofs.rows.choose_one.Given as goal
 
 abbrev pub invariant-loop-i : goal.invariant-loop-i

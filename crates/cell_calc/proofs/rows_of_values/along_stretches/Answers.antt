@@ -1,6 +1,6 @@
 use Rattle.std.proofs.Common.{[], ap, ◌∙◌}
 use Rattle.cell_calc_grammar.specs.Postfix.{values_after}
-use Rattle.cell_calc_binding.specs.Applied.{grid_position}
+use Rattle.cell_calc_language.specs.Applied.{grid_position}
 use Rattle.cell_calc.specs.parts.Operands.{seen_cell}
 use Rattle.cell_calc.proofs.StretchSteps.{ready_all, stretch_value}
 use Rattle.cell_calc.proofs.rows_of_values.along_stretches.Goals as goal

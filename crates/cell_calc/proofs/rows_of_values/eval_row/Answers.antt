@@ -1,6 +1,6 @@
 use Rattle.std.proofs.Common.{[], ap, ◌∙◌}
 use Rattle.std.proofs.lemmas.List.Elements.{All-same}
-use Rattle.cell_calc_binding.specs.Applied.{grid_position}
+use Rattle.cell_calc_language.specs.Applied.{grid_position}
 use Rattle.cell_calc.specs.parts.Operands.{IsReadyStep, seen_cell}
 use Rattle.cell_calc_grammar.specs.Postfix.{postfix, values_after}
 use Rattle.cell_calc_grammar.proofs.PostfixLemmas.{enough_steps}

@@ -1,5 +1,5 @@
 use Rattle.std.proofs.Common.{◌≡◌, ◌∙◌, arith, ap, map}
-use Rattle.cell_calc_binding.specs.CellOperators.{most_frequent, known_cells}
+use Rattle.cell_calc_language.specs.CellOperators.{most_frequent, known_cells}
 use Rattle.cell_calc_modes.specs.ColumnCells.{column}
 use Rattle.cell_calc_modes.proofs.ModeLanes.{block_done}
 use Rattle.cell_calc_modes.proofs.mode_lanes.known_mode.Goals as goal

@@ -1,6 +1,6 @@
 use Rattle.std.proofs.Common.{◌≡◌, ◌<◌, ◌-◌, ℕ, length, map}
 use Rattle.cell_calc_modes.specs.ColumnCells.{at, column}
-use Rattle.cell_calc_binding.specs.CellOperators.{most_frequent, known_cells}
+use Rattle.cell_calc_language.specs.CellOperators.{most_frequent, known_cells}
 use Rattle.cell_calc_modes.proofs.mode_lanes.known_mode.Given as goal
 
 abbrev pub invariant-blocks-2 : goal.invariant-blocks-2

@@ -1,5 +1,5 @@
 use Rattle.std.proofs.Common.{◌≡◌, ◌<◌, ℕ, length, take}
-use Rattle.cell_calc_binding.specs.CellOperators.{known_cells}
+use Rattle.cell_calc_language.specs.CellOperators.{known_cells}
 use Rattle.cell_calc_modes.specs.parts.ModeLanes.{key_cell, lane, lane_cells, HaveMost}
 use Rattle.cell_calc_modes.proofs.mode_lanes.most_frequent.Given as goal
 

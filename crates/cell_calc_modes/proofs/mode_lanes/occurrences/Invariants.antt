@@ -1,5 +1,5 @@
 use Rattle.std.proofs.Common.{◌≡◌, ◌<◌, ◌+◌, ℕ, length, take}
-use Rattle.cell_calc_binding.specs.CellOperators.{occurrences}
+use Rattle.cell_calc_language.specs.CellOperators.{occurrences}
 use Rattle.cell_calc_modes.specs.parts.ModeLanes.{key_cell, lane, lane_cells}
 use Rattle.cell_calc_modes.proofs.mode_lanes.occurrences.Given as goal
 

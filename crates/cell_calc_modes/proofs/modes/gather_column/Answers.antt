@@ -1,5 +1,5 @@
 use Rattle.std.proofs.Common.{arith, ◌<◌, length}
-use Rattle.cell_calc_binding.specs.CellOperators.{is_null}
+use Rattle.cell_calc_language.specs.CellOperators.{is_null}
 use Rattle.cell_calc_modes.proofs.Frequent.{gather_step, gathered, one_at_most}
 use Rattle.cell_calc_modes.proofs.modes.gather_column.Goals as goal
 

@@ -1,5 +1,5 @@
 use Rattle.std.proofs.Common.{◌≡◌, ◌≤◌, map, take}
-use Rattle.cell_calc_binding.specs.CellOperators.{known_cells}
+use Rattle.cell_calc_language.specs.CellOperators.{known_cells}
 use Rattle.cell_calc_modes.specs.ColumnCells.{column}
 use Rattle.cell_calc_modes.proofs.modes.gather_column.Given as goal
 

@@ -1,6 +1,6 @@
 use Rattle.std.proofs.Common.{◌≡◌, false, map}
 use Rattle.std.proofs.lemmas.List.Elements.{All-same}
-use Rattle.cell_calc_binding.specs.CellOperators.{is_null, known_cells}
+use Rattle.cell_calc_language.specs.CellOperators.{is_null, known_cells}
 use Rattle.cell_calc_modes.specs.ColumnCells.{column}
 use Rattle.cell_calc_modes.proofs.Frequent.{all_known}
 use Rattle.cell_calc_modes.proofs.modes.known_mode_at.Goals as goal

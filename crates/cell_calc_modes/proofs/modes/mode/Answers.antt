@@ -1,6 +1,6 @@
 use Rattle.std.proofs.Common.{arith, ◌∙◌, map}
 use Rattle.cell_calc_modes.specs.ColumnCells.{column}
-use Rattle.cell_calc_binding.specs.CellOperators.{most_frequent, known_cells}
+use Rattle.cell_calc_language.specs.CellOperators.{most_frequent, known_cells}
 use Rattle.cell_calc_modes.specs.parts.Modes.{unless_null}
 use Rattle.cell_calc_modes.proofs.Columns.{fold_step, fold_all}
 use Rattle.cell_calc_modes.proofs.Frequent.{mode_is}

@@ -1,7 +1,7 @@
 use Rattle.std.proofs.Common.{◌≡◌, ◌<◌, ℕ, length, take, map}
 use Rattle.std.specs.Prelude.{fold}
 use Rattle.cell_calc_modes.specs.ColumnCells.{at, column}
-use Rattle.cell_calc_binding.specs.CellOperators.{most_frequent, known_cells}
+use Rattle.cell_calc_language.specs.CellOperators.{most_frequent, known_cells}
 use Rattle.cell_calc_modes.specs.parts.Modes.{unless_null}
 use Rattle.cell_calc_modes.proofs.modes.mode.Given as goal
 

@@ -1,6 +1,6 @@
 use Rattle.std.proofs.Common.{◌≡◌, false}
 use Rattle.std.proofs.lemmas.List.Sorted.{All-permutation}
-use Rattle.cell_calc_binding.specs.CellOperators.{is_null}
+use Rattle.cell_calc_language.specs.CellOperators.{is_null}
 use Rattle.cell_calc_modes.proofs.modes.most_frequent.Goals as goal
 
 pub longest_run-requires-clause-known : goal.longest_run-requires-clause-known

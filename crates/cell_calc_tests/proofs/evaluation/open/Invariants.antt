@@ -1,6 +1,6 @@
 use Rattle.std.proofs.Common.{◌≡◌, ◌<◌, ℕ, length}
 use Rattle.std.specs.Prelude.{slice_get}
-use Rattle.cell_calc_binding.specs.Reach.{up_of, down_of}
+use Rattle.cell_calc_language.specs.Reach.{up_of, down_of}
 use Rattle.cell_calc.specs.Window.{HasReach}
 use Rattle.cell_calc_tests.proofs.evaluation.open.Given as goal
 

@@ -1,7 +1,7 @@
 use Rattle.std.proofs.Common.{sym, ap, ◌∙◌, ◌+◌}
 use borrow.Author.Count.{falls}
 use Rattle.rcell.specs.parts.WindowsSet.{picked_maps}
-use Rattle.cell_calc_binding.specs.Reach.{up_of, down_of}
+use Rattle.cell_calc_language.specs.Reach.{up_of, down_of}
 use Rattle.rcell.proofs.WindowLemmas.{set_read, moved_set, moved_rest, row_below, no_row, below_same, below_all, least}
 use Rattle.rcell.proofs.map_of_values.advance_windows.Goals as goal
 

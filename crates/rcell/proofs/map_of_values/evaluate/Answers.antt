@@ -1,6 +1,6 @@
 use Rattle.std.proofs.Common.{◌<◌, length, ◌∙◌, arith}
 use Rattle.std.specs.Prelude.{All}
-use Rattle.cell_calc_binding.specs.Applied.{grid_position}
+use Rattle.cell_calc_language.specs.Applied.{grid_position}
 use Rattle.rcell.specs.parts.WindowsSet.{picked_maps}
 use Rattle.rcell.proofs.WindowLemmas.{picked_at}
 use Rattle.rcell.proofs.map_of_values.evaluate.Goals as goal

@@ -1,8 +1,8 @@
 use Rattle.std.proofs.Common.{sym, ◌≡◌, ◌<◌, ◌+◌, ℕ, ◌∷◌, [], None, length, ap, ◌∙◌, length-append}
 use Rattle.std.specs.Prelude.{slice_index_or, slice_get}
-use Rattle.cell_calc_binding.specs.Applied.{grid_position}
-use Rattle.cell_calc_binding.specs.Reach.{up_of, down_of}
-use Rattle.cell_calc_binding.specs.Value.{value}
+use Rattle.cell_calc_language.specs.Applied.{grid_position}
+use Rattle.cell_calc_language.specs.Reach.{up_of, down_of}
+use Rattle.cell_calc_language.specs.Value.{value}
 use Rattle.rcell.specs.parts.WindowsSet.{picked_maps}
 use Rattle.rcell.proofs.WindowLemmas.{written, set_over, set_reach, rows_more, room_left, all_rows, row_made}
 use Rattle.cell_core.specs.Grid.{cell_at}

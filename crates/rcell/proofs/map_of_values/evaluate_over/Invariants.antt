@@ -1,8 +1,8 @@
 use Rattle.std.proofs.Common.{◌≡◌, ◌<◌, ℕ, [], length, None}
 use Rattle.std.specs.Prelude.{slice_index_or}
-use Rattle.cell_calc_binding.specs.Applied.{grid_position}
-use Rattle.cell_calc_binding.specs.Reach.{top_of}
-use Rattle.cell_calc_binding.specs.Value.{value}
+use Rattle.cell_calc_language.specs.Applied.{grid_position}
+use Rattle.cell_calc_language.specs.Reach.{top_of}
+use Rattle.cell_calc_language.specs.Value.{value}
 use Rattle.rcell.specs.parts.WindowsSet.{AreSet, picked_maps}
 use Rattle.rcell.proofs.map_of_values.evaluate_over.Given as goal
 

@@ -13,8 +13,8 @@ use Rattle.cell_calc_grammar.specs.Token.{token_number_at}
 use Rattle.cell_calc_grammar.specs.Tokens.{word_of, mark_length, piece_length, pieces, tokens_of, token_list}
 use Rattle.cell_core.specs.Grid.{Grid, CellValue, cell_at, no_labels}
 use Rattle.cell_core_values.specs.Region.{RegionValue}
-use Rattle.cell_calc_binding.specs.Applied.{grid_position}
-use Rattle.cell_calc_binding.specs.Value.{value}
+use Rattle.cell_calc_language.specs.Applied.{grid_position}
+use Rattle.cell_calc_language.specs.Value.{value}
 use Rattle.rcell.specs.Loading.{shelf_from, shelf_of_one}
 use Rattle.std.specs.Fmt.{digits}
 use Rattle.bstr.specs.Text.{line_len, lines_from}

@@ -1,2 +1,0 @@
--- Definitions that only function bodies and proofs use.
-pub mod TreeSteps
