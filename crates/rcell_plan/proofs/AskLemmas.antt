@@ -7,8 +7,8 @@ use Rattle.cell_calc_grammar.specs.declared.step.Step.TheVariants as step
 use Rattle.cell_calc_grammar.specs.Postfix.{postfix, postfix_all}
 use Rattle.cell_calc_language.specs.Formula.{Formula, Number, Map, Negated, Not, Binary, Call, Formulas, NoTrees, Then}
 use Rattle.cell_calc_language.specs.Formula.{count}
-use Rattle.cell_calc_law.specs.HaloParts.{calls, call_any}
-use Rattle.cell_calc_law.specs.LocalLaw.{asks_where}
+use Rattle.rcell_plan.specs.HaloParts.{calls, call_any}
+use Rattle.rcell_plan.specs.LocalLaw.{asks_where}
 use Rattle.rcell_plan.specs.parts.PositionSteps.{step_asks}
 
 or-false : (b : Bool) → (b || false) ≡ b

@@ -15,7 +15,7 @@ use Rattle.cell_calc_language.specs.Applied.{grid_position}
 use Rattle.cell_calc_language.specs.Offsets.{item_at, row_of, cell_in, cell_at_offset}
 use Rattle.cell_calc_language.specs.Formula.{Formula}
 use Rattle.cell_calc_language.specs.Value.{value}
-use Rattle.cell_calc_law.proofs.MapLemmas.{one-map-of-values}
+use Rattle.rcell_plan.proofs.MapLemmas.{one-map-of-values}
 use Rattle.cell_cats.specs.Rule.{RuleValue, new_category}
 use Rattle.cell_cats.specs.Reclass.{reclassed_map, new_row}
 use Rattle.cell_cats_areas.specs.declared.clump.Joining.{Joining}

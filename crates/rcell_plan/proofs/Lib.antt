@@ -1,4 +1,12 @@
 -- Lemmas that several proofs share.
+pub mod FollowLemmas
+pub mod HaloLemmas
+pub mod LocalLemmas
+pub mod MapLemmas
+pub mod HaloReachLemmas
+pub mod ShiftLemmas
+pub mod TallyLemmas
+pub mod TileLemmas
 pub mod AskLemmas
 pub mod JoinedLemmas
 pub mod LawLemmas

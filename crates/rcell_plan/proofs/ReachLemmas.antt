@@ -16,8 +16,8 @@ use Rattle.cell_calc_language.proofs.FormulaSteps.{greatest}
 use Rattle.cell_calc_language.specs.Formula.{Formula, Number, Map, Negated, Not, Binary, Call, Formulas, NoTrees, Then}
 use Rattle.cell_calc_language.specs.Reach.{up_at, down_at}
 use Rattle.cell_calc_language.specs.Value.{value, argument_values}
-use Rattle.cell_calc_law.specs.HaloParts.{left_at, right_at, calls, call_any, value_seen_from, values_seen_from}
-use Rattle.cell_calc_law.specs.LocalLaw.{asks_where}
+use Rattle.rcell_plan.specs.HaloParts.{left_at, right_at, calls, call_any, value_seen_from, values_seen_from}
+use Rattle.rcell_plan.specs.LocalLaw.{asks_where}
 use Rattle.rcell_script.specs.declared.command.Command.{Command}
 use Rattle.rcell_script.specs.declared.command.Command.TheVariants.{Mapcalc, Reclass, Clump, Stats, OutAscii}
 use Rattle.rcell_script.specs.declared.statement.Statement.{Statement}

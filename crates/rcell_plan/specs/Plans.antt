@@ -5,8 +5,8 @@ use Rattle.cell_calc_language.specs.Formula.{Formula}
 use Rattle.cell_calc_grammar.specs.declared.step.Step.{Step}
 use Rattle.cell_calc_grammar.specs.declared.step.Step.TheVariants as step
 use Rattle.cell_calc_grammar.specs.Postfix.{postfix}
-use Rattle.cell_calc_law.specs.HaloParts.{calls}
-use Rattle.cell_calc_law.specs.LocalLaw.{asks_where}
+use Rattle.rcell_plan.specs.HaloParts.{calls}
+use Rattle.rcell_plan.specs.LocalLaw.{asks_where}
 use Rattle.rcell_script.specs.declared.command.Command.{Command}
 use Rattle.rcell_script.specs.declared.command.Command.TheVariants.{Mapcalc, Reclass, Clump, Stats, OutAscii}
 use Rattle.rcell_script.specs.declared.statement.Statement.{Statement}

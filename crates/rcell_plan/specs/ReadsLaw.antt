@@ -5,7 +5,7 @@ use Rattle.cell_calc_language.specs.Applied.{GridPosition}
 use Rattle.cell_calc_language.specs.Formula.{Formula}
 use Rattle.cell_calc_language.specs.Reach.{up_of, down_of}
 use Rattle.cell_calc_language.specs.Value.{value}
-use Rattle.cell_calc_law.specs.HaloParts.{left_of, right_of, value_seen_from}
+use Rattle.rcell_plan.specs.HaloParts.{left_of, right_of, value_seen_from}
 use Rattle.rcell_script.specs.declared.statement.Statement.{Statement}
 use Rattle.rcell_plan.specs.declared.needs.Margin.{Margin}
 use Rattle.rcell_plan.specs.declared.needs.Need.{Need}

@@ -4,7 +4,7 @@ ghost use Rattle.std.specs.Prelude.{◌≡◌};
 ghost use Rattle.std.specs.List.{list_any};
 ghost use Rattle.rcell_plan.specs.Plans.{position_flag, command_flags, command_code};
 ghost use Rattle.rcell_plan.specs.parts.PositionSteps.{step_asks};
-ghost use Rattle.cell_calc_law.specs.LocalLaw.{asks_where};
+ghost use Rattle.rcell_plan.specs.LocalLaw.{asks_where};
 
 use cell_calc_grammar::function::Function;
 use cell_calc_grammar::step::Step;

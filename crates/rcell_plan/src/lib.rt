@@ -6,6 +6,13 @@
 //!   `Needs`: one need per map, ordered by index
 //! - `flags`: the kind of a statement, in numbers; `reads`: the maps that a command reads
 //! - `law`: `needs_are_enough`: no value depends on a cell outside the needs
+//! - `values_law`: laws about the values of expressions, as r.mapcalc computes them
+//!
+//! The main law in `values_law` is `tiles_make_the_map`: an expression computed over a tile with its halo has, in the
+//! tile, the same cells as computed over the full map, if it calls none of `row()`, `col()`, `nrows()` and `ncols()`.
+//! `placed_tiles_make_the_map` allows these functions, with the position of the tile added. The laws are in this order:
+//! expressions without offsets, whose values depend only on the combination of categories; copies; offsets, which shift
+//! a map and add up; halos and reach; tiles.
 //!
 //! A plan from tools/test_plan.py. The arguments of `Need` are the rows above and below, and the columns to the left
 //! and to the right:
@@ -21,3 +28,4 @@ pub mod law;
 pub mod needs;
 pub mod planning;
 pub mod reads;
+pub mod values_law;

@@ -2,7 +2,7 @@
 use Rattle.std.specs.Prelude.{ℕ, Bool, false}
 use Rattle.cell_calc_grammar.specs.declared.step.Step.{Step}
 use Rattle.cell_calc_grammar.specs.declared.step.Step.TheVariants.{Number, Map, Negated, Not, Binary, Call}
-use Rattle.cell_calc_law.specs.LocalLaw.{asks_where}
+use Rattle.rcell_plan.specs.LocalLaw.{asks_where}
 
 -- the step calls row(), col(), nrows() or ncols()
 abbrev pub step_asks : Step ℕ → Bool
