@@ -18,7 +18,7 @@ use Rattle.cell_stats_combinations.specs.LeftOut.{is_left_out}
 use Rattle.cell_stats_combinations.proofs.OrderLemmas.{combination_cmp-exact, is_equal}
 use Rattle.cell_stats.specs.CategoryTables.{Pairs, IsTable}
 use Rattle.cell_cats_areas.proofs.MeetingLemmas.{some_of}
-use Rattle.cell_parts.proofs.AreaLemmas.{is-some}
+use Rattle.cell_join_numbers.proofs.AreaLemmas.{is-some}
 use Rattle.cell_cats_law.proofs.CountLemmas.{counts-same, counted-cell, entry-at, table-sums}
 use Rattle.cell_cats_law.specs.AreaLaw.{EntriesAreWhole, AreasDivideTheirCategory}
 use Rattle.cell_cats_law.specs.AreaLaw.{NoAreaIsEmpty, cells_of_both}

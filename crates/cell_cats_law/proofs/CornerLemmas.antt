@@ -7,7 +7,7 @@ use Rattle.cell_cats_areas.proofs.PathLemmas.{AreJoined-sym, AreJoined-trans}
 use Rattle.cell_cats_areas.proofs.LawLemmas.{cases_before, within_le}
 use Rattle.cell_cats_areas.proofs.CountLemmas.{no_number_is_left_out}
 use Rattle.cell_cats_areas.proofs.MeetingLemmas.{some_of}
-use Rattle.cell_parts.proofs.AreaLemmas.{before-then, is-some}
+use Rattle.cell_join_numbers.proofs.AreaLemmas.{before-then, is-some}
 use Rattle.cell_cats_law.specs.CornerLaw.{AreBothClumpings, CornersOnlyJoin, CornersAddNoArea}
 use Rattle.cell_cats_law.proofs.AreaLemmas.{some-below, none-below, stands-at}
 

@@ -13,7 +13,7 @@ use Rattle.cell_stats_counts.specs.Counts.{count_of}
 use Rattle.cell_cats_law.proofs.CountLemmas.{counts-same}
 use Rattle.cell_cats_law.specs.AreaLaw.{cells_of}
 use Rattle.cell_cats_law.proofs.AreaLemmas.{some-below, first-cell}
-use Rattle.cell_parts.specs.TableParts.{count_in}
+use Rattle.cell_join_numbers.specs.TableParts.{count_in}
 use Rattle.cell_cats_law.specs.NumberTables.{entries_from, entry_of_null, listed_sizes}
 use Rattle.cell_cats_law.proofs.NumberedTiles.{number_there, renumbered, cell-renumbered}
 use Rattle.cell_cats_law.proofs.SizeLemmas.{equal-itself, equal-only, same-answer}

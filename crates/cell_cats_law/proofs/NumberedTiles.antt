@@ -5,7 +5,7 @@ use Rattle.cell_core.specs.Grid.{Grid, CellValue}
 use Rattle.cell_cats_areas.specs.declared.clump.Joining.{Joining}
 use Rattle.cell_cats_areas.specs.Areas.{Position, cell_at_position, HasNumber, IsClumping}
 use Rattle.cell_cats_areas.proofs.LawLemmas.{HasNumber-one}
-use Rattle.cell_parts.proofs.AreaLemmas.{is-some}
+use Rattle.cell_join_numbers.proofs.AreaLemmas.{is-some}
 
 -- the full map's number of a cell, looked up by the cell's number in the tile
 abbrev pub number_there : List ℕ → CellValue → CellValue

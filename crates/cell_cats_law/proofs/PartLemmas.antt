@@ -11,7 +11,7 @@ use Rattle.cell_core.specs.Text.{cell_text}
 use Rattle.cell_cats.specs.Rule.{RuleValue, new_category}
 use Rattle.cell_cats.specs.Reclass.{reclassed_map, new_row, new_rows, labels_of}
 use Rattle.cell_stats.specs.TableText.{FormatValue, cell_fields, label_of_cell, line_text, count_fields}
-use Rattle.cell_parts.specs.Parts.{Rectangle, cut_out}
+use Rattle.cell_join_numbers.specs.Parts.{Rectangle, cut_out}
 use Rattle.cell_cats_law.specs.PartLaw.{HaveTheLabels, ReclassedPartsAreParts, ReclassedPartsHaveTheLabels}
 use Rattle.cell_cats_law.specs.PartLaw.{PartsPrintTheWhole}
 

@@ -18,10 +18,10 @@ use Rattle.cell_stats_combinations.specs.LeftOut.{is_left_out}
 use Rattle.cell_stats_counts.specs.Counts.{count_of}
 use Rattle.cell_stats.specs.CategoryTables.{Pairs}
 use Rattle.cell_cats_law.specs.AreaLaw.{cells_of}
-use Rattle.cell_parts.specs.Parts.{Rectangle, IsPart, AreTiling}
-use Rattle.cell_parts.specs.AreaParts.{moved_position}
-use Rattle.cell_parts.specs.TableParts.{Part, combinations_of_part, count_in}
-use Rattle.cell_parts.proofs.SumLemmas.{parts-add-up}
+use Rattle.cell_join_numbers.specs.Parts.{Rectangle, IsPart, AreTiling}
+use Rattle.cell_join_numbers.specs.AreaParts.{moved_position}
+use Rattle.cell_join_numbers.specs.TableParts.{Part, combinations_of_part, count_in}
+use Rattle.cell_join_numbers.proofs.SumLemmas.{parts-add-up}
 use Rattle.cell_cats_law.specs.SummedSizes.{AddUp, size_of_area}
 use Rattle.cell_cats_law.specs.SizeLaw.{size_of_number, sizes_of_areas}
 use Rattle.cell_cats_law.specs.NumberTables.{entries_from, number_table, listed_sizes}

@@ -13,7 +13,7 @@ use Rattle.cell_stats_combinations.specs.Combinations.{combination_cmp}
 use Rattle.cell_cats_law.proofs.CountLemmas.{counts-same}
 use Rattle.cell_cats_law.specs.AreaLaw.{IsWithout, OtherAreasStay}
 use Rattle.cell_cats_areas.proofs.MeetingLemmas.{some_of}
-use Rattle.cell_parts.proofs.AreaLemmas.{is-some}
+use Rattle.cell_join_numbers.proofs.AreaLemmas.{is-some}
 use Rattle.cell_cats_law.proofs.AreaLemmas.{some-below, first-cell, tests-same}
 
 module _ (j : Joining) (m numbers : Grid) (is : IsClumping j m numbers) (number : ℤ) (less : Grid)

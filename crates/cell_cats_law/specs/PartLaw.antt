@@ -5,7 +5,7 @@ use Rattle.cell_cats.specs.Rule.{RuleValue}
 use Rattle.cell_cats.specs.Reclass.{reclassed_map}
 use Rattle.cell_stats.specs.CategoryTables.{Pairs}
 use Rattle.cell_stats.specs.TableText.{FormatValue, table_text}
-use Rattle.cell_parts.specs.Parts.{Rectangle, AreCutOut}
+use Rattle.cell_join_numbers.specs.Parts.{Rectangle, AreCutOut}
 
 -- two lists of maps have the same labels
 abbrev pub HaveTheLabels : (whole part : List Grid) → Type 0

@@ -8,9 +8,9 @@ use Rattle.cell_cats_areas.specs.Areas.{Position, cell_at_position, HasNumber, I
 use Rattle.cell_stats_combinations.specs.declared.skip.Skip.{Skip}
 use Rattle.cell_stats.specs.CategoryTables.{Pairs, IsTable}
 use Rattle.cell_cats_law.specs.AreaLaw.{cells_of}
-use Rattle.cell_parts.specs.Parts.{Rectangle, AreTiling}
-use Rattle.cell_parts.specs.AreaParts.{IsTile, Numbered, moved_position}
-use Rattle.cell_parts.specs.TableParts.{count_in}
+use Rattle.cell_join_numbers.specs.Parts.{Rectangle, AreTiling}
+use Rattle.cell_join_numbers.specs.AreaParts.{IsTile, Numbered, moved_position}
+use Rattle.cell_join_numbers.specs.TableParts.{count_in}
 use Rattle.cell_join_numbers.specs.Labelled.{HasAreas}
 use Rattle.cell_cats_law.specs.SummedSizes.{AddUp}
 use Rattle.cell_cats_law.specs.SizeLaw.{sizes_of_areas}

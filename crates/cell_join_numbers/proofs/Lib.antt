@@ -8,3 +8,10 @@ pub mod SearchLemmas
 pub mod PairLabelLemmas
 pub mod NumberedLemmas
 pub mod StretchStepLemmas
+pub mod AreaLemmas
+pub mod BlockLemmas
+pub mod CutLemmas
+pub mod GridLemmas
+pub mod ListingLemmas
+pub mod MergeLemmas
+pub mod SumLemmas

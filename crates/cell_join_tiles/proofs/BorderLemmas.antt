@@ -7,8 +7,8 @@ use Rattle.cell_core.specs.Grid.{Grid, CellValue}
 use Rattle.cell_cats_areas.specs.declared.clump.Joining.{Joining}
 use Rattle.cell_cats_areas.specs.Areas.{Position, cell_at_position, IsEarlierCell, AreJoined}
 use Rattle.cell_cats_areas.specs.parts.CellPlaces.{position}
-use Rattle.cell_parts.specs.Parts.{Rectangle}
-use Rattle.cell_parts.specs.AreaParts.{moved_position}
+use Rattle.cell_join_numbers.specs.Parts.{Rectangle}
+use Rattle.cell_join_numbers.specs.AreaParts.{moved_position}
 use Rattle.cell_join_numbers.specs.Labelled.{AreLabelled}
 use Rattle.cell_join_tiles.proofs.ListedAtLemmas.{ListedAt, listed_at-of, listed_at-own, first-some}
 use Rattle.cell_join_tiles.proofs.MovedLemmas.{before-moved, joined-moved}

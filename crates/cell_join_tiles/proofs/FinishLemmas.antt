@@ -12,7 +12,7 @@ use Rattle.std.proofs.lemmas.Grind.{flat_map-append}
 use Rattle.cell_core.specs.Grid.{Grid}
 use Rattle.cell_cats_areas.specs.declared.clump.Joining.{Joining}
 use Rattle.cell_cats_areas.specs.Areas.{Position, cell_at_position, HasNumber}
-use Rattle.cell_parts.specs.AreaParts.{moved_position}
+use Rattle.cell_join_numbers.specs.AreaParts.{moved_position}
 use Rattle.cell_join_numbers.specs.Stretches.{stretches_from, stretches_in, stretches_of}
 use Rattle.cell_join_numbers.specs.declared.stretch.Stretch.{Stretch}
 use Rattle.cell_join_numbers.specs.Labelled.{HasAreas}

@@ -9,7 +9,7 @@ use Rattle.cell_core.specs.Grid.{Grid}
 use Rattle.cell_cats_areas.specs.declared.clump.Joining.{Joining}
 use Rattle.cell_cats_areas.specs.Areas.{Position}
 use Rattle.cell_cats_areas.specs.parts.CellPlaces.{position}
-use Rattle.cell_parts.specs.AreaParts.{moved_position}
+use Rattle.cell_join_numbers.specs.AreaParts.{moved_position}
 use Rattle.cell_join_tiles.specs.Beginnings.{Begun, IsCutIntoTiles, tile_place}
 use Rattle.cell_join_tiles.specs.Borders.{Rises, AreBorders, cell_label, ArePairedAtSeams}
 use Rattle.cell_join_tiles.specs.SeamLines.{line_meetings, IsLineOf, AreSeamLines, IsAtSide, IsAtRow, HasSide, side_marks, row_line}

@@ -8,7 +8,7 @@ use Rattle.std.proofs.lemmas.List.FromFn.{length-map-range_with_len, get_or-map-
 use Rattle.cell_core.specs.Grid.{Grid, CellValue}
 use Rattle.cell_cats_areas.specs.Areas.{Position, cell_at_position}
 use Rattle.cell_cats_areas.specs.parts.CellPlaces.{position}
-use Rattle.cell_parts.specs.AreaParts.{moved_position}
+use Rattle.cell_join_numbers.specs.AreaParts.{moved_position}
 use Rattle.cell_join_tiles.specs.Beginnings.{clump_label, tile_place}
 use Rattle.cell_join_tiles.specs.Borders.{number_of, cell_label}
 use Rattle.cell_join_tiles.specs.declared.marks.Mark.{Mark}

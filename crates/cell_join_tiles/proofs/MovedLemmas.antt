@@ -3,9 +3,9 @@ use Rattle.std.proofs.Common.{sym, ◌∙◌, arith, inl, inr}
 use Rattle.cell_core.specs.Grid.{Grid}
 use Rattle.cell_cats_areas.specs.declared.clump.Joining.{Joining}
 use Rattle.cell_cats_areas.specs.Areas.{Position, IsEarlierCell, AreJoined}
-use Rattle.cell_parts.specs.Parts.{Rectangle}
-use Rattle.cell_parts.specs.AreaParts.{Tile, IsTile, moved_position}
-use Rattle.cell_parts.proofs.AreaLemmas.{adjacent-moved, is-some, joined-by, same-back}
+use Rattle.cell_join_numbers.specs.Parts.{Rectangle}
+use Rattle.cell_join_numbers.specs.AreaParts.{Tile, IsTile, moved_position}
+use Rattle.cell_join_numbers.proofs.AreaLemmas.{adjacent-moved, is-some, joined-by, same-back}
 
 pub before-moved : (r : Rectangle) (p q : Position) → IsEarlierCell (moved_position r p) (moved_position r q) → IsEarlierCell p q
 before-moved r p q (inl h) = inl (omega (arith, h))

@@ -7,8 +7,8 @@ use Rattle.cell_cats_areas.specs.declared.clump.Joining.{Joining}
 use Rattle.cell_cats_areas.specs.Areas.{Position, cell_at_position, AreAdjacent, HasNumber}
 use Rattle.cell_cats_areas.specs.parts.CellPlaces.{position}
 use Rattle.cell_cats_areas.proofs.PathLemmas.{AreJoined-adjacent}
-use Rattle.cell_parts.specs.AreaParts.{moved_position}
-use Rattle.cell_parts.proofs.AreaLemmas.{adjacent-back, is-some}
+use Rattle.cell_join_numbers.specs.AreaParts.{moved_position}
+use Rattle.cell_join_numbers.proofs.AreaLemmas.{adjacent-back, is-some}
 use Rattle.cell_join_tiles.proofs.GreatestLemmas.{has-areas, some-numbered}
 use Rattle.cell_join_numbers.specs.Labelled.{HasAreas}
 use Rattle.cell_join_tiles.specs.parts.Greatest.{greatest_of}

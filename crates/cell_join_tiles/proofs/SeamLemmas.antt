@@ -9,8 +9,8 @@ use Rattle.cell_cats_areas.specs.declared.clump.Joining.TheVariants.{Edges, Edge
 use Rattle.cell_cats_areas.specs.Areas.{Position, cell_at_position, AreNeighbours, AreAdjacent}
 use Rattle.cell_cats_areas.specs.parts.CellPlaces.{position}
 use Rattle.cell_cats_areas.proofs.PathLemmas.{AreAdjacent-sym}
-use Rattle.cell_parts.specs.AreaParts.{moved_position}
-use Rattle.cell_parts.proofs.AreaLemmas.{is-some, rows-near}
+use Rattle.cell_join_numbers.specs.AreaParts.{moved_position}
+use Rattle.cell_join_numbers.proofs.AreaLemmas.{is-some, rows-near}
 use Rattle.cell_join_numbers.specs.Labelled.{IsMeeting}
 use Rattle.cell_join_tiles.proofs.LengthLemmas.{before-next, index_in, Crosses, next-to}
 use Rattle.cell_join_tiles.proofs.MeetingLemmas.{Touch, mark-inside, line_meetings-have, line_meetings-only}

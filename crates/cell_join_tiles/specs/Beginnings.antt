@@ -6,8 +6,8 @@ use Rattle.cell_cats_areas.specs.declared.clump.Joining.{Joining}
 use Rattle.cell_cats_areas.specs.Areas.{Position, cell_at_position, IsEarlierCell, AreAdjacent, IsClumping}
 use Rattle.cell_cats_areas.specs.ClumpLaw.{AreFirsts}
 use Rattle.cell_cats_areas.specs.parts.CellPlaces.{position}
-use Rattle.cell_parts.specs.Parts.{Rectangle}
-use Rattle.cell_parts.specs.AreaParts.{IsTile, moved_position}
+use Rattle.cell_join_numbers.specs.Parts.{Rectangle}
+use Rattle.cell_join_numbers.specs.AreaParts.{IsTile, moved_position}
 use Rattle.cell_join_numbers.specs.Labelled.{IsMeeting, AreLabelled}
 
 -- ---- the arithmetic of labels

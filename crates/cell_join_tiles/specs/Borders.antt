@@ -6,7 +6,7 @@ use Rattle.cell_cats_areas.specs.declared.clump.Joining.{Joining}
 use Rattle.cell_cats_areas.specs.Areas.{Position, cell_at_position, AreAdjacent, HasNumber, IsClumping}
 use Rattle.cell_cats_areas.specs.ClumpLaw.{AreFirsts}
 use Rattle.cell_cats_areas.specs.parts.CellPlaces.{position}
-use Rattle.cell_parts.specs.AreaParts.{moved_position}
+use Rattle.cell_join_numbers.specs.AreaParts.{moved_position}
 use Rattle.cell_join_numbers.specs.Labelled.{HasAreas, IsMeeting, AreLabelled, NumberLabels, CountLabels}
 use Rattle.cell_join_tiles.specs.parts.Greatest.{greatest_of}
 use Rattle.cell_join_tiles.specs.Beginnings.{Begun, begun_before, stretch_of, clumps_in_grid, clump_label, IsCutIntoTiles, HasBegun, BearLabels, tile_place}

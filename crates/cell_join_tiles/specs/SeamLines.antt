@@ -8,7 +8,7 @@ use Rattle.cell_cats_areas.specs.declared.clump.Joining.{Joining}
 use Rattle.cell_cats_areas.specs.declared.clump.Joining.TheVariants.{Edges, EdgesAndCorners}
 use Rattle.cell_cats_areas.specs.Areas.{Position, cell_at_position}
 use Rattle.cell_cats_areas.specs.parts.CellPlaces.{position}
-use Rattle.cell_parts.specs.AreaParts.{moved_position}
+use Rattle.cell_join_numbers.specs.AreaParts.{moved_position}
 use Rattle.cell_join_tiles.specs.declared.marks.Mark.{Mark}
 use Rattle.cell_join_tiles.specs.Beginnings.{Begun, clump_label, IsCutIntoTiles, tile_place}
 use Rattle.cell_join_tiles.specs.Borders.{ArePairedAtSeams, number_of, cell_label}

@@ -14,7 +14,7 @@ use Rattle.cell_stats_counts.specs.Counts.{count_of}
 use Rattle.cell_stats.proofs.TableLemmas.{count_cons}
 use Rattle.rcell_plan.specs.LocalLaw.{cells_alone, cells_of_shelf, CountsFollow}
 use Rattle.rcell_plan.proofs.TallyLemmas.{table-counts}
-use Rattle.cell_parts.proofs.SumLemmas.{sum-cons}
+use Rattle.cell_join_numbers.proofs.SumLemmas.{sum-cons}
 
 -- ---- combinations of all cells, each a function of other combinations
 

@@ -15,8 +15,8 @@ use Rattle.cell_calc_language.specs.Offsets.{item_at, cell_at_offset, cell_in}
 use Rattle.cell_calc_language.specs.Formula.{Formula, Number, Map, Negated, Not, Binary, Call, Formulas, NoTrees, Then}
 use Rattle.cell_calc_language.specs.Reach.{up_of, down_of, up_of_all, down_of_all}
 use Rattle.cell_calc_language.specs.Value.{value, argument_values}
-use Rattle.cell_parts.specs.Parts.{Rectangle, AreCutOut, cut_out}
-use Rattle.cell_parts.proofs.CutLemmas.{length-take-most, nothing-cut, row-cut, first-or}
+use Rattle.cell_join_numbers.specs.Parts.{Rectangle, AreCutOut, cut_out}
+use Rattle.cell_join_numbers.proofs.CutLemmas.{length-take-most, nothing-cut, row-cut, first-or}
 use Rattle.rcell_plan.specs.HaloParts.{left_of, left_of_all, right_of, right_of_all, calls, call_any, asks_rows, asks_cols, HaloIsEnough, value_seen_from, values_seen_from, ReachIsEnough}
 
 -- ---- an item of a part of a list, at an offset

@@ -12,7 +12,7 @@ use Rattle.cell_calc_language.specs.Reach.{up_of, down_of, up_of_all, down_of_al
 use Rattle.cell_calc_language.specs.Value.{value}
 use Rattle.rcell_plan.specs.HaloParts.{left_of, right_of, left_of_all, right_of_all, ReadsWithin, value_seen_from}
 use Rattle.rcell_plan.specs.HaloParts.{calls, asks_rows, asks_cols}
-use Rattle.cell_parts.specs.Parts.{Rectangle, AreCutOut}
+use Rattle.cell_join_numbers.specs.Parts.{Rectangle, AreCutOut}
 use Rattle.rcell_plan.specs.ReachParts as reached
 use Rattle.rcell_plan.specs.ReachParts.{Halo, reach_of, reach_of_all, IsWithinReach, with_halo, IsCellInside}
 use Rattle.rcell_plan.proofs.HaloLemmas.{halo-is-enough, reach-is-enough}

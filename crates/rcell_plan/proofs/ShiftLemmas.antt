@@ -15,7 +15,7 @@ use Rattle.cell_stats_combinations.specs.Combinations.{Combination, combination_
 use Rattle.cell_stats_counts.specs.Counts.{count_of}
 use Rattle.rcell_plan.specs.LocalLaw.{cells_alone, cells_of_shelf}
 use Rattle.rcell_plan.specs.ShiftLaw.{ShiftsAddUp, NullBeyondTheEdge}
-use Rattle.cell_parts.proofs.SumLemmas.{line, line-same, line-none, count-line, count-lines}
+use Rattle.cell_join_numbers.proofs.SumLemmas.{line, line-same, line-none, count-line, count-lines}
 
 -- ---- offsets add up
 

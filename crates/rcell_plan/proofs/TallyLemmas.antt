@@ -14,7 +14,7 @@ use Rattle.cell_stats_combinations.proofs.OrderLemmas.{combination_cmp-exact, is
 use Rattle.cell_stats_counts.specs.Counts.{count_of}
 use Rattle.cell_stats.specs.CategoryTables.{Pairs, table_of}
 use Rattle.cell_stats.proofs.SortedLemmas.{both_true, is_less}
-use Rattle.cell_parts.proofs.SumLemmas.{sum-cons}
+use Rattle.cell_join_numbers.proofs.SumLemmas.{sum-cons}
 use Rattle.cell_stats.proofs.TableLemmas.{IsTally, IsFound-from, counts_of-IsTally, count_cons, found}
 
 pub kept-nothing : (cells : List Combination) → kept_cells Nothing cells ≡ cells

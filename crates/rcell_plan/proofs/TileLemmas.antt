@@ -10,7 +10,7 @@ use Rattle.cell_calc_language.proofs.Fit.{fit_number}
 use Rattle.cell_calc_language.specs.Formula.{Formula, Number, Map, Negated, Not, Binary, Call, Formulas, NoTrees, Then}
 use Rattle.cell_calc_language.specs.Value.{value, argument_values}
 use Rattle.rcell_plan.specs.HaloParts.{value_seen_from, values_seen_from}
-use Rattle.cell_parts.specs.Parts.{Rectangle}
+use Rattle.cell_join_numbers.specs.Parts.{Rectangle}
 use Rattle.rcell_plan.specs.ReachParts.{reach_of, IsCellInside}
 use Rattle.rcell_plan.proofs.HaloReachLemmas.{its-reach-is-enough, its-reach-is-enough-elsewhere, position_in}
 use Rattle.rcell.specs.Making.{AreValues}

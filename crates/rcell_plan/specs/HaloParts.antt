@@ -12,7 +12,7 @@ use Rattle.cell_calc_grammar.specs.Tree.{fold_maps, fold_all}
 use Rattle.cell_calc_language.specs.Formula.{Formula, Number, Map, Negated, Not, Binary, Call, Formulas, NoTrees, Then}
 use Rattle.cell_calc_language.specs.Reach.{up_of, down_of}
 use Rattle.cell_calc_language.specs.Value.{value}
-use Rattle.cell_parts.specs.Parts.{Rectangle, AreCutOut}
+use Rattle.cell_join_numbers.specs.Parts.{Rectangle, AreCutOut}
 
 -- the number of columns to the left in an offset, if it is an offset of map i
 abbrev pub left_at : ℕ → (place : ℕ) (down right : ℤ) → ℕ

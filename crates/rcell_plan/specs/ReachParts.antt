@@ -5,7 +5,7 @@ use Rattle.cell_calc_language.specs.Grammatical.{up_by, down_by}
 use Rattle.cell_calc_language.specs.Formula.{Formula, Number, Map, Negated, Not, Binary, Call, Formulas, NoTrees, Then}
 use Rattle.cell_calc_language.specs.Reach.{up_of, down_of}
 use Rattle.rcell_plan.specs.HaloParts.{left_of, right_of}
-use Rattle.cell_parts.specs.Parts.{Rectangle}
+use Rattle.cell_join_numbers.specs.Parts.{Rectangle}
 
 -- a halo: numbers of rows up and down, and of columns to the left and right
 pub record Halo : Type 0 where

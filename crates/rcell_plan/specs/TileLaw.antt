@@ -9,7 +9,7 @@ use Rattle.cell_calc_grammar.specs.declared.function.Function.TheVariants.{Row, 
 use Rattle.cell_calc_grammar.specs.declared.operator.Operator.TheVariants.{Plus}
 use Rattle.cell_calc_language.specs.Formula.{Formula, Number, Map, Negated, Not, Binary, Call, Formulas, NoTrees, Then}
 use Rattle.rcell_plan.specs.HaloParts.{calls, asks_rows, asks_cols}
-use Rattle.cell_parts.specs.Parts.{Rectangle, AreCutOut}
+use Rattle.cell_join_numbers.specs.Parts.{Rectangle, AreCutOut}
 use Rattle.rcell_plan.specs.ReachParts.{reach_of, with_halo, IsCellInside}
 use Rattle.rcell.specs.Making.{AreValues}
 

@@ -2,8 +2,8 @@
 """Run a script over tiles, with the same outputs as one run over the full maps.
 
 Tables are added up, and maps are assembled. Each r.clump is processed first, tile by tile: the
-clumps are joined, and the clump map is then treated as a given map. The crate `cell_parts` of this
-project proves that tiles have the same results as one run. Each step names its law.
+clumps are joined, and the clump map is then treated as a given map. The crate `cell_join_numbers`
+of this project proves that tiles have the same results as one run. Each step names its law.
 """
 
 from __future__ import annotations
