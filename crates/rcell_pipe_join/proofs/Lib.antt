@@ -3,6 +3,8 @@ pub mod SideLemmas
 pub mod RunNumberLemmas
 pub mod NumberingLemmas
 pub mod SumLemmas
+pub mod CountLemmas
+pub mod TableSumLemmas
 pub mod BorderLemmas
 pub mod TableLemmas
 pub mod EndLemmas

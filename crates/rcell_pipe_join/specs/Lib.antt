@@ -7,4 +7,5 @@ pub mod JoinRequests
 pub mod JoinFrames
 pub mod JoinEnds
 pub mod JoinLaw
+pub mod SumLaw
 pub mod parts

@@ -1,9 +1,16 @@
-//! The law of join requests.
+//! The laws of join requests.
 
 ghost use Rattle.rcell_pipe_join.specs.JoinLaw.{FramesNumberTheMap};
+ghost use Rattle.rcell_pipe_join.specs.SumLaw.{TablesOfTilesAddUp};
 
 /// If a map is cut into tiles, and the request has their borders, the numbers in the response are the numbers that
 /// r.clump gives to the patches of the full map, and the number of patches is theirs.
 pub fn frames_number_the_map()
     ensures { FramesNumberTheMap }
+{}
+
+/// If maps are cut into tiles that contain each cell once, and the request has their tables, the sums in the response
+/// are the table of the full maps, and their counts add up to the number of cells that are not left out.
+pub fn tables_of_tiles_add_up()
+    ensures { TablesOfTilesAddUp }
 {}

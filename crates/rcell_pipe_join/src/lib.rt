@@ -4,7 +4,8 @@
 //! - `join_request`: `read_join` reads a request, or reports the first error
 //! - `join_response`: `join_request` writes the response
 //! - specs/JoinRequests.antt and specs/BorderGrids.antt: what the bytes mean; specs/JoinEnds.antt: the response
-//! - `law`: the response numbers the patches of the full map; `border_law`: the border of a tile is not rejected
+//! - `law`: the response numbers the patches of the full map, or has its table; `border_law`: the border of a tile is
+//!   not rejected
 //! - private: `border_fields` reads one border, `tiles` the borders of a grid, `table_reading` tables; `border_checks`
 //!   finds borders of no tile; `numbering` numbers the patches, `sums` adds up tables; `join_frame` writes the frames
 //!
