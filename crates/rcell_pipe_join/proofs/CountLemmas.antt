@@ -1,6 +1,6 @@
 -- Counts of entries, and counts of cells with a property.
-use Rattle.std.proofs.Common.{◌≡◌, ◌∙◌, ℕ, zero, suc, ◌+◌, ◌<◌, ◌≤◌, List, [], ◌∷◌, Bool, true, false, cond, unwrap_or}
-use Rattle.std.proofs.Common.{Option, Some, None, refl, ap, sym, arith, zero-add, count_by, sum_by}
+use Rattle.std.proofs.Common.{◌≡◌, ◌∙◌, ℕ, zero, suc, ◌+◌, ◌<◌, List, [], ◌∷◌, Bool, true, false, cond, unwrap_or}
+use Rattle.std.proofs.Common.{Some, refl, ap, sym, arith, zero-add, count_by, sum_by}
 use Rattle.std.specs.FinMap.Entries.{find}
 use Rattle.std.specs.List.{AllByRecursion}
 use Rattle.std.specs.List.Sorted.{IsStrictlySortedBy}

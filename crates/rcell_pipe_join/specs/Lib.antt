@@ -8,4 +8,5 @@ pub mod JoinFrames
 pub mod JoinEnds
 pub mod JoinLaw
 pub mod SumLaw
+pub mod PatchSumLaw
 pub mod parts

@@ -1,6 +1,7 @@
 //! The laws of join requests.
 
 ghost use Rattle.rcell_pipe_join.specs.JoinLaw.{FramesNumberTheMap};
+ghost use Rattle.rcell_pipe_join.specs.PatchSumLaw.{TablesOfPatchesAddUp};
 ghost use Rattle.rcell_pipe_join.specs.SumLaw.{TablesOfTilesAddUp};
 
 /// If a map is cut into tiles, and the request has their borders, the numbers in the response are the numbers that
@@ -14,3 +15,12 @@ pub fn frames_number_the_map()
 pub fn tables_of_tiles_add_up()
     ensures { TablesOfTilesAddUp }
 {}
+
+/// If the tables of a grid of tiles begin with the numbers of patches, and these are replaced by the numbers in the
+/// response to the tiles' borders, the sums are the table of the full maps, with the numbers of the full map's patches.
+pub fn tables_of_patches_add_up()
+    ensures { TablesOfPatchesAddUp }
+{
+    frames_number_the_map();
+    tables_of_tiles_add_up();
+}
