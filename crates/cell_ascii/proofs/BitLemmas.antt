@@ -1,5 +1,5 @@
 -- Blanks and line feeds as bits, and words as numbers.
-use Rattle.std.proofs.Common.{◌≡◌, ℕ, zero, suc, ◌+◌, ◌-◌, ◌*◌, ◌/◌, ◌%◌, ◌^◌, ◌<◌, ◌≤◌, cond, Bool, true, false, not, List, [], ◌∷◌, map, length, take, drop, get_or, refl, ap, ap₂, sym, ◌∙◌, arith, length-take}
+use Rattle.std.proofs.Common.{◌≡◌, ℕ, zero, suc, ◌+◌, ◌-◌, ◌*◌, ◌/◌, ◌%◌, ◌^◌, ◌<◌, ◌≤◌, ◌++◌, replicate, cond, Bool, true, false, not, List, [], ◌∷◌, map, length, take, drop, get_or, refl, ap, ap₂, sym, ◌∙◌, arith, length-take}
 use Rattle.std.specs.List.{prefix_len, list_all}
 use Rattle.std.specs.Int.RustNames.{count_ones}
 use Rattle.std.proofs.lemmas.Simd.{trailing_mask_l, ones-mask_l}
@@ -9,6 +9,7 @@ use Rattle.std.specs.Int.Bits.{bit_and, and_self}
 pub use Rattle.cell_ascii_lanes.proofs.ByteBitLemmas.{bit, turned, mask-take, below}
 use Rattle.cell_ascii_meaning.specs.GridTokens.{is_line_feed, is_space, is_word_byte, newlines}
 use Rattle.cell_ascii_writer.proofs.ByteLemmas.{digits-mod, digits-number}
+use Rattle.cell_ascii_lanes.proofs.DigitLemmas.{moved_bytes}
 use Rattle.cell_ascii.specs.TableWords.{blanks, feeds, cleared_front, kept_bytes}
 use lib.Count.{count_trailing_zeros}
 use lib.Lanes.{mask_l, number_l, digits_l}
@@ -172,3 +173,9 @@ kept bytes size some few buffered below =
     ∙ digits-mod size size (n % 2 ^ 64) (omega arith)
     ∙ digits-mod size 8 n few
     ∙ digits-number size 8 bytes few buffered (λ k _. below k)
+
+-- a key contains the first `size` bytes
+pub key_kept : (bytes : List ℕ) (size key : ℕ) → 0 < size → size ≤ 8 → 8 ≤ length bytes → ((k : ℕ) → get_or bytes k 0 < 256)
+    → key ≡ number_l 256 (replicate (8 - size) 0 ++ take size bytes) → kept_bytes key size ≡ take size bytes
+key_kept bytes size key some few buffered below is =
+    ap (λ n. kept_bytes n size) (is ∙ sym (moved_bytes size bytes some few buffered below)) ∙ kept bytes size some few buffered below

@@ -1,10 +1,11 @@
 -- The cells of a block of short words.
-use Rattle.std.proofs.Common.{◌≡◌, ℕ, zero, suc, ◌+◌, ◌-◌, ◌*◌, ◌^◌, ◌<◌, ◌≤◌, w64, eqb, leb, cond, Bool, true, false, not, pos, List, [], ◌∷◌, ◌++◌, Some, None, Ok, map, length, take, drop, get_or, refl, sym, ap, ap₂, ◌∙◌, arith, subst, length-take, length-drop}
+use Rattle.std.proofs.Common.{◌≡◌, ℕ, zero, suc, ◌+◌, ◌-◌, ◌*◌, ◌/◌, ◌%◌, ◌^◌, ◌<◌, ◌≤◌, w64, eqb, leb, cond, Bool, true, false, not, pos, List, [], ◌∷◌, ◌++◌, Some, None, Ok, map, length, take, drop, get_or, refl, sym, ap, ap₂, ◌∙◌, arith, subst, length-take, length-drop, ◌⊎◌, inl, inr}
 use Rattle.std.specs.Prelude.{◌&&◌, bytes_eq}
 use Rattle.std.specs.List.{list_all}
-use Rattle.std.proofs.lemmas.List.{take_more, drop_more, get_or-drop, get_or-take, drop-take, take-take, get_or-map, length-map, get_or_past}
+use Rattle.std.proofs.lemmas.List.{take_more, drop_more, get_or-drop, get_or-take, get_or-map, length-map, get_or_past}
 use Rattle.std.proofs.lemmas.List.{map-append}
 use Rattle.std.proofs.lemmas.Bool.{eqb-true}
+use Rattle.std.proofs.lemmas.Slice.Eq.{bytes_eq-Decides}
 use Rattle.cell_core_values.proofs.NameLemmas.{bytes_eq-differ}
 use Rattle.std.proofs.lemmas.Bool.Decides.{nat_tests}
 use Rattle.cell_core_values.specs.SmallCells.{byte_cell, cells_of_bytes}
@@ -15,15 +16,19 @@ use Rattle.cell_ascii_meaning.specs.CellTexts.{cell_of_word}
 use Rattle.cell_ascii.specs.TableWords.{HoldsLines, blanks}
 use Rattle.cell_ascii_reading.specs.InRange.{HasPlainNumbers}
 use Rattle.cell_ascii_lanes.specs.WordLanes.{AreWordValues, AreShortWords, is_null_star, kept}
-use Rattle.cell_ascii.proofs.BufferedLemmas.{both, digits_number}
-use Rattle.cell_ascii_lanes.proofs.ByteBitLemmas.{trues, ones_are}
+use Rattle.cell_ascii_lanes.specs.NullLanes.{IsNullKey}
+use Rattle.cell_ascii_lanes.proofs.BlockByteLemmas.{all_from, one_from, space_no_digit, word_of_block, bit_of}
+use Rattle.cell_ascii_lanes.proofs.NullWordLemmas.{AreNullLanes, IsNullWord, IsNumberWord, word_is}
+use Rattle.cell_ascii.proofs.BufferedLemmas.{digits_number}
+use Rattle.cell_ascii_lanes.proofs.ByteBitLemmas.{trues, ones_are, mask-take}
 use Rattle.std.specs.Int.{bit_at}
 use Rattle.std.specs.Int.RustNames.{count_ones}
 use Rattle.std.specs.Int.Count.{count_leading_zeros}
-use Rattle.std.proofs.lemmas.Simd.{bit_mask_l, mask_l-lt}
-use Rattle.std.proofs.lemmas.Nat.Bits.{bit_at_not, bit_at-zero}
+use Rattle.std.proofs.lemmas.Simd.{mask_l-lt}
+use Rattle.std.proofs.lemmas.Nat.Bits.{bit_at_not}
+use lib.Bits.{bit_and}
 use lib.Lanes.{mask_l}
-use Rattle.cell_ascii_lanes.proofs.ByteEndLemmas.{ends_of, ends_at, top, top-le, top-set, top-unset, top_is, length-ends, front, length-front, front-mask, front-trues, front-kept, front-top}
+use Rattle.cell_ascii_lanes.proofs.ByteEndLemmas.{ends_of, ends_mask, ends_at, top, top-le, top-set, top-unset, top_is, length-ends, front, length-front, front-mask, front-trues, front-kept, front-top}
 use Rattle.cell_ascii.proofs.WordLemmas.{word-more, gap-more, gap-one, HoldsLines-none}
 
 -- ---- cells of words
@@ -59,6 +64,19 @@ number_word h plain b word v digits is small =
     let other : eqb v 255 ≡ false = grind (arith, nat_tests) in
     rw other (digits_word h plain b word v digits is (omega arith))
 
+-- like `number_word`, for the first bytes of a list
+number_from : (h : HeaderValue) → HasPlainNumbers h → (n : ℕ) (bs : List ℕ) (v : ℕ) → n + 1 ≤ length bs
+    → list_all is_digit (take (n + 1) bs) ≡ true → v ≡ value_of_digits (take (n + 1) bs) → v < 255 → cell_of_word h (take (n + 1) bs) ≡ Ok (byte_cell v)
+number_from h plain n [] v within digits is small = absurd (omega arith)
+number_from h plain n (b ∷ bs) v within digits is small =
+    let next : n + 1 ≡ suc n = omega arith in
+    ap (λ m. cell_of_word h (take m (b ∷ bs))) next
+    ∙ number_word h plain b (take n bs) v (sym (ap (λ m. list_all is_digit (take m (b ∷ bs))) next) ∙ digits) (is ∙ ap (λ m. value_of_digits (take m (b ∷ bs))) next) small
+
+-- the null text denotes null
+null_text_cell : (h : HeaderValue) → cell_of_word h h.null_text ≡ Ok None
+null_text_cell h = let same : bytes_eq h.null_text h.null_text ≡ true = (bytes_eq-Decides h.null_text h.null_text).1 refl in rw same refl
+
 pub star_word : (h : HeaderValue) → h.null_text ≡ usual_null → (b : ℕ) → is_null_star b ≡ true
     → cell_of_word h (b ∷ []) ≡ Ok None
 star_word h null b star = rw (null, eqb-true b 42 star) refl
@@ -76,27 +94,18 @@ pub record IsShortBlock (bs : List ℕ) : Type 0 where
   pub behind : (i : ℕ) → i + 1 < 64 → is_null_star (get_or bs i 0) ≡ true → is_space (get_or bs (i + 1) 0) ≡ true
   pub few : (i : ℕ) → i + 3 < 64 → is_space (get_or bs i 0) ≡ false → is_space (get_or bs (i + 1) 0) ≡ false → is_space (get_or bs (i + 2) 0) ≡ false → is_space (get_or bs (i + 3) 0) ≡ true
 
--- the byte of each cell is at the last byte of the cell's word
+-- the byte of each word's cell is at the last byte of the word, and the block begins with a blank
+pub record AreWordBytes (h : HeaderValue) (bs vs : List ℕ) : Type 0 where
+  pub first : is_space (get_or bs 0 0) ≡ true
+  pub cell : (at n : ℕ) → at + 1 + n + 1 < 64 → is_space (get_or bs at 0) ≡ true
+      → ((i : ℕ) → i < n + 1 → is_space (get_or bs (at + 1 + i) 0) ≡ false) → is_space (get_or bs (at + 1 + n + 1) 0) ≡ true
+      → cell_of_word h (take (n + 1) (drop (at + 1) bs)) ≡ Ok (byte_cell (get_or vs (at + 1 + n) 0))
+
+-- the byte of each cell is at the last byte of the cell's word, in a block of short words
 pub record AreCellBytes (bs vs : List ℕ) : Type 0 where
   pub stars : (p : ℕ) → p < 64 → is_null_star (get_or bs p 0) ≡ true → get_or vs p 0 ≡ 255
   pub numbers : (at n : ℕ) → n < 3 → at + 1 + n < 64 → is_digit (get_or bs at 0) ≡ false → list_all is_digit (take (n + 1) (drop (at + 1) bs)) ≡ true
       → (get_or vs (at + 1 + n) 0 ≡ value_of_digits (take (n + 1) (drop (at + 1) bs))) × (get_or vs (at + 1 + n) 0 < 255)
-
--- a list of n bytes passes a test if each of its bytes does
-pub all_from : (f : ℕ → Bool) (n : ℕ) (xs : List ℕ) → n ≤ length xs → ((i : ℕ) → i < n → f (get_or xs i 0) ≡ true) → list_all f (take n xs) ≡ true
-all_from f zero xs le each = refl
-all_from f (suc n) [] le each = absurd (omega arith)
-all_from f (suc n) (x ∷ xs) le each = rw (each 0 (omega arith)) (all_from f n xs (omega arith) (λ i lt. each (suc i) (omega arith)))
-
--- if a list of n bytes passes a test, so does each of its bytes
-pub one_from : (f : ℕ → Bool) (n : ℕ) (xs : List ℕ) → n ≤ length xs → list_all f (take n xs) ≡ true → (i : ℕ) → i < n → f (get_or xs i 0) ≡ true
-one_from f zero xs le all i lt = absurd (omega arith)
-one_from f (suc n) [] le all i lt = absurd (omega arith)
-one_from f (suc n) (x ∷ xs) le all zero lt = (both (f x) (list_all f (take n xs)) all).0
-one_from f (suc n) (x ∷ xs) le all (suc i) lt = one_from f n xs (omega arith) (both (f x) (list_all f (take n xs)) all).1 i (omega arith)
-
-pub space_no_digit : (b : ℕ) → is_space b ≡ true → is_digit b ≡ false
-space_no_digit b e = grind (arith, nat_tests)
 
 and-false : (a : Bool) → (a && false) ≡ false
 and-false true = refl
@@ -143,8 +152,7 @@ module _ (bs : List ℕ) (long : 64 ≤ length bs) where
       ap (λ m. 64 - count_leading_zeros 64 m) (is ∙ front-mask q ends) ∙ top_is ms (omega (arith, wide)) ∙ front-top q ends in
       omega (arith, place, top_low q le)
 
-module _ (h : HeaderValue) (plain : HasPlainNumbers h) (bs : List ℕ)
-    (star_null : (p : ℕ) → p < 64 → is_null_star (get_or bs p 0) ≡ true → h.null_text ≡ usual_null) (long : 64 ≤ length bs) (block : IsShortBlock bs) (vs : List ℕ) (size : length vs ≡ 64) (bytes : AreCellBytes bs vs) where
+module _ (h : HeaderValue) (bs : List ℕ) (long : 64 ≤ length bs) (vs : List ℕ) (size : length vs ≡ 64) (bytes : AreWordBytes h bs vs) where
   abbrev byte : ℕ → ℕ
   byte p = get_or bs p 0
 
@@ -222,8 +230,8 @@ module _ (h : HeaderValue) (plain : HasPlainNumbers h) (bs : List ℕ)
     blank = 0;
     order = omega arith;
     inside = omega arith;
-    space = block.first;
-    gap = gap-one bs 0 (omega (arith, long)) block.first;
+    space = bytes.first;
+    gap = gap-one bs 0 (omega (arith, long)) bytes.first;
     word = λ i a b. absurd (omega arith);
     cells = HoldsLines-none h bs;
     top = refl;
@@ -239,81 +247,17 @@ module _ (h : HeaderValue) (plain : HasPlainNumbers h) (bs : List ℕ)
       all_from is_word_byte n (drop (s.blank + 1) bs) (omega (arith, length-drop (s.blank + 1) bs, s.inside))
       (λ i less. ap is_word_byte (get_or-drop (s.blank + 1) bs i 0) ∙ byte_word (byte (s.blank + 1 + i)) (s.word (s.blank + 1 + i) (omega arith) (omega arith)))
 
-  -- an unfinished word has at most three bytes
-  few_bytes : (k : ℕ) → k < 64 → (s : State k) → k ≤ s.blank + 3
-  few_bytes k lt s = by (leb k (s.blank + 3)) refl
-    where
-      by : (b : Bool) → leb k (s.blank + 3) ≡ b → k ≤ s.blank + 3
-      by true e = grind (arith, nat_tests)
-      by false e =
-          let more : s.blank + 3 < k = grind (arith, nat_tests) in
-          let i = s.blank + 1 in
-          let last : is_space (byte (i + 3)) ≡ false = s.word (i + 3) (omega arith) (omega arith) in
-          absurd (apart (is_space (byte (i + 3)))
-          (block.few i (omega arith) (s.word i (omega arith) (omega arith)) (s.word (i + 1) (omega arith) (omega arith)) (s.word (i + 2) (omega arith) (omega arith))) last)
-
-  -- a byte of a word of at least two bytes is a digit
-  digit_beside : (k : ℕ) → k < 64 → (s : State k) → s.blank + 1 < k → (i : ℕ) → s.blank < i → i ≤ k → is_digit (byte i) ≡ true
-  digit_beside k lt s more i above le = by (is_digit (byte i)) refl
-    where
-      by : (b : Bool) → is_digit (byte i) ≡ b → is_digit (byte i) ≡ true
-      by true e = e
-      by false e =
-          let star = block.known i (omega arith) (s.word i above le) e in
-          absurd (side (leb (i + 1) k) refl star)
-        where
-          side : (t : Bool) → leb (i + 1) k ≡ t → is_null_star (byte i) ≡ true → ⊥
-          side true o star =
-              let next : i + 1 ≤ k = grind (arith, nat_tests) in
-              apart (is_space (byte (i + 1))) (block.behind i (omega arith) star) (s.word (i + 1) (omega arith) next)
-          side false o star =
-              let whole : k < i + 1 = grind (arith, nat_tests) in
-              let same : i - 1 + 1 ≡ i = omega arith in
-              let here : is_null_star (byte (i - 1 + 1)) ≡ true = ap (λ j. is_null_star (byte j)) same ∙ star in
-              apart (is_space (byte (i - 1))) (block.before (i - 1) (omega arith) here) (s.word (i - 1) (omega arith) (omega arith))
-
   -- a word that ends denotes the cell of its byte
-  cell_ends : (k : ℕ) → k < 64 → (s : State k) → s.blank < k → cell_of_word h (take (k + 1 - (s.blank + 1)) (drop (s.blank + 1) bs)) ≡ Ok (byte_cell (get_or vs k 0))
-  cell_ends k lt s some =
+  cell_ends : (k : ℕ) → k + 1 < 64 → (s : State k) → s.blank < k → is_space (byte (k + 1)) ≡ true
+      → cell_of_word h (take (k + 1 - (s.blank + 1)) (drop (s.blank + 1) bs)) ≡ Ok (byte_cell (get_or vs k 0))
+  cell_ends k lt s some blank =
       let n = k - (s.blank + 1) in
       let count : k + 1 - (s.blank + 1) ≡ n + 1 = omega arith in
       let place : s.blank + 1 + n ≡ k = omega arith in
-      ap (λ m. cell_of_word h (take m (drop (s.blank + 1) bs))) count ∙ by n refl place
-    where
-      first : ℕ
-      first = s.blank + 1
-
-      digits : (n : ℕ) → first + n ≡ k → ((i : ℕ) → i < n + 1 → is_digit (byte (first + i)) ≡ true) → cell_of_word h (take (n + 1) (drop first bs)) ≡ Ok (byte_cell (get_or vs k 0))
-      digits n place each =
-          let within : n + 1 ≤ length (drop first bs) = omega (arith, length-drop first bs) in
-          let all = all_from is_digit (n + 1) (drop first bs) within (λ i less. ap is_digit (get_or-drop first bs i 0) ∙ each i less) in
-          let few : n < 3 = omega (arith, few_bytes k lt s) in
-          let value = bytes.numbers s.blank n few (omega arith) (space_no_digit (byte s.blank) s.space) all in
-          let here : get_or vs (first + n) 0 ≡ get_or vs k 0 = ap (λ j. get_or vs j 0) place in
-          let front : drop first bs ≡ byte first ∷ drop (first + 1) bs = drop_more bs first 0 (omega arith) in
-          let next : n + 1 ≡ suc n = omega arith in
-          let word : take (n + 1) (drop first bs) ≡ byte first ∷ take n (drop (first + 1) bs) = ap₂ take next front in
-          ap (cell_of_word h) word
-          ∙ number_word h plain (byte first) (take n (drop (first + 1) bs)) (get_or vs k 0)
-          (sym (ap (list_all is_digit) word) ∙ all) (sym here ∙ value.0 ∙ ap value_of_digits word) (rw here at value.1)
-
-      by : (n : ℕ) → k - first ≡ n → first + n ≡ k → cell_of_word h (take (n + 1) (drop first bs)) ≡ Ok (byte_cell (get_or vs k 0))
-      by zero e place = kind (is_digit (byte first)) refl
-        where
-          here : first ≡ k
-          here = omega arith
-
-          kind : (b : Bool) → is_digit (byte first) ≡ b → cell_of_word h (take (zero + 1) (drop first bs)) ≡ Ok (byte_cell (get_or vs k 0))
-          kind true d = digits zero place (λ i less. let none : first + i ≡ first = omega arith in ap (λ j. is_digit (byte j)) none ∙ d)
-          kind false d =
-              let star = block.known first (omega arith) (s.word first (omega arith) (omega arith)) d in
-              let front : drop first bs ≡ byte first ∷ drop (first + 1) bs = drop_more bs first 0 (omega arith) in
-              let there : is_null_star (byte k) ≡ true = ap (λ j. is_null_star (byte j)) (sym here) ∙ star in
-              let null : get_or vs k 0 ≡ 255 = bytes.stars k lt there in
-              let usual = star_null first (omega arith) star in
-              ap (λ l. cell_of_word h (take 1 l)) front ∙ star_word h usual (byte first) star ∙ ap (λ v. Ok (byte_cell v)) (sym null)
-      by (suc n) e place =
-          digits (suc n) place (λ i less. digit_beside k lt s (omega arith) (first + i) (omega arith) (omega arith))
+      let next : s.blank + 1 + n + 1 ≡ k + 1 = omega arith in
+      ap (λ m. cell_of_word h (take m (drop (s.blank + 1) bs))) count
+      ∙ bytes.cell s.blank n (omega arith) s.space (λ i less. s.word (s.blank + 1 + i) (omega arith) (omega arith)) (ap (λ p. is_space (byte p)) next ∙ blank)
+      ∙ ap (λ p. Ok (byte_cell (get_or vs p 0))) place
 
   step : (k : ℕ) → k + 1 < 64 → State k → State (k + 1)
   step k lt s = by (is_space (byte (k + 1))) refl (leb k s.blank) refl
@@ -376,7 +320,7 @@ module _ (h : HeaderValue) (plain : HasPlainNumbers h) (bs : List ℕ)
           let n : k + 1 - (s.blank + 1) ≡ k - s.blank = omega arith in
           let word = ap (λ j. list_all is_word_byte (take j (drop (s.blank + 1) bs))) n ∙ word_bytes k here s (k - s.blank) (omega (arith, s.inside)) in
           let all = word-more h bs (cells_of_bytes (kept (take k es) vs)) (trues (take k es)) s.last (s.blank + 1) (k + 1) (byte_cell v)
-          (omega (arith, s.order)) (omega arith) lt inside s.gap word e (cell_ends k here s some) s.cells in
+          (omega (arith, s.order)) (omega arith) lt inside s.gap word e (cell_ends k lt s some e) s.cells in
           record {
             last = k + 1;
             blank = k + 1;
@@ -425,6 +369,118 @@ module _ (h : HeaderValue) (plain : HasPlainNumbers h) (bs : List ℕ)
       let cells = done.1 ∙ front-kept q es vs in
       rw (cells, number, place) (holds q le)
 
+-- ---- stars and numbers
+
+module _ (h : HeaderValue) (plain : HasPlainNumbers h) (usual : h.null_text ≡ usual_null) (bs : List ℕ)
+    (long : 64 ≤ length bs)
+    (block : IsShortBlock bs) (vs : List ℕ) (bytes : AreCellBytes bs vs) where
+  abbrev at_byte : ℕ → ℕ
+  at_byte p = get_or bs p 0
+
+  module _ (at n : ℕ) (last : at + 1 + n + 1 < 64) (before : is_space (at_byte at) ≡ true)
+      (word : (i : ℕ) → i < n + 1 → is_space (at_byte (at + 1 + i)) ≡ false)
+      (after : is_space (at_byte (at + 1 + n + 1)) ≡ true) where
+    -- a word has at most three bytes
+    few_bytes : n < 3
+    few_bytes = by (leb n 2) refl
+      where
+        by : (b : Bool) → leb n 2 ≡ b → n < 3
+        by true e = let le : n ≤ 2 = grind (arith, nat_tests) in omega arith
+        by false e =
+            let more : 2 < n = grind (arith, nat_tests) in
+            let i = at + 1 in
+            let first : i + 0 ≡ i = omega arith in
+            absurd (apart (is_space (at_byte (i + 3)))
+            (block.few i (omega arith) (ap (λ p. is_space (at_byte p)) (sym first) ∙ word 0 (omega arith))
+            (word 1 (omega arith)) (word 2 (omega arith))) (word 3 (omega arith)))
+
+    -- a byte of a word of at least two bytes is a digit
+    digit_beside : 0 < n → (i : ℕ) → i < n + 1 → is_digit (at_byte (at + 1 + i)) ≡ true
+    digit_beside more i lt = by (is_digit (at_byte (at + 1 + i))) refl
+      where
+        by : (b : Bool) → is_digit (at_byte (at + 1 + i)) ≡ b → is_digit (at_byte (at + 1 + i)) ≡ true
+        by true e = e
+        by false e = absurd (side i lt (block.known (at + 1 + i) (omega arith) (word i lt) e))
+          where
+            side : (i : ℕ) → i < n + 1 → is_null_star (at_byte (at + 1 + i)) ≡ true → ⊥
+            side zero less star =
+                let next : at + 1 + 0 + 1 ≡ at + 1 + 1 = omega arith in
+                apart (is_space (at_byte (at + 1 + 1)))
+                (ap (λ p. is_space (at_byte p)) (sym next) ∙ block.behind (at + 1 + 0) (omega arith) star)
+                (word 1 (omega arith))
+            side (suc j) less star =
+                let next : at + 1 + j + 1 ≡ at + 1 + suc j = omega arith in
+                apart (is_space (at_byte (at + 1 + j)))
+                (block.before (at + 1 + j) (omega arith) (ap (λ p. is_null_star (at_byte p)) next ∙ star))
+                (word j (omega arith))
+
+    cell_of : cell_of_word h (take (n + 1) (drop (at + 1) bs)) ≡ Ok (byte_cell (get_or vs (at + 1 + n) 0))
+    cell_of = by n refl
+      where
+        first : ℕ
+        first = at + 1
+
+        front : drop first bs ≡ at_byte first ∷ drop (first + 1) bs
+        front = drop_more bs first 0 (omega (arith, long))
+
+        digits : ((i : ℕ) → i < n + 1 → is_digit (at_byte (first + i)) ≡ true)
+            → cell_of_word h (take (n + 1) (drop first bs)) ≡ Ok (byte_cell (get_or vs (first + n) 0))
+        digits each =
+            let within : n + 1 ≤ length (drop first bs) = omega (arith, length-drop first bs, long) in
+            let all = all_from is_digit (n + 1) (drop first bs) within
+            (λ i less. ap is_digit (get_or-drop first bs i 0) ∙ each i less) in
+            let value = bytes.numbers at n few_bytes (omega arith) (space_no_digit (at_byte at) before) all in
+            number_from h plain n (drop first bs) (get_or vs (first + n) 0) within all value.0 value.1
+
+        by : (m : ℕ) → n ≡ m → cell_of_word h (take (n + 1) (drop first bs)) ≡ Ok (byte_cell (get_or vs (first + n) 0))
+        by zero e = kind (is_digit (at_byte first)) refl
+          where
+            one : n + 1 ≡ 1
+            one = omega arith
+
+            place : first + n ≡ first
+            place = omega arith
+
+            kind : (b : Bool) → is_digit (at_byte first) ≡ b
+                → cell_of_word h (take (n + 1) (drop first bs)) ≡ Ok (byte_cell (get_or vs (first + n) 0))
+            kind true d = digits (λ i less. let none : first + i ≡ first = omega arith in ap
+                (λ j. is_digit (at_byte j)) none ∙ d)
+            kind false d =
+                let here : first + 0 ≡ first = omega arith in
+                let star = block.known first (omega arith)
+                (ap (λ j. is_space (at_byte j)) (sym here) ∙ word 0 (omega arith)) d in
+                let null : get_or vs (first + n) 0 ≡ 255 = ap (λ p. get_or vs p 0) place
+                ∙ bytes.stars first (omega arith) star in
+                ap₂ (λ m l. cell_of_word h (take m l)) one front ∙ star_word h usual (at_byte first) star
+                ∙ ap (λ v. Ok (byte_cell v)) (sym null)
+        by (suc m) e = digits (digit_beside (omega arith))
+
+  pub star_bytes : AreWordBytes h bs vs
+  star_bytes = record { first = block.first; cell = cell_of }
+
+-- ---- null words and numbers
+
+pub null_bytes : (h : HeaderValue) (plain : HasPlainNumbers h) (bs : List ℕ) (long : 72 ≤ length bs)
+    (fits : (k : ℕ) → get_or bs k 0 < 256)
+    (lanes : List ℕ) (key size : ℕ) (is : IsNullKey h.null_text key size) (block : AreNullLanes bs lanes key size)
+    → (0 < block.starts → 0 < size)
+    → is_space (get_or bs 0 0) ≡ true → AreWordBytes h bs (take 64 lanes)
+null_bytes h plain bs long fits lanes key size is block some first = record {
+  first = first;
+  cell = λ at n last before word after.
+      by at n last (word_is bs long fits lanes h.null_text key size is block some at n last before word after);
+}
+  where
+    by : (at n : ℕ) → at + 1 + n + 1 < 64 → IsNullWord bs lanes h.null_text at n ⊎ IsNumberWord bs lanes at n
+        → cell_of_word h (take (n + 1) (drop (at + 1) bs)) ≡ Ok (byte_cell (get_or (take 64 lanes) (at + 1 + n) 0))
+    by at n last (inl (word, lane)) =
+        ap (cell_of_word h) word ∙ null_text_cell h
+        ∙ ap (λ v. Ok (byte_cell v)) (sym (get_or-take 64 lanes (at + 1 + n) 0 (omega arith) ∙ lane))
+    by at n last (inr (digits, (value, small))) =
+        number_from h plain n (drop (at + 1) bs) (get_or lanes (at + 1 + n) 0)
+        (omega (arith, length-drop (at + 1) bs, long)) digits value small
+        ∙ ap (λ v. Ok (byte_cell v)) (sym (get_or-take 64 lanes (at + 1 + n) 0 (omega arith)))
+
 -- ---- from bits to bytes
 
 abbrev bit : Bool → ℕ
@@ -434,20 +490,6 @@ module _ (bs : List ℕ) (long : 64 ≤ length bs) where
   wide : length (take 64 bs) ≡ 64
   wide = omega (arith, length-take 64 bs)
 
-  pub bit_of : (f : ℕ → Bool) (i : ℕ) → i < 64 → bit_at (mask_l (map f (take 64 bs))) i ≡ bit (f (get_or bs i 0))
-  bit_of f i lt =
-      bit_mask_l (map f (take 64 bs)) i ∙ ap bit (get_or-map f (take 64 bs) i 0 false (omega (arith, wide)) ∙ ap f (get_or-take 64 bs i 0 lt))
-
-  -- if a byte is a star, the null text is a star
-  pub star_of : (null : List ℕ) (stars : ℕ) → stars ≡ mask_l (map is_null_star (take 64 bs)) → (nulls : Bool)
-      → (nulls ≡ true → null ≡ usual_null) → (nulls ≡ false → stars ≡ 0)
-      → (p : ℕ) → p < 64 → is_null_star (get_or bs p 0) ≡ true → null ≡ usual_null
-  star_of null stars is true usual none p lt star = usual refl
-  star_of null stars is false usual none p lt star =
-      let set : bit_at stars p ≡ 1 = ap (λ n. bit_at n p) is ∙ bit_of is_null_star p lt ∙ ap bit star in
-      let unset : bit_at stars p ≡ 0 = ap (λ n. bit_at n p) (none refl) ∙ bit_at-zero p in
-      absurd (omega (arith, set, unset))
-
   abbrev words : ℕ
   words = 18446744073709551615 - mask_l (blanks bs)
 
@@ -455,7 +497,7 @@ module _ (bs : List ℕ) (long : 64 ≤ length bs) where
   mask-small = let size : length (blanks bs) ≡ 64 = length-map (take 64 bs) is_space ∙ wide in rw size at (mask_l-lt (blanks bs))
 
   pub word_at : (i : ℕ) → i < 64 → bit_at words i ≡ 1 - bit (is_space (get_or bs i 0))
-  word_at i lt = bit_at_not w64 (mask_l (blanks bs)) i mask-small lt ∙ ap (λ n. 1 - n) (bit_of is_space i lt)
+  word_at i lt = bit_at_not w64 (mask_l (blanks bs)) i mask-small lt ∙ ap (λ n. 1 - n) (bit_of bs long is_space i lt)
 
   on : (b : Bool) → bit b ≡ 1 → b ≡ true
   on true e = refl
@@ -469,11 +511,11 @@ module _ (bs : List ℕ) (long : 64 ≤ length bs) where
   short_block is = record {
     first = off (is_space (get_or bs 0 0)) (sym (word_at 0 (omega arith)) ∙ is.first);
     known = λ i lt space digit.
-        on (is_null_star (get_or bs i 0)) (sym (bit_of is_null_star i lt) ∙ is.known i lt (word_at i lt ∙ ap (λ b. 1 - bit b) space) (bit_of is_digit i lt ∙ ap bit digit));
+        on (is_null_star (get_or bs i 0)) (sym (bit_of bs long is_null_star i lt) ∙ is.known i lt (word_at i lt ∙ ap (λ b. 1 - bit b) space) (bit_of bs long is_digit i lt ∙ ap bit digit));
     before = λ i lt star.
-        off (is_space (get_or bs i 0)) (sym (word_at i (omega arith)) ∙ is.before i lt (bit_of is_null_star (i + 1) lt ∙ ap bit star));
+        off (is_space (get_or bs i 0)) (sym (word_at i (omega arith)) ∙ is.before i lt (bit_of bs long is_null_star (i + 1) lt ∙ ap bit star));
     behind = λ i lt star.
-        off (is_space (get_or bs (i + 1) 0)) (sym (word_at (i + 1) lt) ∙ is.behind i (bit_of is_null_star i (omega arith) ∙ ap bit star));
+        off (is_space (get_or bs (i + 1) 0)) (sym (word_at (i + 1) lt) ∙ is.behind i (bit_of bs long is_null_star i (omega arith) ∙ ap bit star));
     few = λ i lt a b d.
         off (is_space (get_or bs (i + 3) 0)) (sym (word_at (i + 3) lt) ∙ is.few i lt (word_at i (omega arith) ∙ ap (λ x. 1 - bit x) a)
         (word_at (i + 1) (omega arith) ∙ ap (λ x. 1 - bit x) b) (word_at (i + 2) (omega arith) ∙ ap (λ x. 1 - bit x) d));
@@ -487,10 +529,7 @@ module _ (bs : List ℕ) (long : 64 ≤ length bs) where
     numbers = λ at n few lt none digits.
         let p = at + 1 + n in
         let short : at < 64 = omega arith in
-        let parts : 64 ≡ at + 1 + (64 - (at + 1)) = omega arith in
-        let less : n + 1 ≤ 64 - (at + 1) = omega arith in
-        let same : take (n + 1) (drop (at + 1) (take 64 bs)) ≡ take (n + 1) (drop (at + 1) bs) =
-        ap (λ m. take (n + 1) (drop (at + 1) (take m bs))) parts ∙ ap (take (n + 1)) (drop-take (at + 1) (64 - (at + 1)) bs) ∙ take-take (n + 1) (64 - (at + 1)) (drop (at + 1) bs) less in
+        let same = word_of_block bs (at + 1) (n + 1) (omega arith) in
         let value = is at n few lt (ap is_digit (get_or-take 64 bs at 0 short) ∙ none) (ap (list_all is_digit) same ∙ digits) in
         let within : n + 1 ≤ length (drop (at + 1) bs) = omega (arith, length-drop (at + 1) bs, long) in
         let last = sym (ap is_digit (get_or-drop (at + 1) bs n 0)) ∙ one_from is_digit (n + 1) (drop (at + 1) bs) within digits n (omega arith) in
@@ -500,3 +539,10 @@ module _ (bs : List ℕ) (long : 64 ≤ length bs) where
     where
       lane : (p : ℕ) → p < 64 → get_or (take 64 lanes) p 0 ≡ cond (is_null_star (get_or bs p 0)) 255 (get_or values p 0)
       lane p lt = get_or-take 64 lanes p 0 lt ∙ each p lt ∙ ap (λ b. cond (is_null_star b) 255 (get_or values p 0)) (get_or-take 64 bs p 0 lt)
+
+-- the ends of words are computed from the bits of the blanks
+pub ends_are : (bs : List ℕ) → 64 ≤ length bs → (m lasts q : ℕ) → m ≡ mask_l (blanks bs)
+    → lasts ≡ bit_and (18446744073709551615 - m) (m / 2) % 2 ^ q → lasts ≡ mask_l (take q (ends_of (blanks bs)))
+ends_are bs long m lasts q is cut =
+    cut ∙ ap (λ n. bit_and (18446744073709551615 - n) (n / 2) % 2 ^ q) is
+    ∙ ap (λ n. n % 2 ^ q) (ends_mask (blanks bs) (sixty_four_ends bs long)) ∙ mask-take q (ends_of (blanks bs))

@@ -6,7 +6,6 @@ pub mod AgainLemmas
 pub mod ByteBlockLemmas
 pub mod NumberWordLemmas
 pub mod BitLemmas
-pub mod DigitLemmas
 pub mod RunLemmas
 pub mod WordLemmas
 pub mod RowReadLemmas

@@ -16,7 +16,8 @@ use Rattle.cell_ascii_reading.specs.InRange.{HasPlainNumbers}
 use Rattle.cell_ascii_lanes.specs.NumberLanes.{AreNumberWords}
 use Rattle.cell_ascii.proofs.BitLemmas.{NextEnd, next_end}
 use Rattle.cell_ascii.proofs.WordLemmas.{word-more, gap-one}
-use Rattle.cell_ascii.proofs.ByteBlockLemmas.{all_from, one_from, bit_of, digits_word}
+use Rattle.cell_ascii_lanes.proofs.BlockByteLemmas.{all_from, one_from, bit_of}
+use Rattle.cell_ascii.proofs.ByteBlockLemmas.{digits_word}
 use lib.Bits.{bit_and}
 use lib.Count.{count_trailing_zeros}
 use lib.Lanes.{mask_l}

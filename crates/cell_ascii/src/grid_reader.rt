@@ -21,11 +21,12 @@ ghost use Rattle.cell_ascii_reading.specs.InRange.{HasPlainNumbers};
 ghost use Rattle.cell_ascii.specs.parts.FrontCells.{front_cells, rows_of, IsFront};
 ghost use Rattle.cell_ascii.specs.parts.Unread.{IsUnread, IsAtData, HasRows};
 
-use crate::byte_words::{BLOCK, MORE_BYTES, bytes_in, has_short_runs};
+use crate::byte_words::{LEAST_BUFFERED, MORE_BYTES, short_words_in};
 use crate::opening::{read_opening, read_token};
 use crate::pace::Pace;
 use crate::short_cells::cells_in;
 use crate::word_table::WordTable;
+use cell_ascii_lanes::run_lanes::has_short_runs;
 use cell_ascii_meaning::grid_fault::{GridFault, GridKind};
 use cell_ascii_reading::header::Header;
 use cell_ascii_reading::scanner::{Next, Scanner};
@@ -184,8 +185,12 @@ impl<R: Source> CellReader<R> {
         if self.waiting || !self.scanner.is_behind_word() {
             return 0;
         }
-        let is_star_null = self.words.header().is_star_null();
-        let (count, size, lines) = bytes_in(self.scanner.buffered_bytes(), row, most, is_star_null);
+        let (count, size, lines) = short_words_in(
+            self.scanner.buffered_bytes(),
+            row,
+            most,
+            self.words.header(),
+        );
         if count > 0 {
             self.scanner.pass(size);
             self.scanner.count_lines(lines);
@@ -193,9 +198,9 @@ impl<R: Source> CellReader<R> {
         count
     }
 
-    // Returns whether fewer than 64 bytes are buffered, or a word is pending, so that no block can be read.
+    // Returns whether fewer than 72 bytes are buffered, or a word is pending, so that no block can be read.
     fn is_at_seam(&self) -> bool {
-        self.waiting || self.scanner.buffered_bytes().len() < BLOCK
+        self.waiting || self.scanner.buffered_bytes().len() < LEAST_BUFFERED
     }
 
     // Reads the next cell, byte by byte.

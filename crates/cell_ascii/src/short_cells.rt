@@ -8,20 +8,17 @@ ghost use Rattle.cell_ascii.specs.parts.InLine.{AreCellsInLine};
 
 use crate::pace::{Pace, Way};
 use crate::word_table::WordTable;
+use cell_ascii_lanes::run_lanes::{LANES, front_alike};
 use cell_ascii_reading::header::Header;
 use cell_ascii_reading::scanner::is_space;
 use cell_core::cell::Cell;
 use cell_core_values::whole_numbers::is_digit;
-use std::simd::prelude::*;
 
 // Maximum number of digits for which every number fits in 32 bits.
 pub(crate) const MOST_DIGITS: usize = 9;
 
 // Maximum length of a word.
 const MOST_BYTES: usize = 64;
-
-// Number of bytes compared at once.
-const LANES: usize = 16;
 
 // Looking for repeated words runs on credit: each word costs credit, each repetition earns 1, up to a maximum. When the
 // credit is used up, cells are read one by one for a while.
@@ -189,24 +186,6 @@ fn buffered_cell(buffered: &[u8], header: &Header) -> Option<(Cell, usize)>
     match short_number_in(buffered) {
         Some((number, n)) => buffered_number_cell(buffered, header, number, n),
         None => other_cell_in(buffered, header),
-    }
-}
-
-// Returns the length of the common prefix of two slices, at most 16.
-#[inline(always)]
-fn front_alike(a: &[u8], b: &[u8]) -> usize
-    requires left { 16 ≤ length a.now }
-    requires right { 16 ≤ length b.now }
-    ensures alike { take result a.now ≡ take result b.now }
-    ensures few { result ≤ 16 }
-{
-    let differ = u8x16::from_slice(a)
-        .simd_ne(u8x16::from_slice(b))
-        .to_bitmask();
-    if differ == 0 {
-        LANES
-    } else {
-        differ.trailing_zeros() as usize
     }
 }
 

@@ -14,12 +14,12 @@ ghost use Rattle.cell_ascii_reading.specs.InRange.{HasPlainNumbers};
 ghost use Rattle.cell_ascii.specs.parts.BlankRuns.{IsAtBlank, IsBehindBlanks};
 
 use crate::number_words::block_numbers_in;
-use crate::short_cells::{MOST_DIGITS, negative};
+use crate::short_cells::negative;
+use cell_ascii_lanes::digit_words::{value_of, word_key};
 use cell_ascii_lanes::word_lanes::space_mask;
 use cell_ascii_reading::header::Header;
 use cell_core::cell::Cell;
 use cell_core::memory::Memory;
-use cell_core_values::whole_numbers::is_digit;
 use std::alloc::Global;
 use std::marker::Model;
 use std::simd::prelude::*;
@@ -106,17 +106,15 @@ fn pass_blanks(ends: u64, at: usize) -> (usize, u64)
     (carried.trailing_zeros() as usize, ends & carried)
 }
 
-// Packs the first bytes of a word into the upper bytes of a number.
+// Returns a key that contains the bytes of a word.
 #[inline(always)]
-fn word_key(bytes: &[u8], size: usize) -> u64
+fn kept_key(bytes: &[u8], size: usize) -> u64
     requires some { 0 < size }
     requires few { size ≤ 8 }
     requires buffered { 8 ≤ length bytes.now }
-    ensures kept { kept_bytes result size ≡ take size bytes.now }
-    ensures word { result ≡ number_l 256 (replicate (8 - size) 0 ++ take size bytes.now) }
+    ensures { kept_bytes result size ≡ take size bytes.now }
 {
-    let [all] = u64x1::from_le_bytes(u8x8::from_slice(bytes)).to_array();
-    all << (64 - 8 * size)
+    word_key(bytes, size)
 }
 
 // Returns the table index of a word.
@@ -125,66 +123,6 @@ fn word_place(key: u64) -> usize
     ensures { result < 4096 }
 {
     (key.wrapping_mul(0x9E37_79B9_7F4A_7C15) >> (64 - PLACE_BITS)) as usize
-}
-
-// Counts the digits at the start of the first eight bytes. If all eight are digits, the result may exceed 8.
-#[inline(always)]
-fn digits_at(bytes: &[u8]) -> usize
-    requires { 8 ≤ length bytes.now }
-    ensures { (n : ℕ) → n ≤ 8 → n ≤ result → list_all is_digit (take n bytes.now) ≡ true }
-{
-    let values = u8x8::from_slice(bytes) - u8x8::splat(b'0');
-    values
-        .simd_ge(u8x8::splat(10))
-        .to_bitmask()
-        .trailing_zeros() as usize
-}
-
-// Returns the value of `size` digits. Three multiplications combine digits into pairs, pairs into groups of four, and
-// groups into eight digits.
-#[inline(always)]
-fn digits_value(bytes: &[u8], size: usize) -> u64
-    requires some { 0 < size }
-    requires few { size ≤ 8 }
-    requires buffered { 8 ≤ length bytes.now }
-    requires digits { list_all is_digit (take size bytes.now) ≡ true }
-    ensures value { result ≡ value_of_digits (take size bytes.now) }
-    ensures small { result < 100000000 }
-{
-    let word = word_key(bytes, size) & 0x0f0f_0f0f_0f0f_0f0f;
-    let pairs = word.wrapping_mul(10).wrapping_add(word >> 8);
-    let first = (pairs & 0x0000_00ff_0000_00ff).wrapping_mul(100 + (1_000_000 << 32));
-    let second = ((pairs >> 16) & 0x0000_00ff_0000_00ff).wrapping_mul(1 + (10_000 << 32));
-    first.wrapping_add(second) >> 32
-}
-
-// Returns the value of nine digits.
-fn nine_value(bytes: &[u8], size: usize) -> Option<u32>
-    requires { 9 ≤ length bytes.now }
-    ensures { IfSome result (λ value. digits_of (take size bytes.now) ≡ Some value) }
-{
-    if size != MOST_DIGITS || digits_at(bytes) < MOST_KEPT {
-        return None;
-    }
-    if !is_digit(bytes[MOST_KEPT]) {
-        return None;
-    }
-    Some(digits_value(bytes, MOST_KEPT) as u32 * 10 + (bytes[MOST_KEPT] - b'0') as u32)
-}
-
-// Returns the value of one to nine digits.
-#[inline(always)]
-fn value_of(bytes: &[u8], size: usize) -> Option<u32>
-    requires { 9 ≤ length bytes.now }
-    ensures { IfSome result (λ value. digits_of (take size bytes.now) ≡ Some value) }
-{
-    if size > MOST_KEPT {
-        return nine_value(bytes, size);
-    }
-    if size == 0 || digits_at(bytes) < size {
-        return None;
-    }
-    Some(digits_value(bytes, size) as u32)
 }
 
 // Returns the number that a word of one to nine digits denotes, with an optional minus sign.
@@ -238,7 +176,7 @@ fn keep_word(bytes: &[u8], size: usize, cell: Cell, header: &Header, entries: &m
     if size > MOST_KEPT {
         return;
     }
-    let key = word_key(bytes, size);
+    let key = kept_key(bytes, size);
     entries[word_place(key)] = WordEntry {
         key,
         size: size as u32,
@@ -294,7 +232,7 @@ fn put_cell<const SOUGHT: bool>(
         return true;
     }
     if size <= MOST_KEPT {
-        let key = word_key(bytes, size);
+        let key = kept_key(bytes, size);
         let entry = entries[word_place(key)];
         if entry.key == key && entry.size as usize == size {
             row[i] = entry.cell;

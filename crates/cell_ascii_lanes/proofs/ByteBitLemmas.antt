@@ -66,7 +66,7 @@ shl_two n i lt =
     let half : n * 4 / 2 / 2 ≡ n = omega arith in
     bit_below (n * 4) (i + 2) lt ∙ ap (bit_at (n * 4)) next ∙ bit_at-suc (n * 4) (suc i) ∙ bit_at-suc (n * 4 / 2) i ∙ ap (λ m. bit_at m i) half
 
-shr_one : (n i : ℕ) → bit_at (n / 2) i ≡ bit_at n (i + 1)
+pub shr_one : (n i : ℕ) → bit_at (n / 2) i ≡ bit_at n (i + 1)
 shr_one n i = let next : suc i ≡ i + 1 = omega arith in sym (bit_at-suc n i) ∙ ap (bit_at n) next
 
 -- ---- short words

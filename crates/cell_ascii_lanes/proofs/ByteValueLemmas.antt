@@ -1,5 +1,5 @@
 -- Values of words of one to three digits.
-use Rattle.std.proofs.Common.{◌≡◌, ℕ, zero, suc, ◌+◌, ◌-◌, ◌*◌, ◌%◌, ◌^◌, ◌<◌, ◌≤◌, ltb, leb, Bool, true, false, min, List, [], ◌∷◌, length, take, drop, get_or, refl, sym, ap, ap₂, ◌∙◌, arith}
+use Rattle.std.proofs.Common.{◌≡◌, ℕ, zero, suc, ◌+◌, ◌-◌, ◌*◌, ◌%◌, ◌^◌, ◌<◌, ◌≤◌, ltb, leb, Bool, true, false, min, List, [], ◌∷◌, length, take, drop, get_or, refl, sym, ap, ap₂, ◌∙◌, arith, w8, Fits}
 use Rattle.std.specs.Prelude.{◌&&◌}
 use Rattle.std.specs.List.{list_all}
 use Rattle.std.proofs.lemmas.List.{drop_more}
@@ -9,10 +9,17 @@ use Rattle.cell_core_values.specs.Digits.{is_digit, value_of_digits}
 use Rattle.cell_ascii_lanes.specs.WordLanes.{AreWordValues}
 use Rattle.cell_ascii_lanes.specs.parts.LaneTables.{table_place, place_at, as_one, as_ten, as_hundred, ones_of_digit, capped_sum, more_at, lane_before}
 use lib.Bits.{bit_and}
+use lib.Lanes.{Each1}
 
-both : (a b : Bool) → (a && b) ≡ true → (a ≡ true) × (b ≡ true)
+pub both : (a b : Bool) → (a && b) ≡ true → (a ≡ true) × (b ≡ true)
 both true b e = (refl, e)
 both false b e = cc
+
+-- a lane is below 256
+pub all_fit : (xs : List ℕ) → Each1 (Fits w8) xs → (k : ℕ) → get_or xs k 0 < 256
+all_fit [] f k = omega arith
+all_fit (x ∷ xs) f zero = f.0.fits
+all_fit (x ∷ xs) f (suc k) = all_fit xs f.1 k
 
 -- ---- the amount that one byte adds
 
@@ -168,17 +175,34 @@ module _ (bytes : List ℕ) (size : length bytes ≡ 64) (fits : (k : ℕ) → g
         let low = ap (λ p. get_or values p 0) here in
         (low ∙ omega (arith, v, small, sum, first.least, first.most, second.least, second.most, is.least, is.most), omega (arith, low, small))
 
-  -- the sums of two digits are the values of words if no three digits are in a row
-  pub values_of_two : (values : List ℕ) → ((p : ℕ) → p < 64 → get_or values p 0 ≡ capped_sum (as_one (place_at bytes p)) (as_ten (place_at bytes (lane_before p))))
-      → ((p : ℕ) → p + 2 < 64 → is_digit (byte p) ≡ true → is_digit (byte (p + 1)) ≡ true → is_digit (byte (p + 2)) ≡ true → ⊥) → AreWordValues bytes values
-  values_of_two values sums not_three at zero few lt none digits =
+  -- the sum of two digits is the value of a word of one or two
+  pub value_at_two : (values : List ℕ)
+      → ((p : ℕ) → p < 64
+      → get_or values p 0 ≡ capped_sum (as_one (place_at bytes p)) (as_ten (place_at bytes (lane_before p))))
+      → (at n : ℕ) → n < 2 → at + 1 + n < 64 → (none : is_digit (byte at) ≡ false) → Digits values at none n
+      → IsWord values at none n
+  value_at_two values sums at zero few lt none digits =
       let here : at + 1 < 64 = omega arith in
       let no = adds_nothing (byte at) (fits at) none in
-      of_one values at none (as_ten (place_at bytes (lane_before (at + 1)))) (ap (λ q. as_ten (place_at bytes q)) (before at here) ∙ no.ten) here digits (sums (at + 1) here)
-  values_of_two values sums not_three at (suc zero) few lt none digits =
+      of_one values at none (as_ten (place_at bytes (lane_before (at + 1))))
+      (ap (λ q. as_ten (place_at bytes q)) (before at here) ∙ no.ten) here digits (sums (at + 1) here)
+  value_at_two values sums at (suc zero) few lt none digits =
       let here : at + 1 + 1 < 64 = omega arith in
       let first = adding (byte (at + 1)) (two_digits values at none here digits).0 in
-      of_two values at none (as_ten (place_at bytes (lane_before (at + 1 + 1)))) (ap (λ q. as_ten (place_at bytes q)) (before (at + 1) here) ∙ first.ten) here digits (sums (at + 1 + 1) here)
+      of_two values at none (as_ten (place_at bytes (lane_before (at + 1 + 1))))
+      (ap (λ q. as_ten (place_at bytes q)) (before (at + 1) here) ∙ first.ten) here digits (sums (at + 1 + 1) here)
+  value_at_two values sums at (suc (suc n)) few lt none digits = absurd (omega arith)
+
+  -- the sums of two digits are the values of words if no three digits are in a row
+  pub values_of_two : (values : List ℕ)
+      → ((p : ℕ) → p < 64
+      → get_or values p 0 ≡ capped_sum (as_one (place_at bytes p)) (as_ten (place_at bytes (lane_before p))))
+      → ((p : ℕ) → p + 2 < 64 → is_digit (byte p) ≡ true → is_digit (byte (p + 1)) ≡ true
+      → is_digit (byte (p + 2)) ≡ true → ⊥) → AreWordValues bytes values
+  values_of_two values sums not_three at zero few lt none digits = value_at_two values sums at zero (omega arith) lt
+      none digits
+  values_of_two values sums not_three at (suc zero) few lt none digits = value_at_two values sums at (suc zero)
+      (omega arith) lt none digits
   values_of_two values sums not_three at (suc (suc zero)) few lt none digits =
       let here : at + 1 + 1 + 1 < 64 = omega arith in
       let all = three_digits values at none here digits in
@@ -187,21 +211,45 @@ module _ (bytes : List ℕ) (size : length bytes ≡ 64) (fits : (k : ℕ) → g
       absurd (not_three (at + 1) within all.0 all.1.0 (ap (λ p. is_digit (byte p)) (sym third) ∙ all.1.1))
   values_of_two values sums not_three at (suc (suc (suc n))) few lt none digits = absurd (omega arith)
 
-  -- the sums of three digits are the values of words if each sum is below 255
-  pub values_of_three : (values : List ℕ) → ((p : ℕ) → p < 64 → get_or values p 0 ≡ capped_sum (as_one (place_at bytes p)) (more_at bytes (lane_before p)))
-      → ((p : ℕ) → p < 64 → is_digit (byte p) ≡ true → get_or values p 0 < 255) → AreWordValues bytes values
-  values_of_three values sums small at zero few lt none digits =
+  -- the sum of three digits is the value of a word of at most three if it is below 255
+  pub value_at_three : (values : List ℕ)
+      → ((p : ℕ) → p < 64 → get_or values p 0 ≡ capped_sum (as_one (place_at bytes p)) (more_at bytes (lane_before p)))
+      → (at n : ℕ) → n < 3 → at + 1 + n < 64 → (none : is_digit (byte at) ≡ false) → Digits values at none n
+      → get_or values (at + 1 + n) 0 < 255 → IsWord values at none n
+  value_at_three values sums at zero few lt none digits small =
       let here : at + 1 < 64 = omega arith in
-      of_one values at none (more_at bytes (lane_before (at + 1))) (ap (more_at bytes) (before at here) ∙ more_of_none at none) here digits (sums (at + 1) here)
-  values_of_three values sums small at (suc zero) few lt none digits =
+      of_one values at none (more_at bytes (lane_before (at + 1)))
+      (ap (more_at bytes) (before at here) ∙ more_of_none at none) here digits (sums (at + 1) here)
+  value_at_three values sums at (suc zero) few lt none digits small =
       let here : at + 1 + 1 < 64 = omega arith in
       let first : at + 1 < 64 = omega arith in
       of_two values at none (more_at bytes (lane_before (at + 1 + 1)))
-      (ap (more_at bytes) (before (at + 1) here) ∙ more_of_one at first none (two_digits values at none here digits).0) here digits (sums (at + 1 + 1) here)
-  values_of_three values sums small at (suc (suc zero)) few lt none digits =
+      (ap (more_at bytes) (before (at + 1) here)
+      ∙ more_of_one at first none (two_digits values at none here digits).0) here digits (sums (at + 1 + 1) here)
+  value_at_three values sums at (suc (suc zero)) few lt none digits small =
       let here : at + 1 + 1 + 1 < 64 = omega arith in
       let second : at + 1 + 1 < 64 = omega arith in
       let all = three_digits values at none here digits in
+      let third : at + 1 + 2 ≡ at + 1 + 1 + 1 = omega arith in
       of_three values at none (more_at bytes (lane_before (at + 1 + 1 + 1)))
-      (ap (more_at bytes) (before (at + 1 + 1) here) ∙ more_of_two (at + 1) second all.0 all.1.0) here digits (sums (at + 1 + 1 + 1) here) (small (at + 1 + 1 + 1) here all.1.1)
-  values_of_three values sums small at (suc (suc (suc n))) few lt none digits = absurd (omega arith)
+      (ap (more_at bytes) (before (at + 1 + 1) here) ∙ more_of_two (at + 1) second all.0 all.1.0) here digits
+      (sums (at + 1 + 1 + 1) here) (rw third at small)
+  value_at_three values sums at (suc (suc (suc n))) few lt none digits small = absurd (omega arith)
+
+  -- the sums of three digits are the values of words if each sum is below 255
+  pub values_of_three : (values : List ℕ)
+      → ((p : ℕ) → p < 64 → get_or values p 0 ≡ capped_sum (as_one (place_at bytes p)) (more_at bytes (lane_before p)))
+      → ((p : ℕ) → p < 64 → is_digit (byte p) ≡ true → get_or values p 0 < 255) → AreWordValues bytes values
+  values_of_three values sums small at n few lt none digits =
+      value_at_three values sums at n few lt none digits (small (at + 1 + n) lt (last at n few lt none digits))
+    where
+      last : (at n : ℕ) → n < 3 → at + 1 + n < 64 → (none : is_digit (byte at) ≡ false) → Digits values at none n
+          → is_digit (byte (at + 1 + n)) ≡ true
+      last at zero few lt none digits =
+          let here : at + 1 + 0 ≡ at + 1 = omega arith in
+          ap (λ p. is_digit (byte p)) here ∙ one_digit values at none (omega arith) digits
+      last at (suc zero) few lt none digits = (two_digits values at none (omega arith) digits).1
+      last at (suc (suc zero)) few lt none digits =
+          let here : at + 1 + 2 ≡ at + 1 + 1 + 1 = omega arith in
+          ap (λ p. is_digit (byte p)) here ∙ (three_digits values at none (omega arith) digits).1.1
+      last at (suc (suc (suc n))) few lt none digits = absurd (omega arith)

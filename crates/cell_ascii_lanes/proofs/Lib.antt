@@ -4,3 +4,7 @@ pub mod ByteValueLemmas
 pub mod NumberLemmas
 pub mod ByteEndLemmas
 pub mod LaneLemmas
+pub mod DigitLemmas
+pub mod NullBitLemmas
+pub mod BlockByteLemmas
+pub mod NullWordLemmas

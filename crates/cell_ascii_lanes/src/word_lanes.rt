@@ -167,7 +167,7 @@ fn of_digits(places: u8x64, lanes: u8x64) -> u8x64
 
 // Returns the values of words of one or two digits, at their last digits.
 #[inline(always)]
-fn two_digits(bytes: u8x64) -> u8x64
+pub(crate) fn two_digits(bytes: u8x64) -> u8x64
     ensures { (p : ℕ) → p < 64 → slice_index_or result p 0
         ≡ capped_sum (as_one (place_at bytes p)) (as_ten (place_at bytes (lane_before p))) }
 {
@@ -178,7 +178,7 @@ fn two_digits(bytes: u8x64) -> u8x64
 
 // Returns the values of words of one to three digits, at their last digits; 255 stands for larger values.
 #[inline(always)]
-fn three_digits(bytes: u8x64) -> u8x64
+pub(crate) fn three_digits(bytes: u8x64) -> u8x64
     ensures { (p : ℕ) → p < 64 → slice_index_or result p 0
         ≡ capped_sum (as_one (place_at bytes p)) (more_at bytes (lane_before p)) }
 {

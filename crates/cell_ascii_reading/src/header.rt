@@ -129,6 +129,13 @@ impl Header {
         !self.null_text.has_only_digits() && self.multiplier == 1
     }
 
+    /// Returns the word that denotes null.
+    pub fn null_word(&self) -> &[u8]
+        ensures { result.now ≡ self.now.null_text }
+    {
+        self.null_text.bytes()
+    }
+
     /// Returns whether a star denotes null.
     pub fn is_star_null(&self) -> bool
         ensures { result ≡ true → self.now.null_text ≡ usual_null }

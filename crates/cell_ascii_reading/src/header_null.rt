@@ -57,6 +57,13 @@ impl HeaderNull {
         word == &self.bytes[..self.len]
     }
 
+    /// Returns the bytes of the null text.
+    pub fn bytes(&self) -> &[u8]
+        ensures { result.now ≡ self.now }
+    {
+        &self.bytes[..self.len]
+    }
+
     /// Returns whether the null text consists only of digits.
     pub fn has_only_digits(&self) -> bool
         ensures { result ≡ list_all is_digit self.now }

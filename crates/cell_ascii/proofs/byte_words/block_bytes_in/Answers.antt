@@ -1,15 +1,14 @@
-use Rattle.std.proofs.Common.{◌≡◌, ◌≤◌, ◌-◌, ◌/◌, ◌%◌, ◌^◌, ℕ, List, Bool, true, false, map, length, take, get_or, cond, arith, ap, sym, refl, ◌∙◌, length-take}
+use Rattle.std.proofs.Common.{◌≡◌, ◌-◌, ℕ, List, Bool, true, false, map, length, take, get_or, cond, arith, ap, sym, refl, ◌∙◌, length-take}
 use Rattle.std.specs.Int.{bit_at}
 use Rattle.std.proofs.lemmas.List.{get_or-take}
 use Rattle.cell_ascii_meaning.specs.GridTokens.{is_space}
 use Rattle.cell_ascii_meaning.specs.EdgeNumbers.{is_digit}
 use Rattle.cell_ascii.specs.TableWords.{blanks}
 use Rattle.cell_ascii_lanes.specs.WordLanes.{AreShortWords, is_null_star}
-use Rattle.cell_ascii.proofs.BitLemmas.{mask-take}
-use Rattle.cell_ascii_lanes.proofs.ByteEndLemmas.{ends_of, ends_mask, front, length-front, front-mask, length-ends}
-use Rattle.cell_ascii.proofs.ByteBlockLemmas.{short_block, cell_bytes_are, put_holds, put_low, star_of, word_at, space_no_digit, sixty_four_ends}
+use Rattle.cell_ascii_lanes.proofs.ByteEndLemmas.{ends_of, front, length-front, front-mask, length-ends}
+use Rattle.cell_ascii.proofs.ByteBlockLemmas.{short_block, cell_bytes_are, star_bytes, put_holds, put_low, ends_are, word_at, sixty_four_ends}
+use Rattle.cell_ascii_lanes.proofs.BlockByteLemmas.{space_no_digit}
 use Rattle.cell_ascii.proofs.byte_words.block_bytes_in.Goals as goal
-use lib.Bits.{bit_and}
 use lib.Lanes.{mask_l}
 
 digit_no_space : (b : ℕ) → is_digit b ≡ true → is_space b ≡ false
@@ -18,12 +17,6 @@ digit_no_space b e = by (is_space b) refl
     by : (s : Bool) → is_space b ≡ s → is_space b ≡ false
     by true o = let no = space_no_digit b o in cc
     by false o = o
-
--- the ends of words are computed from the bits of the blanks
-ends_are : (bs : List ℕ) → 64 ≤ length bs → (m ends q : ℕ) → m ≡ mask_l (blanks bs) → ends ≡ bit_and (18446744073709551615 - m) (m / 2) % 2 ^ q → ends ≡ mask_l (take q (ends_of (blanks bs)))
-ends_are bs long m ends q is cut =
-    cut ∙ ap (λ n. bit_and (18446744073709551615 - n) (n / 2) % 2 ^ q) is
-    ∙ ap (λ n. n % 2 ^ q) (ends_mask (blanks bs) (sixty_four_ends bs long)) ∙ mask-take q (ends_of (blanks bs))
 
 short_from : (bs : List ℕ) (m d s : ℕ) → m ≡ mask_l (blanks bs) → d ≡ mask_l (map is_digit (take 64 bs)) → s ≡ mask_l (map is_null_star (take 64 bs))
     → AreShortWords (18446744073709551615 - m) d s → AreShortWords (18446744073709551615 - mask_l (blanks bs)) (mask_l (map is_digit (take 64 bs))) (mask_l (map is_null_star (take 64 bs)))
@@ -37,7 +30,7 @@ word_values-are_small-requires c = λ p lt digit.
     ap (λ n. bit_at (18446744073709551615 - n) p) c.blanks_in-blanks.ensures ∙ word_at bs long p lt ∙ ap (λ b. 1 - cond b 1 0) space
 
 pub returns-clause-cells : goal.returns-clause-cells
-returns-clause-cells c = λ h plain null.
+returns-clause-cells c = λ h plain usual.
     let bs = c.args.buffered.now in
     let long = c.requires.buffered in
     let lanes = c.cell_bytes.new.lanes in
@@ -46,9 +39,7 @@ returns-clause-cells c = λ h plain null.
     let bytes = cell_bytes_are bs long c.word_values-are_small.result.0 lanes (c.word_values-are_small.ensures c.if-not-are_small.false) c.cell_bytes.ensures in
     let size : length (take 64 lanes) ≡ 64 = omega (arith, length-take 64 lanes, c.cell_bytes.auto.lanes) in
     let low = c.lowest_bits-ends.ensures in
-    let star = star_of bs long h.null_text c.star_mask-stars.result c.star_mask-stars.ensures c.args.is_star_null null
-    (c.has_other_star.ensures c.if-has_other_star.false) in
-    put_holds h plain bs star long block (take 64 lanes) size bytes low.place low.within c.lowest_bits-ends.result c.put_lanes-count.result c.put_lanes-count.new.row
+    put_holds h bs long (take 64 lanes) size (star_bytes h plain usual bs long block (take 64 lanes) bytes) low.place low.within c.lowest_bits-ends.result c.put_lanes-count.result c.put_lanes-count.new.row
     (ends_are bs long c.blanks_in-blanks.result c.lowest_bits-ends.result low.place c.blanks_in-blanks.ensures low.is) c.put_lanes-count.ensures
 
 pub returns-clause-count : goal.returns-clause-count

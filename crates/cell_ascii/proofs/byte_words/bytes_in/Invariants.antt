@@ -1,4 +1,4 @@
-use Rattle.std.proofs.Common.{◌≡◌, true, ◌≤◌, ◌-◌, ◌*◌, length, take}
+use Rattle.std.proofs.Common.{◌≡◌, ◌≤◌, ◌-◌, ◌*◌, length, take}
 use Rattle.cell_core_values.specs.SmallCells.{cells_of_bytes}
 use Rattle.cell_ascii_meaning.specs.Header.{HeaderValue, usual_null}
 use Rattle.cell_ascii.specs.TableWords.{HoldsLines}
@@ -9,7 +9,7 @@ abbrev pub invariant-blocks-2 : goal.invariant-blocks-2
 invariant-blocks-2 l = record {
   count : l.i ≤ l.most;
   within : l.passed ≤ length l.buffered;
-  cells : (h : HeaderValue) → HasPlainNumbers h → (l.is_star_null ≡ true → h.null_text ≡ usual_null)
+  cells : (h : HeaderValue) → HasPlainNumbers h → h.null_text ≡ usual_null
       → HoldsLines h l.buffered (cells_of_bytes (take l.i l.row)) l.i l.passed l.lines;
   fewer : l.lines ≤ l.passed;
   few : l.lines ≤ l.i * 64;

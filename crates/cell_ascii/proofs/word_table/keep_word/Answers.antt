@@ -7,5 +7,5 @@ use Rattle.cell_ascii.proofs.word_table.keep_word.Goals as goal
 pub returns : goal.returns
 returns c =
     let h = c.args.header.now in
-    All-set (IsEntry h) c.args.entries.now c.word_place.result (record { key = c.word_key-key.result; size = c.args.size; cell = c.args.cell })
-    (λ some. ap (cell_of_word h) c.word_key-key.ensures.kept ∙ c.requires.cell) c.requires.known
+    All-set (IsEntry h) c.args.entries.now c.word_place.result (record { key = c.kept_key-key.result; size = c.args.size; cell = c.args.cell })
+    (λ some. ap (cell_of_word h) c.kept_key-key.ensures ∙ c.requires.cell) c.requires.known

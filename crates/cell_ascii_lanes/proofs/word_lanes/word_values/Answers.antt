@@ -1,13 +1,7 @@
-use Rattle.std.proofs.Common.{◌≡◌, ◌<◌, ◌+◌, ℕ, Bool, true, false, not, get_or, arith, refl, w8, Fits, List, [], ◌∷◌, zero, suc}
+use Rattle.std.proofs.Common.{◌≡◌, ◌<◌, ◌+◌, Bool, true, false, not, arith, refl}
 use Rattle.cell_ascii_lanes.proofs.ByteBitLemmas.{not_three}
-use Rattle.cell_ascii_lanes.proofs.ByteValueLemmas.{values_of_two, values_of_three}
+use Rattle.cell_ascii_lanes.proofs.ByteValueLemmas.{all_fit, values_of_two, values_of_three}
 use Rattle.cell_ascii_lanes.proofs.word_lanes.word_values.Goals as goal
-use lib.Lanes.{Each1}
-
-all_fit : (xs : List ℕ) → Each1 (Fits w8) xs → (k : ℕ) → get_or xs k 0 < 256
-all_fit [] f k = omega arith
-all_fit (x ∷ xs) f zero = f.0.fits
-all_fit (x ∷ xs) f (suc k) = all_fit xs f.1 k
 
 is_off : (b : Bool) → not b ≡ true → b ≡ false
 is_off true e = cc

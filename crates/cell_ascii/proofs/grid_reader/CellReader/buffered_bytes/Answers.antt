@@ -8,9 +8,9 @@ pub returns-then-count-gt0-clause-cells : goal.returns-then-count-gt0-clause-cel
 returns-then-count-gt0-clause-cells g c =
     let s = c.self.inside.scanner in
     let h = c.self.inside.words in
-    let r = c.bytes_in-count.result in
+    let r = c.short_words_in-count.result in
     let none : s.run ≡ 0 = c.if-not-is_behind_word.ensures refl in
     let plain : HasPlainNumbers h = rw (← c.self.view_is) at c.requires.plain in
     rw (← c.self.view_is, c.count_lines.ensures, c.pass.ensures, c.if-self.false, none)
-    (lines_buffered h s.line r.2 s.ahead.buffered s.ahead.rest (cells_of_bytes (take r.0 c.bytes_in-count.new.row)) r.0 r.1
-    (rw c.buffered_bytes.ensures at c.bytes_in-count.ensures.cells h plain (rw c.header.ensures at c.is_star_null-is_star_null.ensures)))
+    (lines_buffered h s.line r.2 s.ahead.buffered s.ahead.rest (cells_of_bytes (take r.0 c.short_words_in-count.new.row)) r.0 r.1
+    (rw (c.buffered_bytes.ensures, c.header.ensures) at c.short_words_in-count.ensures.cells))

@@ -1,5 +1,0 @@
-use Rattle.cell_ascii.proofs.DigitLemmas.{digits_ahead}
-use Rattle.cell_ascii.proofs.word_table.digits_at.Goals as goal
-
-pub returns : goal.returns
-returns c = digits_ahead c.args.bytes.now c.requires (λ k. (c.type_inv.bytes k).fits)
