@@ -23,9 +23,9 @@ ghost use Rattle.cell_ascii.specs.parts.Unread.{IsUnread, IsAtData, HasRows};
 
 use crate::byte_words::{LEAST_BUFFERED, MORE_BYTES, short_words_in};
 use crate::opening::{read_opening, read_token};
-use crate::pace::Pace;
 use crate::short_cells::cells_in;
 use crate::word_table::WordTable;
+use cell_ascii_lanes::pace::Pace;
 use cell_ascii_lanes::run_lanes::has_short_runs;
 use cell_ascii_meaning::grid_fault::{GridFault, GridKind};
 use cell_ascii_reading::header::Header;

@@ -7,9 +7,9 @@
 //! - `law`: laws about reading, re-exported from `cell_ascii_law` and `cell_ascii_law_faults`
 //! - private: `opening` reads the header and the first word after it
 //! - `known_sources`: the law that clauses about supposed contents hold for known bytes
-//! - `short_cells`, `word_table`, `pace`: fast ways to read buffered cells. They read words in place,
-//!   look up words that occurred before, convert numbers digit by digit, and choose between these
-//!   ways. They do not affect results.
+//! - `short_cells`, `word_table`: fast ways to read buffered cells, between which `pace` of
+//!   `cell_ascii_lanes` chooses. They read words in place, look up words that occurred before, and
+//!   convert numbers digit by digit. They do not affect results.
 //! - `byte_words`, `number_words`: read short words as bytes, and numbers two at a time, with vector
 //!   instructions
 //!
@@ -28,7 +28,6 @@ pub mod known_sources;
 pub mod law;
 pub mod number_words;
 mod opening;
-pub mod pace;
 pub mod short_cells;
 pub mod word_table;
 

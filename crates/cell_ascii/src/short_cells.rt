@@ -6,8 +6,8 @@ ghost use Rattle.cell_ascii.specs.TableWords.{AreCellsRead};
 ghost use Rattle.cell_ascii_meaning.specs.EdgeNumbers.{whole_number};
 ghost use Rattle.cell_ascii.specs.parts.InLine.{AreCellsInLine};
 
-use crate::pace::{Pace, Way};
 use crate::word_table::WordTable;
+use cell_ascii_lanes::pace::{Pace, Way};
 use cell_ascii_lanes::run_lanes::{LANES, front_alike};
 use cell_ascii_reading::header::Header;
 use cell_ascii_reading::scanner::is_space;

@@ -6,10 +6,12 @@
 //! - `word_lanes`: finds stars and numbers of at most three digits, computes their values, and packs
 //!   the lanes that bits select
 //! - `number_lanes`: computes the values of words of digits, two at a time
+//! - `pace`: chooses which of these ways, or which other, reads the next cells
 #![tactic(auto)]
 
 pub mod digit_words;
 pub mod null_lanes;
 pub mod number_lanes;
+pub mod pace;
 pub mod run_lanes;
 pub mod word_lanes;

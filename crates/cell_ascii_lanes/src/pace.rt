@@ -18,7 +18,7 @@ const FEW_WORDS: usize = 16;
 
 /// A way to read cells.
 #[derive(Clone, Copy)]
-pub(crate) enum Way {
+pub enum Way {
     /// Reads each repeated word once.
     Repeated,
     /// Looks words up in the table of words read before.
@@ -31,9 +31,9 @@ pub(crate) enum Way {
 
 /// Counts how long a way of reading is paused.
 #[derive(Drop)]
-pub(crate) struct Pause {
+pub struct Pause {
     /// Number of cells until the next trial.
-    pub(crate) left: usize,
+    pub left: usize,
     // Number of cells to wait after the next failed trial.
     next: usize,
     // Shortest and longest wait.
@@ -52,7 +52,7 @@ impl Pause {
     }
 
     /// Ends a trial of the way and sets the next wait.
-    pub(crate) fn end_trial(&mut self, is_of_use: bool) {
+    pub fn end_trial(&mut self, is_of_use: bool) {
         if is_of_use {
             self.next = self.first;
         } else {
@@ -62,7 +62,7 @@ impl Pause {
     }
 
     /// Counts `count` cells that were read in other ways.
-    pub(crate) fn pass(&mut self, count: usize) {
+    pub fn pass(&mut self, count: usize) {
         self.left = self.left.saturating_sub(count);
     }
 }
@@ -74,7 +74,7 @@ pub struct Pace {
     repeated: Pause,
     sought: Pause,
     /// The pause in reading rows as bytes.
-    pub(crate) bytes: Pause,
+    pub bytes: Pause,
 }
 
 impl Pace {
@@ -88,7 +88,7 @@ impl Pace {
     }
 
     /// Returns the way to read next and the maximum number of cells. The last try reads cells one by one.
-    pub(crate) fn next_way(&self, tries: usize) -> (Way, usize) {
+    pub fn next_way(&self, tries: usize) -> (Way, usize) {
         if tries == 1 {
             return (Way::Single, usize::MAX);
         }
@@ -107,7 +107,7 @@ impl Pace {
 
     /// Records that `way` read `count` cells and failed to find `missed` of their words in the table. `ends_row` means
     /// that the last of these cells is the last of its row.
-    pub(crate) fn pass(&mut self, way: Way, count: usize, missed: usize, ends_row: bool) {
+    pub fn pass(&mut self, way: Way, count: usize, missed: usize, ends_row: bool) {
         self.repeated.pass(count);
         match way {
             Way::Repeated if count > MANY_CELLS || !ends_row => {
