@@ -27,11 +27,16 @@ RUN_FILE, RUN, HEADLINE = "rcell/src/running.rt", "run", "headline"
 # What only one command uses begins at these definitions: how a line spells the command, and what it
 # makes or prints.
 BEGINNINGS = {
-    "r.mapcalc": ["SpellsMapcalc", "IsWithValues"],
-    "r.reclass": ["SpellsReclass", "IsWithClasses", "AreRules", "IsEnd"],
-    "r.clump": ["SpellsClump", "IsWithNumbers"],
-    "r.stats": ["SpellsStats", "stats_text"],
-    "r.out.ascii": ["SpellsOutAscii", "out_ascii_text"],
+    "r.mapcalc": ["SpellsMapcalcCommand", "IsShelfAfterMapcalc"],
+    "r.reclass": [
+        "SpellsReclassCommand",
+        "IsShelfAfterReclass",
+        "LinesSpellRules",
+        "EndsReclassRules",
+    ],
+    "r.clump": ["SpellsClumpCommand", "IsShelfAfterClump"],
+    "r.stats": ["SpellsStatsCommand", "stats_text"],
+    "r.out.ascii": ["SpellsOutAsciiCommand", "out_ascii_text"],
 }
 # Definitions used only by a secondary output of a command.
 BESIDES = {"r.stats": ["cell_lines"]}

@@ -3,29 +3,32 @@ use Rattle.std.proofs.Common.{◌≡◌, ℕ, zero, suc, ◌+◌, ◌-◌, ◌<�
 use Rattle.std.proofs.Math.Seq.{take-append-add, drop-append-add}
 use Rattle.std.proofs.lemmas.List.{drop_all, drop-append-le, drop-drop, take-append-drop, take-append-le, take_at}
 use Rattle.cell_core.specs.Grid.{CellValue}
-use Rattle.cell_ascii_reading.specs.Ahead.{before_coming}
-use Rattle.cell_ascii_meaning.specs.Header.{◌>>=◌, HeaderValue}
-use Rattle.cell_ascii_meaning.specs.CellTexts.{Reading, cell_from, at_of}
-use Rattle.cell_ascii.specs.BufferedCells.{HoldsCell, HoldsCells, run_after}
+use Rattle.cell_ascii_reading.specs.Ahead.{bytes_to_come_with_prefix}
+use Rattle.cell_ascii_meaning.specs.Header.{◌>>=◌, GridHeaderContents}
+use Rattle.cell_ascii_meaning.specs.CellTexts.{ReadValueAndPositionOrFault, next_cell_after_position}
+use Rattle.cell_ascii_meaning.specs.CellTexts.{position_without_pending_word}
+use Rattle.cell_ascii.specs.BufferedCells.{BytesHoldNextCell, BytesHoldNextCells, blank_run_length_after_cells}
 use Rattle.cell_ascii.proofs.ManyLemmas.{many_more, snoc, with_last}
 
-run-below : (run count : ℕ) → run < 1048576 → run_after run count < 1048576
+run-below : (run count : ℕ) → run < 1048576 → blank_run_length_after_cells run count < 1048576
 run-below run zero below = below
 run-below run (suc count) below = omega arith
 
-run-none : (run count : ℕ) → run_after run (count + 1) ≡ 0
-run-none run count = let e : count + 1 ≡ suc count = omega arith in ap (run_after run) e
+run-none : (run count : ℕ) → blank_run_length_after_cells run (count + 1) ≡ 0
+run-none run count = let e : count + 1 ≡ suc count = omega arith in ap (blank_run_length_after_cells run) e
 
-module _ (h : HeaderValue) (bs : List ℕ) where
+module _ (h : GridHeaderContents) (bs : List ℕ) where
   -- bytes that hold some cells, followed by one more cell, hold all of these cells
-  pub HoldsCells-more : (cells : List CellValue) (count n : ℕ) (v : CellValue) (m : ℕ) → HoldsCells h bs cells count n → HoldsCell h (drop n bs) v m
-      → HoldsCells h bs (cells ++ v ∷ []) (count + 1) (n + m)
-  HoldsCells-more cells count n v m buffered next = λ line run below c.
-      many_more (cell_from h) count (at_of line run (before_coming bs c))
-      ∙ ap (λ (r : Reading (List CellValue)). r >>= with_last (cell_from h)) (buffered line run below c)
-      ∙ ap (λ (r : Reading CellValue). r >>= snoc (cell_from h) cells) (next line (run_after run count) (run-below run count below) c)
-      ∙ ap (λ (k : ℕ). Ok (cells ++ v ∷ [], at_of line k (before_coming (drop m (drop n bs)) c))) (sym (run-none run count))
-      ∙ ap (λ (rest : List ℕ). Ok (cells ++ v ∷ [], at_of line (run_after run (count + 1)) (before_coming rest c))) (drop-drop m n bs)
+  pub BytesHoldNextCells-more : (cells : List CellValue) (count n : ℕ) (v : CellValue) (m : ℕ) → BytesHoldNextCells h bs cells count n → BytesHoldNextCell h (drop n bs) v m
+      → BytesHoldNextCells h bs (cells ++ v ∷ []) (count + 1) (n + m)
+  BytesHoldNextCells-more cells count n v m buffered next = λ line run below c.
+      many_more (next_cell_after_position h) count (position_without_pending_word line run
+      (bytes_to_come_with_prefix bs c))
+      ∙ ap (λ (r : ReadValueAndPositionOrFault (List CellValue)). r >>= with_last (next_cell_after_position h))
+      (buffered line run below c)
+      ∙ ap (λ (r : ReadValueAndPositionOrFault CellValue). r >>= snoc (next_cell_after_position h) cells) (next line (blank_run_length_after_cells run count) (run-below run count below) c)
+      ∙ ap (λ (k : ℕ). Ok (cells ++ v ∷ [], position_without_pending_word line k (bytes_to_come_with_prefix (drop m (drop n bs)) c))) (sym (run-none run count))
+      ∙ ap (λ (rest : List ℕ). Ok (cells ++ v ∷ [], position_without_pending_word line (blank_run_length_after_cells run (count + 1)) (bytes_to_come_with_prefix rest c))) (drop-drop m n bs)
 
 -- a row whose cells from index i on are lent and returned as `part`
 abbrev pub filled : ℕ → List CellValue → List CellValue → List CellValue

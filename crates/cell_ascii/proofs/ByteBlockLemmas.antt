@@ -8,14 +8,15 @@ use Rattle.std.proofs.lemmas.Bool.{eqb-true}
 use Rattle.std.proofs.lemmas.Slice.Eq.{bytes_eq-Decides}
 use Rattle.cell_core_values.proofs.NameLemmas.{bytes_eq-differ}
 use Rattle.std.proofs.lemmas.Bool.Decides.{nat_tests}
-use Rattle.cell_core_values.specs.SmallCells.{byte_cell, cells_of_bytes}
-use Rattle.cell_ascii_meaning.specs.GridTokens.{is_space, is_word_byte, newlines}
-use Rattle.cell_ascii_meaning.specs.EdgeNumbers.{is_digit, value_of_digits, whole_number, is_in_range}
-use Rattle.cell_ascii_meaning.specs.Header.{HeaderValue, usual_null}
+use Rattle.cell_core_values.specs.SmallCells.{cell_of_stored_byte, cells_of_bytes}
+use Rattle.cell_ascii_meaning.specs.GridTokens.{is_space, is_word_byte, line_feed_count}
+use Rattle.cell_ascii_meaning.specs.EdgeNumbers.{is_digit, value_of_digits, whole_number_of_text, is_in_category_range}
+use Rattle.cell_ascii_meaning.specs.Header.{GridHeaderContents, usual_null_text}
 use Rattle.cell_ascii_meaning.specs.CellTexts.{cell_of_word}
-use Rattle.cell_ascii.specs.TableWords.{HoldsLines, blanks}
-use Rattle.cell_ascii_reading.specs.InRange.{HasPlainNumbers}
-use Rattle.cell_ascii_lanes.specs.WordLanes.{AreWordValues, AreShortWords, is_null_star, kept}
+use Rattle.cell_ascii.specs.TableWords.{BytesHoldNextCellsAndLineFeeds, blanks}
+use Rattle.cell_ascii_reading.specs.InRange.{DigitWordsDenoteTheirNumber}
+use Rattle.cell_ascii_lanes.specs.WordLanes.{AreWordValuesAtLastDigits, AreStarsOrThreeDigitNumbers, is_null_star}
+use Rattle.cell_ascii_lanes.specs.WordLanes.{flagged_items}
 use Rattle.cell_ascii_lanes.specs.NullLanes.{IsNullKey}
 use Rattle.cell_ascii_lanes.proofs.BlockByteLemmas.{all_from, one_from, space_no_digit, word_of_block, bit_of}
 use Rattle.cell_ascii_lanes.proofs.NullWordLemmas.{AreNullLanes, IsNullWord, IsNumberWord, word_is}
@@ -29,11 +30,11 @@ use Rattle.std.proofs.lemmas.Nat.Bits.{bit_at_not}
 use lib.Bits.{bit_and}
 use lib.Lanes.{mask_l}
 use Rattle.cell_ascii_lanes.proofs.ByteEndLemmas.{ends_of, ends_mask, ends_at, top, top-le, top-set, top-unset, top_is, length-ends, front, length-front, front-mask, front-trues, front-kept, front-top}
-use Rattle.cell_ascii.proofs.WordLemmas.{word-more, gap-more, gap-one, HoldsLines-none}
+use Rattle.cell_ascii.proofs.WordLemmas.{word-more, gap-more, gap-one, BytesHoldNextCellsAndLineFeeds-none}
 
 -- ---- cells of words
 
-in_range : (v : ℕ) → v < 100000000 → is_in_range (pos v) ≡ true
+in_range : (v : ℕ) → v < 100000000 → is_in_category_range (pos v) ≡ true
 in_range v lt = grind (arith, nat_tests)
 
 apart : (b : Bool) → b ≡ true → b ≡ false → ⊥
@@ -47,26 +48,27 @@ not_null null word other digits =
     bytes_eq-differ word null (λ same. apart (list_all is_digit null) (ap (list_all is_digit) (sym same) ∙ digits) other)
 
 -- a word of digits with a value below 100,000,000 denotes the cell of its value
-pub digits_word : (h : HeaderValue) → HasPlainNumbers h → (b : ℕ) (word : List ℕ) (v : ℕ)
+pub digits_word : (h : GridHeaderContents) → DigitWordsDenoteTheirNumber h → (b : ℕ) (word : List ℕ) (v : ℕ)
     → list_all is_digit (b ∷ word) ≡ true → v ≡ value_of_digits (b ∷ word) → v < 100000000 → cell_of_word h (b ∷ word) ≡ Ok (Some (pos v))
 digits_word h plain b word v digits is small =
     let other = not_null h.null_text (b ∷ word) plain.null digits in
-    let number : whole_number (b ∷ word) ≡ Some (pos v) = digits_number b word digits
+    let number : whole_number_of_text (b ∷ word) ≡ Some (pos v) = digits_number b word digits
     ∙ ap (λ n. Some (pos n)) (sym is) in
     let one : v * 1 ≡ v = omega arith in
     rw (other, plain.multiplier, number, in_range v small, one, in_range v small) refl
 
 -- a word of digits with a value below 255 denotes the cell that the value stands for as a byte
-pub number_word : (h : HeaderValue) → HasPlainNumbers h → (b : ℕ) (word : List ℕ) (v : ℕ)
+pub number_word : (h : GridHeaderContents) → DigitWordsDenoteTheirNumber h → (b : ℕ) (word : List ℕ) (v : ℕ)
     → list_all is_digit (b ∷ word) ≡ true → v ≡ value_of_digits (b ∷ word) → v < 255
-    → cell_of_word h (b ∷ word) ≡ Ok (byte_cell v)
+    → cell_of_word h (b ∷ word) ≡ Ok (cell_of_stored_byte v)
 number_word h plain b word v digits is small =
     let other : eqb v 255 ≡ false = grind (arith, nat_tests) in
     rw other (digits_word h plain b word v digits is (omega arith))
 
 -- like `number_word`, for the first bytes of a list
-number_from : (h : HeaderValue) → HasPlainNumbers h → (n : ℕ) (bs : List ℕ) (v : ℕ) → n + 1 ≤ length bs
-    → list_all is_digit (take (n + 1) bs) ≡ true → v ≡ value_of_digits (take (n + 1) bs) → v < 255 → cell_of_word h (take (n + 1) bs) ≡ Ok (byte_cell v)
+number_from : (h : GridHeaderContents) → DigitWordsDenoteTheirNumber h → (n : ℕ) (bs : List ℕ) (v : ℕ)
+    → n + 1 ≤ length bs
+    → list_all is_digit (take (n + 1) bs) ≡ true → v ≡ value_of_digits (take (n + 1) bs) → v < 255 → cell_of_word h (take (n + 1) bs) ≡ Ok (cell_of_stored_byte v)
 number_from h plain n [] v within digits is small = absurd (omega arith)
 number_from h plain n (b ∷ bs) v within digits is small =
     let next : n + 1 ≡ suc n = omega arith in
@@ -74,10 +76,10 @@ number_from h plain n (b ∷ bs) v within digits is small =
     ∙ number_word h plain b (take n bs) v (sym (ap (λ m. list_all is_digit (take m (b ∷ bs))) next) ∙ digits) (is ∙ ap (λ m. value_of_digits (take m (b ∷ bs))) next) small
 
 -- the null text denotes null
-null_text_cell : (h : HeaderValue) → cell_of_word h h.null_text ≡ Ok None
+null_text_cell : (h : GridHeaderContents) → cell_of_word h h.null_text ≡ Ok None
 null_text_cell h = let same : bytes_eq h.null_text h.null_text ≡ true = (bytes_eq-Decides h.null_text h.null_text).1 refl in rw same refl
 
-pub star_word : (h : HeaderValue) → h.null_text ≡ usual_null → (b : ℕ) → is_null_star b ≡ true
+pub star_word : (h : GridHeaderContents) → h.null_text ≡ usual_null_text → (b : ℕ) → is_null_star b ≡ true
     → cell_of_word h (b ∷ []) ≡ Ok None
 star_word h null b star = rw (null, eqb-true b 42 star) refl
 
@@ -95,11 +97,11 @@ pub record IsShortBlock (bs : List ℕ) : Type 0 where
   pub few : (i : ℕ) → i + 3 < 64 → is_space (get_or bs i 0) ≡ false → is_space (get_or bs (i + 1) 0) ≡ false → is_space (get_or bs (i + 2) 0) ≡ false → is_space (get_or bs (i + 3) 0) ≡ true
 
 -- the byte of each word's cell is at the last byte of the word, and the block begins with a blank
-pub record AreWordBytes (h : HeaderValue) (bs vs : List ℕ) : Type 0 where
+pub record AreWordBytes (h : GridHeaderContents) (bs vs : List ℕ) : Type 0 where
   pub first : is_space (get_or bs 0 0) ≡ true
   pub cell : (at n : ℕ) → at + 1 + n + 1 < 64 → is_space (get_or bs at 0) ≡ true
       → ((i : ℕ) → i < n + 1 → is_space (get_or bs (at + 1 + i) 0) ≡ false) → is_space (get_or bs (at + 1 + n + 1) 0) ≡ true
-      → cell_of_word h (take (n + 1) (drop (at + 1) bs)) ≡ Ok (byte_cell (get_or vs (at + 1 + n) 0))
+      → cell_of_word h (take (n + 1) (drop (at + 1) bs)) ≡ Ok (cell_of_stored_byte (get_or vs (at + 1 + n) 0))
 
 -- the byte of each cell is at the last byte of the cell's word, in a block of short words
 pub record AreCellBytes (bs vs : List ℕ) : Type 0 where
@@ -152,7 +154,7 @@ module _ (bs : List ℕ) (long : 64 ≤ length bs) where
       ap (λ m. 64 - count_leading_zeros 64 m) (is ∙ front-mask q ends) ∙ top_is ms (omega (arith, wide)) ∙ front-top q ends in
       omega (arith, place, top_low q le)
 
-module _ (h : HeaderValue) (bs : List ℕ) (long : 64 ≤ length bs) (vs : List ℕ) (size : length vs ≡ 64) (bytes : AreWordBytes h bs vs) where
+module _ (h : GridHeaderContents) (bs : List ℕ) (long : 64 ≤ length bs) (vs : List ℕ) (size : length vs ≡ 64) (bytes : AreWordBytes h bs vs) where
   abbrev byte : ℕ → ℕ
   byte p = get_or bs p 0
 
@@ -160,7 +162,7 @@ module _ (h : HeaderValue) (bs : List ℕ) (long : 64 ≤ length bs) (vs : List 
   es = ends_of (blanks bs)
 
   abbrev Cells : ℕ → ℕ → Type 0
-  Cells k last = HoldsLines h bs (cells_of_bytes (kept (take k es) vs)) (trues (take k es)) last (newlines (take last bs))
+  Cells k last = BytesHoldNextCellsAndLineFeeds h bs (cells_of_bytes (flagged_items (take k es) vs)) (trues (take k es)) last (line_feed_count (take last bs))
 
   blank_at : (i : ℕ) → i < 64 → get_or (blanks bs) i false ≡ is_space (byte i)
   blank_at i lt = get_or-map is_space (take 64 bs) i 0 false (omega (arith, length-take 64 bs)) ∙ ap is_space (get_or-take 64 bs i 0 lt)
@@ -189,7 +191,7 @@ module _ (h : HeaderValue) (bs : List ℕ) (long : 64 ≤ length bs) (vs : List 
   trues-snoc [] m = omega arith
   trues-snoc (t ∷ ms) m = omega (arith, trues-snoc ms m)
 
-  kept-set : (k : ℕ) (ms : List Bool) (xs : List ℕ) → length ms ≡ k → k < length xs → kept (ms ++ true ∷ []) xs ≡ kept ms xs ++ get_or xs k 0 ∷ []
+  kept-set : (k : ℕ) (ms : List Bool) (xs : List ℕ) → length ms ≡ k → k < length xs → flagged_items (ms ++ true ∷ []) xs ≡ flagged_items ms xs ++ get_or xs k 0 ∷ []
   kept-set zero [] [] e lt = absurd (omega arith)
   kept-set zero [] (x ∷ xs) e lt = refl
   kept-set (suc k) [] xs e lt = absurd (omega arith)
@@ -198,7 +200,7 @@ module _ (h : HeaderValue) (bs : List ℕ) (long : 64 ≤ length bs) (vs : List 
   kept-set (suc k) (true ∷ ms) (x ∷ xs) e lt = ap (λ (l : List ℕ). x ∷ l) (kept-set k ms xs (omega arith) (omega arith))
   kept-set (suc k) (false ∷ ms) (x ∷ xs) e lt = kept-set k ms xs (omega arith) (omega arith)
 
-  kept-unset : (ms : List Bool) (xs : List ℕ) → kept (ms ++ false ∷ []) xs ≡ kept ms xs
+  kept-unset : (ms : List Bool) (xs : List ℕ) → flagged_items (ms ++ false ∷ []) xs ≡ flagged_items ms xs
   kept-unset [] [] = refl
   kept-unset [] (x ∷ xs) = refl
   kept-unset (m ∷ ms) [] = refl
@@ -233,7 +235,7 @@ module _ (h : HeaderValue) (bs : List ℕ) (long : 64 ≤ length bs) (vs : List 
     space = bytes.first;
     gap = gap-one bs 0 (omega (arith, long)) bytes.first;
     word = λ i a b. absurd (omega arith);
-    cells = HoldsLines-none h bs;
+    cells = BytesHoldNextCellsAndLineFeeds-none h bs;
     top = refl;
   }
 
@@ -249,7 +251,7 @@ module _ (h : HeaderValue) (bs : List ℕ) (long : 64 ≤ length bs) (vs : List 
 
   -- a word that ends denotes the cell of its byte
   cell_ends : (k : ℕ) → k + 1 < 64 → (s : State k) → s.blank < k → is_space (byte (k + 1)) ≡ true
-      → cell_of_word h (take (k + 1 - (s.blank + 1)) (drop (s.blank + 1) bs)) ≡ Ok (byte_cell (get_or vs k 0))
+      → cell_of_word h (take (k + 1 - (s.blank + 1)) (drop (s.blank + 1) bs)) ≡ Ok (cell_of_stored_byte (get_or vs k 0))
   cell_ends k lt s some blank =
       let n = k - (s.blank + 1) in
       let count : k + 1 - (s.blank + 1) ≡ n + 1 = omega arith in
@@ -257,7 +259,7 @@ module _ (h : HeaderValue) (bs : List ℕ) (long : 64 ≤ length bs) (vs : List 
       let next : s.blank + 1 + n + 1 ≡ k + 1 = omega arith in
       ap (λ m. cell_of_word h (take m (drop (s.blank + 1) bs))) count
       ∙ bytes.cell s.blank n (omega arith) s.space (λ i less. s.word (s.blank + 1 + i) (omega arith) (omega arith)) (ap (λ p. is_space (byte p)) next ∙ blank)
-      ∙ ap (λ p. Ok (byte_cell (get_or vs p 0))) place
+      ∙ ap (λ p. Ok (cell_of_stored_byte (get_or vs p 0))) place
 
   step : (k : ℕ) → k + 1 < 64 → State k → State (k + 1)
   step k lt s = by (is_space (byte (k + 1))) refl (leb k s.blank) refl
@@ -314,12 +316,12 @@ module _ (h : HeaderValue) (bs : List ℕ) (long : 64 ≤ length bs) (vs : List 
           let more = more_ends k here ∙ ap (λ m. take k es ++ m ∷ []) on in
           let wide : length (take k es) ≡ k = omega (arith, length-take k es, long-es) in
           let bytes_more = kept-set k (take k es) vs wide (omega (arith, size)) in
-          let cells_more : cells_of_bytes (kept (take k es ++ true ∷ []) vs) ≡ cells_of_bytes (kept (take k es) vs) ++ byte_cell v ∷ [] =
-          ap cells_of_bytes bytes_more ∙ map-append byte_cell (kept (take k es) vs) (v ∷ []) in
+          let cells_more : cells_of_bytes (flagged_items (take k es ++ true ∷ []) vs) ≡ cells_of_bytes (flagged_items (take k es) vs) ++ cell_of_stored_byte v ∷ [] =
+          ap cells_of_bytes bytes_more ∙ map-append cell_of_stored_byte (flagged_items (take k es) vs) (v ∷ []) in
           let count = trues-snoc (take k es) true in
           let n : k + 1 - (s.blank + 1) ≡ k - s.blank = omega arith in
           let word = ap (λ j. list_all is_word_byte (take j (drop (s.blank + 1) bs))) n ∙ word_bytes k here s (k - s.blank) (omega (arith, s.inside)) in
-          let all = word-more h bs (cells_of_bytes (kept (take k es) vs)) (trues (take k es)) s.last (s.blank + 1) (k + 1) (byte_cell v)
+          let all = word-more h bs (cells_of_bytes (flagged_items (take k es) vs)) (trues (take k es)) s.last (s.blank + 1) (k + 1) (cell_of_stored_byte v)
           (omega (arith, s.order)) (omega arith) lt inside s.gap word e (cell_ends k lt s some e) s.cells in
           record {
             last = k + 1;
@@ -357,8 +359,8 @@ module _ (h : HeaderValue) (bs : List ℕ) (long : 64 ≤ length bs) (vs : List 
 
   -- the bytes put into a row are the cells of the words that end among the first q bytes
   pub put_holds : (q : ℕ) → q ≤ 64 → (ends count : ℕ) (row : List ℕ) → ends ≡ mask_l (take q es)
-      → ((ms : List Bool) → length ms ≡ 64 → ends ≡ mask_l ms → (count ≡ count_ones ends) × (take count row ≡ kept ms vs))
-      → HoldsLines h bs (cells_of_bytes (take count row)) count (64 - count_leading_zeros 64 ends) (newlines (take (64 - count_leading_zeros 64 ends) bs))
+      → ((ms : List Bool) → length ms ≡ 64 → ends ≡ mask_l ms → (count ≡ count_ones ends) × (take count row ≡ flagged_items ms vs))
+      → BytesHoldNextCellsAndLineFeeds h bs (cells_of_bytes (take count row)) count (64 - count_leading_zeros 64 ends) (line_feed_count (take (64 - count_leading_zeros 64 ends) bs))
   put_holds q le ends count row is put =
       let ms = front q es in
       let wide : length ms ≡ 64 = length-front q es ∙ long-es in
@@ -371,7 +373,8 @@ module _ (h : HeaderValue) (bs : List ℕ) (long : 64 ≤ length bs) (vs : List 
 
 -- ---- stars and numbers
 
-module _ (h : HeaderValue) (plain : HasPlainNumbers h) (usual : h.null_text ≡ usual_null) (bs : List ℕ)
+module _ (h : GridHeaderContents) (plain : DigitWordsDenoteTheirNumber h) (usual : h.null_text
+    ≡ usual_null_text) (bs : List ℕ)
     (long : 64 ≤ length bs)
     (block : IsShortBlock bs) (vs : List ℕ) (bytes : AreCellBytes bs vs) where
   abbrev at_byte : ℕ → ℕ
@@ -414,7 +417,7 @@ module _ (h : HeaderValue) (plain : HasPlainNumbers h) (usual : h.null_text ≡ 
                 (block.before (at + 1 + j) (omega arith) (ap (λ p. is_null_star (at_byte p)) next ∙ star))
                 (word j (omega arith))
 
-    cell_of : cell_of_word h (take (n + 1) (drop (at + 1) bs)) ≡ Ok (byte_cell (get_or vs (at + 1 + n) 0))
+    cell_of : cell_of_word h (take (n + 1) (drop (at + 1) bs)) ≡ Ok (cell_of_stored_byte (get_or vs (at + 1 + n) 0))
     cell_of = by n refl
       where
         first : ℕ
@@ -424,7 +427,7 @@ module _ (h : HeaderValue) (plain : HasPlainNumbers h) (usual : h.null_text ≡ 
         front = drop_more bs first 0 (omega (arith, long))
 
         digits : ((i : ℕ) → i < n + 1 → is_digit (at_byte (first + i)) ≡ true)
-            → cell_of_word h (take (n + 1) (drop first bs)) ≡ Ok (byte_cell (get_or vs (first + n) 0))
+            → cell_of_word h (take (n + 1) (drop first bs)) ≡ Ok (cell_of_stored_byte (get_or vs (first + n) 0))
         digits each =
             let within : n + 1 ≤ length (drop first bs) = omega (arith, length-drop first bs, long) in
             let all = all_from is_digit (n + 1) (drop first bs) within
@@ -432,7 +435,8 @@ module _ (h : HeaderValue) (plain : HasPlainNumbers h) (usual : h.null_text ≡ 
             let value = bytes.numbers at n few_bytes (omega arith) (space_no_digit (at_byte at) before) all in
             number_from h plain n (drop first bs) (get_or vs (first + n) 0) within all value.0 value.1
 
-        by : (m : ℕ) → n ≡ m → cell_of_word h (take (n + 1) (drop first bs)) ≡ Ok (byte_cell (get_or vs (first + n) 0))
+        by : (m : ℕ) → n ≡ m → cell_of_word h (take (n + 1) (drop first bs))
+            ≡ Ok (cell_of_stored_byte (get_or vs (first + n) 0))
         by zero e = kind (is_digit (at_byte first)) refl
           where
             one : n + 1 ≡ 1
@@ -442,7 +446,7 @@ module _ (h : HeaderValue) (plain : HasPlainNumbers h) (usual : h.null_text ≡ 
             place = omega arith
 
             kind : (b : Bool) → is_digit (at_byte first) ≡ b
-                → cell_of_word h (take (n + 1) (drop first bs)) ≡ Ok (byte_cell (get_or vs (first + n) 0))
+                → cell_of_word h (take (n + 1) (drop first bs)) ≡ Ok (cell_of_stored_byte (get_or vs (first + n) 0))
             kind true d = digits (λ i less. let none : first + i ≡ first = omega arith in ap
                 (λ j. is_digit (at_byte j)) none ∙ d)
             kind false d =
@@ -452,7 +456,7 @@ module _ (h : HeaderValue) (plain : HasPlainNumbers h) (usual : h.null_text ≡ 
                 let null : get_or vs (first + n) 0 ≡ 255 = ap (λ p. get_or vs p 0) place
                 ∙ bytes.stars first (omega arith) star in
                 ap₂ (λ m l. cell_of_word h (take m l)) one front ∙ star_word h usual (at_byte first) star
-                ∙ ap (λ v. Ok (byte_cell v)) (sym null)
+                ∙ ap (λ v. Ok (cell_of_stored_byte v)) (sym null)
         by (suc m) e = digits (digit_beside (omega arith))
 
   pub star_bytes : AreWordBytes h bs vs
@@ -460,7 +464,7 @@ module _ (h : HeaderValue) (plain : HasPlainNumbers h) (usual : h.null_text ≡ 
 
 -- ---- null words and numbers
 
-pub null_bytes : (h : HeaderValue) (plain : HasPlainNumbers h) (bs : List ℕ) (long : 72 ≤ length bs)
+pub null_bytes : (h : GridHeaderContents) (plain : DigitWordsDenoteTheirNumber h) (bs : List ℕ) (long : 72 ≤ length bs)
     (fits : (k : ℕ) → get_or bs k 0 < 256)
     (lanes : List ℕ) (key size : ℕ) (is : IsNullKey h.null_text key size) (block : AreNullLanes bs lanes key size)
     → (0 < block.starts → 0 < size)
@@ -472,14 +476,15 @@ null_bytes h plain bs long fits lanes key size is block some first = record {
 }
   where
     by : (at n : ℕ) → at + 1 + n + 1 < 64 → IsNullWord bs lanes h.null_text at n ⊎ IsNumberWord bs lanes at n
-        → cell_of_word h (take (n + 1) (drop (at + 1) bs)) ≡ Ok (byte_cell (get_or (take 64 lanes) (at + 1 + n) 0))
+        → cell_of_word h (take (n + 1) (drop (at + 1) bs)) ≡ Ok
+        (cell_of_stored_byte (get_or (take 64 lanes) (at + 1 + n) 0))
     by at n last (inl (word, lane)) =
         ap (cell_of_word h) word ∙ null_text_cell h
-        ∙ ap (λ v. Ok (byte_cell v)) (sym (get_or-take 64 lanes (at + 1 + n) 0 (omega arith) ∙ lane))
+        ∙ ap (λ v. Ok (cell_of_stored_byte v)) (sym (get_or-take 64 lanes (at + 1 + n) 0 (omega arith) ∙ lane))
     by at n last (inr (digits, (value, small))) =
         number_from h plain n (drop (at + 1) bs) (get_or lanes (at + 1 + n) 0)
         (omega (arith, length-drop (at + 1) bs, long)) digits value small
-        ∙ ap (λ v. Ok (byte_cell v)) (sym (get_or-take 64 lanes (at + 1 + n) 0 (omega arith)))
+        ∙ ap (λ v. Ok (cell_of_stored_byte v)) (sym (get_or-take 64 lanes (at + 1 + n) 0 (omega arith)))
 
 -- ---- from bits to bytes
 
@@ -507,7 +512,7 @@ module _ (bs : List ℕ) (long : 64 ≤ length bs) where
   off true e = refl
   off false e = absurd (omega arith)
 
-  pub short_block : AreShortWords words (mask_l (map is_digit (take 64 bs))) (mask_l (map is_null_star (take 64 bs))) → IsShortBlock bs
+  pub short_block : AreStarsOrThreeDigitNumbers words (mask_l (map is_digit (take 64 bs))) (mask_l (map is_null_star (take 64 bs))) → IsShortBlock bs
   short_block is = record {
     first = off (is_space (get_or bs 0 0)) (sym (word_at 0 (omega arith)) ∙ is.first);
     known = λ i lt space digit.
@@ -522,7 +527,7 @@ module _ (bs : List ℕ) (long : 64 ≤ length bs) where
   }
 
   -- the lanes are the bytes of cells: 255 for stars, and otherwise the values of the words
-  pub cell_bytes_are : (values lanes : List ℕ) → AreWordValues (take 64 bs) values
+  pub cell_bytes_are : (values lanes : List ℕ) → AreWordValuesAtLastDigits (take 64 bs) values
       → ((p : ℕ) → p < 64 → get_or lanes p 0 ≡ cond (is_null_star (get_or (take 64 bs) p 0)) 255 (get_or values p 0)) → AreCellBytes bs (take 64 lanes)
   cell_bytes_are values lanes is each = record {
     stars = λ p lt star. lane p lt ∙ ap (λ b. cond b 255 (get_or values p 0)) star;

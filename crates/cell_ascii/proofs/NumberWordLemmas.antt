@@ -6,14 +6,14 @@ use Rattle.std.specs.List.{list_all}
 use Rattle.std.specs.Int.{bit_at}
 use Rattle.std.proofs.lemmas.List.{get_or-drop, take_rest}
 use Rattle.std.proofs.lemmas.Bool.Decides.{nat_tests}
-use Rattle.cell_ascii_meaning.specs.GridTokens.{is_space, is_word_byte, newlines}
+use Rattle.cell_ascii_meaning.specs.GridTokens.{is_space, is_word_byte, line_feed_count}
 use Rattle.cell_ascii_meaning.specs.EdgeNumbers.{is_digit, value_of_digits}
-use Rattle.cell_ascii_meaning.specs.Header.{HeaderValue}
+use Rattle.cell_ascii_meaning.specs.Header.{GridHeaderContents}
 use Rattle.cell_ascii_meaning.specs.CellTexts.{cell_of_word}
-use Rattle.cell_ascii.specs.TableWords.{HoldsLines, blanks, cleared_front}
+use Rattle.cell_ascii.specs.TableWords.{BytesHoldNextCellsAndLineFeeds, blanks, flags_with_first_cleared}
 use Rattle.cell_core.specs.Grid.{CellValue}
-use Rattle.cell_ascii_reading.specs.InRange.{HasPlainNumbers}
-use Rattle.cell_ascii_lanes.specs.NumberLanes.{AreNumberWords}
+use Rattle.cell_ascii_reading.specs.InRange.{DigitWordsDenoteTheirNumber}
+use Rattle.cell_ascii_lanes.specs.NumberLanes.{AreNumbersUpToSevenDigits}
 use Rattle.cell_ascii.proofs.BitLemmas.{NextEnd, next_end}
 use Rattle.cell_ascii.proofs.WordLemmas.{word-more, gap-one}
 use Rattle.cell_ascii_lanes.proofs.BlockByteLemmas.{all_from, one_from, bit_of}
@@ -23,7 +23,8 @@ use lib.Count.{count_trailing_zeros}
 use lib.Lanes.{mask_l}
 
 -- the first n bytes denote the cell of their value if they are digits
-pub digits_cell : (h : HeaderValue) → HasPlainNumbers h → (n : ℕ) (bs : List ℕ) (v : ℕ) → 0 < n → n ≤ length bs
+pub digits_cell : (h : GridHeaderContents) → DigitWordsDenoteTheirNumber h → (n : ℕ) (bs : List ℕ) (v : ℕ) → 0 < n
+    → n ≤ length bs
     → list_all is_digit (take n bs) ≡ true
     → v ≡ value_of_digits (take n bs) → v < 100000000 → cell_of_word h (take n bs) ≡ Ok (Some (pos v))
 digits_cell h plain zero bs v some within digits is small = absurd (omega arith)
@@ -51,10 +52,11 @@ off true e = absurd (omega arith)
 off false e = refl
 
 pub number_block : (bs : List ℕ) → 64 ≤ length bs → (m d : ℕ) → m ≡ mask_l (blanks bs)
-    → d ≡ mask_l (map is_digit (take 64 bs)) → AreNumberWords m d
+    → d ≡ mask_l (map is_digit (take 64 bs)) → AreNumbersUpToSevenDigits m d
     → IsNumberBlock bs
 number_block bs long m d a b numbers =
-    let is : AreNumberWords (mask_l (blanks bs)) (mask_l (map is_digit (take 64 bs))) = rw (a, b) at numbers in
+    let is : AreNumbersUpToSevenDigits (mask_l (blanks bs)) (mask_l (map is_digit (take 64 bs))) = rw
+    (a, b) at numbers in
     let space = bit_of bs long is_space in
     let digit = bit_of bs long is_digit in
     record {
@@ -86,7 +88,7 @@ pub record NextNumber (bs : List ℕ) (last ends : ℕ) : Type 0 where
 
 pub next_number : (bs : List ℕ) → 64 ≤ length bs → IsNumberBlock bs → (last ends : ℕ)
     → is_space (get_or bs last 0) ≡ true → 0 < ends
-    → ends ≡ mask_l (cleared_front (last + 1) (blanks bs)) → NextNumber bs last ends
+    → ends ≡ mask_l (flags_with_first_cleared (last + 1) (blanks bs)) → NextNumber bs last ends
 next_number bs long block last ends blank set is = record { end = next; some = some; few = few; digits = digits }
   where
     next : NextEnd bs (last + 1) ends
@@ -141,12 +143,12 @@ next_number bs long block last ends blank set is = record { end = next; some = s
 
 -- clearing the lowest set bit of a block that begins with a blank leaves the later blanks
 pub first_ends : (bs : List ℕ) → 64 ≤ length bs → is_space (get_or bs 0 0) ≡ true → (m : ℕ) → m ≡ mask_l (blanks bs)
-    → (0 < m) × (bit_and m (m - 1) ≡ mask_l (cleared_front 1 (blanks bs)))
+    → (0 < m) × (bit_and m (m - 1) ≡ mask_l (flags_with_first_cleared 1 (blanks bs)))
 first_ends bs long blank m is =
     let on_bit : bit_at m 0 ≡ 1 = ap (λ n. bit_at n 0) is ∙ bit_of bs long is_space 0 (omega arith) ∙ ap bit blank in
     let some : 0 < m = by m on_bit in
     let next = next_end bs 0 m long some is in
-    (some, next.next ∙ ap (λ k. mask_l (cleared_front (k + 1) (blanks bs))) (none next))
+    (some, next.next ∙ ap (λ k. mask_l (flags_with_first_cleared (k + 1) (blanks bs))) (none next))
   where
     by : (n : ℕ) → bit_at n 0 ≡ 1 → 0 < n
     by zero e = absurd (omega arith)
@@ -172,7 +174,7 @@ pub record TwoNumbers (bs : List ℕ) (last ends others : ℕ) : Type 0 where
 
 pub two_numbers : (bs : List ℕ) → 64 ≤ length bs → IsNumberBlock bs → (last ends others : ℕ)
     → is_space (get_or bs last 0) ≡ true → 0 < ends
-    → ends ≡ mask_l (cleared_front (last + 1) (blanks bs)) → others ≡ bit_and ends (ends - 1) → 0 < others
+    → ends ≡ mask_l (flags_with_first_cleared (last + 1) (blanks bs)) → others ≡ bit_and ends (ends - 1) → 0 < others
     → TwoNumbers bs last ends others
 two_numbers bs long block last ends others blank set is next more =
     let first = next_number bs long block last ends blank set is in
@@ -183,14 +185,14 @@ two_numbers bs long block last ends others blank set is next more =
     }
 
 -- the next word of digits adds one more cell
-pub number_more : (h : HeaderValue) → HasPlainNumbers h → (bs : List ℕ) → 64 ≤ length bs
+pub number_more : (h : GridHeaderContents) → DigitWordsDenoteTheirNumber h → (bs : List ℕ) → 64 ≤ length bs
     → (cells : List CellValue) (count last ends v : ℕ) → last < 64
     → is_space (get_or bs last 0) ≡ true → NextNumber bs last ends
     → v ≡ value_of_digits (take (count_trailing_zeros 64 ends - last - 1)
     (take (length bs - (last + 1)) (drop (last + 1) bs))) → v < 100000000
-    → HoldsLines h bs cells count last (newlines (take last bs))
-    → HoldsLines h bs (cells ++ Some (pos v) ∷ []) (count + 1) (count_trailing_zeros 64 ends)
-    (newlines (take (count_trailing_zeros 64 ends) bs))
+    → BytesHoldNextCellsAndLineFeeds h bs cells count last (line_feed_count (take last bs))
+    → BytesHoldNextCellsAndLineFeeds h bs (cells ++ Some (pos v) ∷ []) (count + 1) (count_trailing_zeros 64 ends)
+    (line_feed_count (take (count_trailing_zeros 64 ends) bs))
 number_more h plain bs long cells count last ends v within blank next is small holds =
     let end = count_trailing_zeros 64 ends in
     let size = end - (last + 1) in

@@ -12,8 +12,8 @@ use Rattle.std.proofs.lemmas.Bool.{cases_eq}
 use Rattle.std.proofs.lemmas.List.{length-map, take-take, drop-take, drop-map, get_or-take, take_all}
 use Rattle.std.proofs.lemmas.List.Sums.{prefix_len-le-length, prefix_len-drop_yes}
 use Rattle.cell_ascii_meaning.specs.GridTokens.{is_space}
-use Rattle.cell_ascii.specs.TableWords.{blanks, cleared_front}
-use Rattle.cell_ascii.specs.parts.BlankRuns.{IsAtBlank, IsBehindBlanks}
+use Rattle.cell_ascii.specs.TableWords.{blanks, flags_with_first_cleared}
+use Rattle.cell_ascii.specs.parts.BlankRuns.{ByteIsBlankAndBitsMarkBlanks, AreIndexAndBitsAfterBlanks}
 use Rattle.cell_ascii.proofs.BitLemmas.{bit, turned, unset, itself, mask-take}
 use lib.Count.{count_trailing_zeros}
 use lib.Lanes.{mask_l}
@@ -40,7 +40,8 @@ one-more [] = refl
 one-more (true ∷ ms) = omega (arith, one-more ms)
 one-more (false ∷ ms) = omega arith
 
-sum : (at : ℕ) (ms : List Bool) → at ≤ length ms → mask_l (carried_at at ms) ≡ mask_l (cleared_front at ms) + 2 ^ at
+sum : (at : ℕ) (ms : List Bool) → at ≤ length ms → mask_l (carried_at at ms)
+    ≡ mask_l (flags_with_first_cleared at ms) + 2 ^ at
 sum zero ms le = one-more ms
 sum (suc n) [] le = absurd (omega arith)
 sum (suc n) (m ∷ ms) le = omega (arith, sum n ms (omega arith), pow-suc 2 n)
@@ -76,16 +77,17 @@ next-bit a b c m n r low high =
 
 -- the lanes after the run are unchanged by the carry
 front-others : (at : ℕ) (ms : List Bool) → at ≤ length ms
-    → bit_and (mask_l (cleared_front at ms)) (mask_l (front at ms)) ≡ mask_l (cleared_front (at + run (drop at ms)) ms)
+    → bit_and (mask_l (flags_with_first_cleared at ms)) (mask_l (front at ms))
+    ≡ mask_l (flags_with_first_cleared (at + run (drop at ms)) ms)
 front-others zero [] le = and_self 0
 front-others zero (true ∷ ms) le =
     let k = run ms in
     let one : 0 + (1 + k) ≡ suc k = omega arith in
     let same : 0 + k ≡ k = omega arith in
-    let rest : bit_and (mask_l ms) (mask_l (front zero ms)) ≡ mask_l (cleared_front k ms) =
+    let rest : bit_and (mask_l ms) (mask_l (front zero ms)) ≡ mask_l (flags_with_first_cleared k ms) =
     rw same at (front-others zero ms (omega arith)) in
-    next-bit true false false (mask_l ms) (mask_l (front zero ms)) (mask_l (cleared_front k ms)) refl rest
-    ∙ ap (λ (n : ℕ). mask_l (cleared_front n (true ∷ ms))) (sym one)
+    next-bit true false false (mask_l ms) (mask_l (front zero ms)) (mask_l (flags_with_first_cleared k ms)) refl rest
+    ∙ ap (λ (n : ℕ). mask_l (flags_with_first_cleared n (true ∷ ms))) (sym one)
 front-others zero (false ∷ ms) le =
     let all : bit_and (mask_l ms) (mask_l (take (length ms) ms)) ≡ mask_l ms =
     ap (λ (l : List Bool). bit_and (mask_l ms) (mask_l l)) (take_all (length ms) ms (omega arith))
@@ -96,8 +98,8 @@ front-others (suc n) (m ∷ ms) le =
     let k = run (drop n ms) in
     let one : suc n + k ≡ suc (n + k) = omega arith in
     let rest = front-others n ms (omega arith) in
-    next-bit false false false (mask_l (cleared_front n ms)) (mask_l (front n ms)) (mask_l (cleared_front (n + k) ms)) refl rest
-    ∙ ap (λ (j : ℕ). mask_l (cleared_front j (m ∷ ms))) (sym one)
+    next-bit false false false (mask_l (flags_with_first_cleared n ms)) (mask_l (front n ms)) (mask_l (flags_with_first_cleared (n + k) ms)) refl rest
+    ∙ ap (λ (j : ℕ). mask_l (flags_with_first_cleared j (m ∷ ms))) (sym one)
 
 -- the lowest set bit of 64 lanes is the first true lane, or 64 if there is none
 lowest-of : (ms : List Bool) → length ms ≡ 64 → count_trailing_zeros 64 (mask_l ms) ≡ unset ms
@@ -124,8 +126,12 @@ all-blanks (x ∷ xs) = by (is_space x) refl (all-blanks xs)
     by false e is = refl
 
 -- adding the bit of a blank gives the place after the last blank of its run
-pub behind-blanks : (bs : List ℕ) (ends at bit : ℕ) → at < 64 → bit ≡ 2 ^ at → IsAtBlank bs ends at
-    → IsBehindBlanks bs at (count_trailing_zeros 64 ((ends + bit) % 2 ^ 64), bit_and ends ((ends + bit) % 2 ^ 64))
+pub behind-blanks : (bs : List ℕ) (ends at bit : ℕ) → at < 64 → bit ≡ 2 ^ at → ByteIsBlankAndBitsMarkBlanks bs ends at
+    → AreIndexAndBitsAfterBlanks bs at (
+      count_trailing_zeros 64 ((ends + bit) % 2 ^ 64),
+      bit_and ends
+          ((ends + bit) % 2 ^ 64),
+    )
 behind-blanks bs ends at bit few power is =
     let buffered = is.buffered in
     let ms = blanks bs in

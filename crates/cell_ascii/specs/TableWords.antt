@@ -1,24 +1,25 @@
 -- Words that were read before, looked up by their bytes, and blanks as bits of a number.
 use Rattle.std.specs.Prelude.{ℕ, zero, suc, ◌+◌, ◌-◌, ◌*◌, ◌/◌, ◌^◌, ◌≡◌, ◌<◌, ◌≤◌, Bool, false, List, [], ◌∷◌, map, length, take, drop, slice_set, Ok}
 use Rattle.std.specs.Simd.Lanes.{digits_l}
-use Rattle.cell_core_devices.specs.Device.{Coming}
+use Rattle.cell_core_devices.specs.Device.{ComingBytes}
 use Rattle.cell_core.specs.Grid.{CellValue}
-use Rattle.cell_ascii_reading.specs.Ahead.{before_coming}
+use Rattle.cell_ascii_reading.specs.Ahead.{bytes_to_come_with_prefix}
 use Rattle.cell_ascii_meaning.specs.GridTokens.{is_line_feed, is_space}
-use Rattle.cell_ascii_meaning.specs.Header.{HeaderValue}
-use Rattle.cell_ascii_meaning.specs.CellTexts.{cell_from, cell_of_word, at_of, many}
-use Rattle.cell_ascii.specs.declared.word_table.WordEntry.{WordEntry}
+use Rattle.cell_ascii_meaning.specs.Header.{GridHeaderContents}
+use Rattle.cell_ascii_meaning.specs.CellTexts.{next_cell_after_position, cell_of_word, position_without_pending_word}
+use Rattle.cell_ascii_meaning.specs.CellTexts.{items_read_one_after_another}
+use Rattle.cell_ascii.specs.declared.word_table.WordTableEntry.{WordTableEntry}
 
 -- the top `size` bytes of a 64-bit number
-abbrev pub kept_bytes : ℕ → ℕ → List ℕ
-kept_bytes key size = digits_l 256 size (key / 2 ^ (64 - 8 * size))
+abbrev pub top_bytes_of_number : ℕ → ℕ → List ℕ
+top_bytes_of_number key size = digits_l 256 size (key / 2 ^ (64 - 8 * size))
 
 -- an entry is free, or contains the cell of the word that its bytes spell
-abbrev pub IsEntry : HeaderValue → WordEntry → Type 0
-IsEntry h e = 0 < e.size → cell_of_word h (kept_bytes e.key e.size) ≡ Ok e.cell
+abbrev pub WordEntryIsFreeOrHoldsCell : GridHeaderContents → WordTableEntry → Type 0
+WordEntryIsFreeOrHoldsCell h e = 0 < e.size → cell_of_word h (top_bytes_of_number e.key e.size) ≡ Ok e.cell
 
 -- the row contains the word's cell at index `i`, and is otherwise unchanged
-pub record IsCellPut (h : HeaderValue) (word : List ℕ) (i : ℕ) (old new : List CellValue) : Type 0 where
+pub record IsWordCellPutInRow (h : GridHeaderContents) (word : List ℕ) (i : ℕ) (old new : List CellValue) : Type 0 where
   pub cell : CellValue
   pub is : cell_of_word h word ≡ Ok cell
   pub row : new ≡ slice_set old i cell
@@ -32,20 +33,21 @@ abbrev pub feeds : List ℕ → List Bool
 feeds bs = map is_line_feed (take 64 bs)
 
 -- the list with its first n flags cleared
-abbrev pub cleared_front : ℕ → List Bool → List Bool
-cleared_front zero ms = ms
-cleared_front (suc n) [] = []
-cleared_front (suc n) (m ∷ ms) = false ∷ cleared_front n ms
+abbrev pub flags_with_first_cleared : ℕ → List Bool → List Bool
+flags_with_first_cleared zero ms = ms
+flags_with_first_cleared (suc n) [] = []
+flags_with_first_cleared (suc n) (m ∷ ms) = false ∷ flags_with_first_cleared n ms
 
--- like `HoldsCells`, for bytes that contain `lines` line feeds
-abbrev pub HoldsLines : HeaderValue → List ℕ → List CellValue → ℕ → ℕ → ℕ → Type 0
-HoldsLines h bs cells count n lines = (line : ℕ) (c : Coming)
-    → many (cell_from h) count (at_of line 0 (before_coming bs c)) ≡ Ok (cells, at_of (line + lines) 0 (before_coming (drop n bs) c))
+-- like `BytesHoldNextCells`, for bytes that contain `lines` line feeds
+abbrev pub BytesHoldNextCellsAndLineFeeds : GridHeaderContents → List ℕ → List CellValue → ℕ → ℕ → ℕ → Type 0
+BytesHoldNextCellsAndLineFeeds h bs cells count n lines = (line : ℕ) (c : ComingBytes)
+    → items_read_one_after_another (next_cell_after_position h) count (position_without_pending_word line 0 (bytes_to_come_with_prefix bs c)) ≡ Ok (cells, position_without_pending_word (line + lines) 0 (bytes_to_come_with_prefix (drop n bs) c))
 
 -- the row starts with the next cells of these bytes, and the rest is unchanged; `read` holds the number of cells, bytes
 -- and line feeds that were read
-pub record AreCellsRead (h : HeaderValue) (bs : List ℕ) (old new : List CellValue) (read : ℕ × ℕ × ℕ) : Type 0 where
-  pub cells : HoldsLines h bs (take read.0 new) read.0 read.1 read.2
+pub record AreNextCellsReadIntoRow (h : GridHeaderContents) (bs : List ℕ) (old new : List CellValue) (read : ℕ × ℕ
+    × ℕ) : Type 0 where
+  pub cells : BytesHoldNextCellsAndLineFeeds h bs (take read.0 new) read.0 read.1 read.2
   pub count : read.0 ≤ length old
   pub within : read.1 ≤ length bs
   pub among : read.2 ≤ read.1

@@ -5,7 +5,7 @@
 //!   `cell_ascii_meaning`
 //! - `writer`: `write_map`, re-exported from `cell_ascii_writer`
 //! - `law`: laws about reading, re-exported from `cell_ascii_law` and `cell_ascii_law_faults`
-//! - private: `opening` reads the header and the first word after it
+//! - private: `opening` reads the header and the first word after it; `row_pushing` appends rows to a map
 //! - `known_sources`: the law that clauses about supposed contents hold for known bytes
 //! - `short_cells`, `word_table`: fast ways to read buffered cells, between which `pace` of
 //!   `cell_ascii_lanes` chooses. They read words in place, look up words that occurred before, and
@@ -28,6 +28,7 @@ pub mod known_sources;
 pub mod law;
 pub mod number_words;
 mod opening;
+mod row_pushing;
 pub mod short_cells;
 pub mod word_table;
 

@@ -1,10 +1,10 @@
 //! Reads cells whose bytes are in the buffer.
 
 ghost use Rattle.std.specs.Prelude.{◌≡◌, ℕ, List, ◌∷◌, ◌++◌, ◌+◌, ◌*◌, ◌/◌, ◌<◌, ◌≤◌, pos, neg_ℤ, length, take, drop, replicate, Some, IfSome};
-ghost use Rattle.cell_ascii.specs.BufferedCells.{HoldsFront, HoldsWord, IsNumeral, ComesAgain, buffered_word};
-ghost use Rattle.cell_ascii.specs.TableWords.{AreCellsRead};
-ghost use Rattle.cell_ascii_meaning.specs.EdgeNumbers.{whole_number};
-ghost use Rattle.cell_ascii.specs.parts.InLine.{AreCellsInLine};
+ghost use Rattle.cell_ascii.specs.BufferedCells.{FirstBytesDetermineCell, FirstBytesHoldNextWord, BytesStartWithNumber, FirstBytesAreRepeated, first_bytes_without_space};
+ghost use Rattle.cell_ascii.specs.TableWords.{AreNextCellsReadIntoRow};
+ghost use Rattle.cell_ascii_meaning.specs.EdgeNumbers.{whole_number_of_text};
+ghost use Rattle.cell_ascii.specs.parts.InLine.{AreCellsOfLineReadIntoRow};
 
 use crate::word_table::WordTable;
 use cell_ascii_lanes::pace::{Pace, Way};
@@ -15,26 +15,27 @@ use cell_core::cell::Cell;
 use cell_core_values::whole_numbers::is_digit;
 
 // Maximum number of digits for which every number fits in 32 bits.
-pub(crate) const MOST_DIGITS: usize = 9;
+pub(crate) const MOST_DIGITS_FITTING_32_BITS: usize = 9;
 
 // Maximum length of a word.
-const MOST_BYTES: usize = 64;
+const MOST_WORD_BYTES: usize = 64;
 
 // Looking for repeated words runs on credit: each word costs credit, each repetition earns 1, up to a maximum. When the
 // credit is used up, cells are read one by one for a while.
-const MOST_CREDIT: usize = 8;
+const MOST_REPETITION_CREDIT: usize = 8;
 
-const COST_OF_A_WORD: usize = 2;
+const REPETITION_CREDIT_COST_OF_WORD: usize = 2;
 
 // Number of tries without a cell before `cells_in` gives up.
-const MOST_TRIES: usize = 3;
+const MOST_TRIES_WITHOUT_CELL: usize = 3;
 
 // Reads one to three digits followed by a blank or line feed from the start of four bytes. Returns the value and the
 // number of digits.
 #[inline(always)]
 #[tactic(auto, using(crate::proofs::BufferedLemmas::short_one, crate::proofs::BufferedLemmas::short_two, crate::proofs::BufferedLemmas::short_three))]
-fn short_digits(a: u8, b: u8, c: u8, d: u8) -> Option<(u32, usize)>
-    ensures { IfSome result (λ r. (bytes : List ℕ) → IsNumeral (a ∷ b ∷ c ∷ d ∷ bytes) r.0 r.1) }
+fn read_up_to_three_digits(a: u8, b: u8, c: u8, d: u8) -> Option<(u32, usize)>
+    ensures { IfSome result (λ r. (bytes : List ℕ)
+        → BytesStartWithNumber (a ∷ b ∷ c ∷ d ∷ bytes) r.0 r.1) }
 {
     if !is_digit(a) {
         return None;
@@ -58,13 +59,13 @@ fn short_digits(a: u8, b: u8, c: u8, d: u8) -> Option<(u32, usize)>
 
 // Reads one to nine digits followed by a blank or line feed. Returns the value and the number of digits.
 #[inline(always)]
-fn more_digits(bytes: &[u8]) -> Option<(u32, usize)>
-    ensures { IfSome result (λ r. IsNumeral bytes.now r.0 r.1) }
+fn read_up_to_nine_digits(bytes: &[u8]) -> Option<(u32, usize)>
+    ensures { IfSome result (λ r. BytesStartWithNumber bytes.now r.0 r.1) }
 {
     let mut value = 0u32;
     for (i, b) in bytes.iter().enumerate() {
         if is_digit(*b) {
-            if i >= MOST_DIGITS {
+            if i >= MOST_DIGITS_FITTING_32_BITS {
                 return None;
             }
             value = value * 10 + (*b - b'0') as u32;
@@ -78,7 +79,7 @@ fn more_digits(bytes: &[u8]) -> Option<(u32, usize)>
 }
 
 // Negates a value that was read after a minus sign.
-pub(crate) fn negative(value: u32) -> i64
+pub(crate) fn negated_value(value: u32) -> i64
     ensures { result ≡ neg_ℤ (pos value) }
 {
     -(value as i64)
@@ -87,42 +88,44 @@ pub(crate) fn negative(value: u32) -> i64
 // Reads a space, a number of one to three digits, and the byte that ends it. Returns the number and the bytes before
 // that last byte. The buffer must be long enough for the longest form, so that its length is checked only once.
 #[inline(always)]
-fn short_number_in(buffered: &[u8]) -> Option<(i64, usize)>
-    ensures word { IfSome result (λ r. HoldsWord buffered.now r.1) }
-    ensures number { IfSome result (λ r. whole_number (buffered_word buffered.now r.1) ≡ Some r.0) }
+fn read_spaced_short_number(buffered: &[u8]) -> Option<(i64, usize)>
+    ensures word { IfSome result (λ r. FirstBytesHoldNextWord buffered.now r.1) }
+    ensures number { IfSome result (λ r. whole_number_of_text
+        (first_bytes_without_space buffered.now r.1) ≡ Some r.0) }
     ensures within { IfSome result (λ r. (0 < r.1) × (r.1 ≤ length buffered.now)) }
 {
     let [b' ', a, b, c, d, e, ..] = buffered else {
         return None;
     };
     if *a == b'-' {
-        let (value, n) = short_digits(*b, *c, *d, *e)?;
-        return Some((negative(value), n + 2));
+        let (value, n) = read_up_to_three_digits(*b, *c, *d, *e)?;
+        return Some((negated_value(value), n + 2));
     }
-    let (value, n) = short_digits(*a, *b, *c, *d)?;
+    let (value, n) = read_up_to_three_digits(*a, *b, *c, *d)?;
     Some((value as i64, n + 1))
 }
 
-// Like `short_number_in`, for numbers of one to nine digits.
-fn number_in(buffered: &[u8]) -> Option<(i64, usize)>
-    ensures word { IfSome result (λ r. HoldsWord buffered.now r.1) }
-    ensures number { IfSome result (λ r. whole_number (buffered_word buffered.now r.1) ≡ Some r.0) }
+// Like `read_spaced_short_number`, for numbers of one to nine digits.
+fn read_spaced_number(buffered: &[u8]) -> Option<(i64, usize)>
+    ensures word { IfSome result (λ r. FirstBytesHoldNextWord buffered.now r.1) }
+    ensures number { IfSome result (λ r. whole_number_of_text
+        (first_bytes_without_space buffered.now r.1) ≡ Some r.0) }
     ensures within { IfSome result (λ r. (0 < r.1) × (r.1 ≤ length buffered.now)) }
 {
     let [b' ', rest @ ..] = buffered else {
         return None
     };
     if let [b'-', digits @ ..] = rest {
-        let (value, n) = more_digits(digits)?;
-        return Some((negative(value), n + 2));
+        let (value, n) = read_up_to_nine_digits(digits)?;
+        return Some((negated_value(value), n + 2));
     }
-    let (value, n) = more_digits(rest)?;
+    let (value, n) = read_up_to_nine_digits(rest)?;
     Some((value as i64, n + 1))
 }
 
 // Finds a space, a word, and the byte that ends it. Returns the number of bytes before that last byte.
-fn word_in(buffered: &[u8]) -> Option<usize>
-    ensures word { IfSome result (λ n. HoldsWord buffered.now n) }
+fn length_of_spaced_word(buffered: &[u8]) -> Option<usize>
+    ensures word { IfSome result (λ n. FirstBytesHoldNextWord buffered.now n) }
     ensures within { IfSome result (λ n. (0 < n) × (n ≤ length buffered.now)) }
 {
     let [b' ', rest @ ..] = buffered else {
@@ -130,7 +133,7 @@ fn word_in(buffered: &[u8]) -> Option<usize>
     };
     for (i, b) in rest.iter().enumerate() {
         if is_space(*b) {
-            return if 0 < i && i <= MOST_BYTES {
+            return if 0 < i && i <= MOST_WORD_BYTES {
                 Some(i + 1)
             } else {
                 None
@@ -142,16 +145,17 @@ fn word_in(buffered: &[u8]) -> Option<usize>
 
 // Returns the cell of the number that ends before index `n`, together with `n`.
 #[inline(always)]
-fn buffered_number_cell(
+fn cell_of_number_and_end_index(
     buffered: &[u8],
     header: &Header,
     number: i64,
     n: usize,
 ) -> Option<(Cell, usize)>
-    requires word { HoldsWord buffered.now n }
-    requires number { whole_number (buffered_word buffered.now n) ≡ Some number }
+    requires word { FirstBytesHoldNextWord buffered.now n }
+    requires number { whole_number_of_text (first_bytes_without_space buffered.now n)
+        ≡ Some number }
     requires within { (0 < n) × (n ≤ length buffered.now) }
-    ensures cell { IfSome result (λ r. HoldsFront header.now buffered.now r.0 r.1) }
+    ensures cell { IfSome result (λ r. FirstBytesDetermineCell header.now buffered.now r.0 r.1) }
     ensures within { IfSome result (λ r. (0 < r.1) × (r.1 ≤ length buffered.now)) }
 {
     match header.cell_of_number(&buffered[1..n], number) {
@@ -160,16 +164,16 @@ fn buffered_number_cell(
     }
 }
 
-// Like `buffered_cell`, for words that are not short numbers.
+// Like `read_first_buffered_cell`, for words that are not short numbers.
 #[inline(never)]
-fn other_cell_in(buffered: &[u8], header: &Header) -> Option<(Cell, usize)>
-    ensures cell { IfSome result (λ r. HoldsFront header.now buffered.now r.0 r.1) }
+fn read_cell_of_long_or_other_word(buffered: &[u8], header: &Header) -> Option<(Cell, usize)>
+    ensures cell { IfSome result (λ r. FirstBytesDetermineCell header.now buffered.now r.0 r.1) }
     ensures within { IfSome result (λ r. (0 < r.1) × (r.1 ≤ length buffered.now)) }
 {
-    if let Some((number, n)) = number_in(buffered) {
-        return buffered_number_cell(buffered, header, number, n);
+    if let Some((number, n)) = read_spaced_number(buffered) {
+        return cell_of_number_and_end_index(buffered, header, number, n);
     }
-    let n = word_in(buffered)?;
+    let n = length_of_spaced_word(buffered)?;
     match header.cell_of_word(&buffered[1..n]) {
         Ok(cell) => Some((cell, n)),
         Err(_) => None,
@@ -179,20 +183,20 @@ fn other_cell_in(buffered: &[u8], header: &Header) -> Option<(Cell, usize)>
 // Reads a space and a word that ends within the buffer. Returns the cell and the number of bytes read, or `None` if the
 // bytes have another form or the word is not a cell.
 #[inline(always)]
-fn buffered_cell(buffered: &[u8], header: &Header) -> Option<(Cell, usize)>
-    ensures cell { IfSome result (λ r. HoldsFront header.now buffered.now r.0 r.1) }
+fn read_first_buffered_cell(buffered: &[u8], header: &Header) -> Option<(Cell, usize)>
+    ensures cell { IfSome result (λ r. FirstBytesDetermineCell header.now buffered.now r.0 r.1) }
     ensures within { IfSome result (λ r. (0 < r.1) × (r.1 ≤ length buffered.now)) }
 {
-    match short_number_in(buffered) {
-        Some((number, n)) => buffered_number_cell(buffered, header, number, n),
-        None => other_cell_in(buffered, header),
+    match read_spaced_short_number(buffered) {
+        Some((number, n)) => cell_of_number_and_end_index(buffered, header, number, n),
+        None => read_cell_of_long_or_other_word(buffered, header),
     }
 }
 
 // Returns the number of bytes from index `n` on that equal the byte `n` places earlier. May ignore some of the last
 // buffered bytes.
 #[inline(always)]
-fn bytes_again(buffered: &[u8], n: usize) -> usize
+fn byte_count_continuing_period(buffered: &[u8], n: usize) -> usize
     requires { n ≤ length buffered.now }
     ensures alike { take result (drop n buffered.now) ≡ take result buffered.now }
     ensures within { n + result ≤ length buffered.now }
@@ -212,7 +216,7 @@ fn bytes_again(buffered: &[u8], n: usize) -> usize
 
 // Divides `a` by `n`. The most common word lengths have their own branches, so the compiler divides by a constant.
 #[inline(always)]
-fn quotient(a: usize, n: usize) -> usize
+fn quotient_by_word_length(a: usize, n: usize) -> usize
     requires { 0 < n }
     ensures { result ≡ a / n }
 {
@@ -227,17 +231,17 @@ fn quotient(a: usize, n: usize) -> usize
 
 // Returns the number of times that the first `n` bytes and the byte after them are repeated within the buffer.
 #[inline(always)]
-fn times_again(buffered: &[u8], n: usize) -> usize
+fn repetition_count_of_first_word(buffered: &[u8], n: usize) -> usize
     requires some { 0 < n }
     requires within { n ≤ length buffered.now }
-    ensures again { ComesAgain buffered.now n result }
+    ensures again { FirstBytesAreRepeated buffered.now n result }
     ensures within { n + result * n ≤ length buffered.now }
 {
-    let bytes = bytes_again(buffered, n);
+    let bytes = byte_count_continuing_period(buffered, n);
     if bytes == 0 {
         return 0;
     }
-    quotient(bytes - 1, n)
+    quotient_by_word_length(bytes - 1, n)
 }
 
 // Writes `cell` to `count` cells of a row, starting at index `at`.
@@ -251,27 +255,29 @@ fn fill_cells(row: &mut [Cell], at: usize, count: usize, cell: Cell)
 
 // Returns the remaining credit after a word that was repeated `more` times.
 #[inline(always)]
-fn next_credit(credit: usize, more: usize) -> usize {
+fn repetition_credit_after_word(credit: usize, more: usize) -> usize {
     credit
         .saturating_add(more)
-        .min(MOST_CREDIT)
-        .saturating_sub(COST_OF_A_WORD)
+        .min(MOST_REPETITION_CREDIT)
+        .saturating_sub(REPETITION_CREDIT_COST_OF_WORD)
 }
 
 // Like `cells_in`, for texts with repeated words: each repeated word is read once. Stops when few words repeat.
 #[inline(never)]
-fn repeated_cells_in(buffered: &[u8], header: &Header, row: &mut [Cell]) -> (usize, usize)
-    ensures { AreCellsInLine header.now buffered.now row.old row.new result }
+fn read_cells_by_repetition(buffered: &[u8], header: &Header, row: &mut [Cell]) -> (usize, usize)
+    ensures { AreCellsOfLineReadIntoRow header.now buffered.now row.old row.new result }
 {
     let mut i = 0;
     let mut passed = 0;
-    let mut credit = MOST_CREDIT;
+    let mut credit = MOST_REPETITION_CREDIT;
     'words: while i < row.len() && credit > 0 {
-        let Some(found) = buffered_cell(&buffered[passed..], header) else {
+        let Some(found) = read_first_buffered_cell(&buffered[passed..], header) else {
             return (i, passed);
         };
-        let more = times_again(&buffered[passed..], found.1).min(row.len() - i - 1);
-        credit = next_credit(credit, more);
+        let more = repetition_count_of_first_word(&buffered[passed..], found.1).min(
+            row.len() - i - 1,
+        );
+        credit = repetition_credit_after_word(credit, more);
         fill_cells(row, i, 1 + more, found.0);
         i += 1 + more;
         passed += found.1 + more * found.1;
@@ -284,12 +290,12 @@ fn repeated_cells_in(buffered: &[u8], header: &Header, row: &mut [Cell]) -> (usi
 // It is not inlined, because in a larger function, or with one more parameter, its loop would keep fewer values in
 // registers.
 #[inline(never)]
-fn single_cells_in(buffered: &[u8], header: &Header, row: &mut [Cell]) -> (usize, usize)
-    ensures { AreCellsInLine header.now buffered.now row.old row.new result }
+fn read_cells_one_by_one(buffered: &[u8], header: &Header, row: &mut [Cell]) -> (usize, usize)
+    ensures { AreCellsOfLineReadIntoRow header.now buffered.now row.old row.new result }
 {
     let mut passed = 0;
     for i in 0..row.len() {
-        let Some(found) = buffered_cell(&buffered[passed..], header) else {
+        let Some(found) = read_first_buffered_cell(&buffered[passed..], header) else {
             return (i, passed);
         };
         row[i] = found.0;
@@ -299,18 +305,22 @@ fn single_cells_in(buffered: &[u8], header: &Header, row: &mut [Cell]) -> (usize
 }
 
 // Returns the number of tries left, which is reset if the last try found cells.
-fn tries_left(tries: usize, found: usize) -> usize
+fn tries_left_after_try(tries: usize, found: usize) -> usize
     requires { 0 < tries }
     // This bound proves that `cells_in` terminates.
     ensures { result < tries + 4 * found }
 {
-    if found > 0 { MOST_TRIES } else { tries - 1 }
+    if found > 0 {
+        MOST_TRIES_WITHOUT_CELL
+    } else {
+        tries - 1
+    }
 }
 
 // Reads at most `most` cells in one way. Returns the number of cells, the bytes read, and the line feeds among them.
 // Adds the words not found in the table to `missed`.
 #[inline(never)]
-fn cells_by(
+fn read_cells_in_way(
     way: Way,
     most: usize,
     buffered: &[u8],
@@ -318,16 +328,16 @@ fn cells_by(
     row: &mut [Cell],
     missed: &mut usize,
 ) -> (usize, usize, u64)
-    ensures cells { AreCellsRead words.old buffered.now row.old row.new result }
+    ensures cells { AreNextCellsReadIntoRow words.old buffered.now row.old row.new result }
     ensures same { words.new ≡ words.old }
 {
     let end = most.min(row.len());
     let part = &mut row[..end];
     let found = match way {
-        Way::Repeated => repeated_cells_in(buffered, words.header(), part),
+        Way::Repeated => read_cells_by_repetition(buffered, words.header(), part),
         Way::Sought => return words.cells_in::<true>(buffered, part, missed),
         Way::Digits => return words.cells_in::<false>(buffered, part, missed),
-        Way::Single => single_cells_in(buffered, words.header(), part),
+        Way::Single => read_cells_one_by_one(buffered, words.header(), part),
     };
     (found.0, found.1, 0)
 }
@@ -342,17 +352,17 @@ pub fn cells_in(
     row: &mut [Cell],
     pace: &mut Pace,
 ) -> (usize, usize, u64)
-    ensures cells { AreCellsRead words.old buffered.now row.old row.new result }
+    ensures cells { AreNextCellsReadIntoRow words.old buffered.now row.old row.new result }
     ensures same { words.new ≡ words.old }
 {
     let mut i = 0;
     let mut passed = 0;
     let mut lines = 0;
-    let mut tries = MOST_TRIES;
+    let mut tries = MOST_TRIES_WITHOUT_CELL;
     'ways: while i < row.len() && tries > 0 {
         let (way, most) = pace.next_way(tries);
         let mut missed = 0;
-        let found = cells_by(
+        let found = read_cells_in_way(
             way,
             most,
             &buffered[passed..],
@@ -364,7 +374,7 @@ pub fn cells_in(
         passed += found.1;
         lines += found.2;
         pace.pass(way, found.0, missed, i == row.len());
-        tries = tries_left(tries, found.0);
+        tries = tries_left_after_try(tries, found.0);
     }
     (i, passed, lines)
 }

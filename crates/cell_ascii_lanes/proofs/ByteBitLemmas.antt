@@ -9,7 +9,7 @@ use Rattle.std.proofs.lemmas.Nat.{or_lt, and_mask, ones-le, one_shl, mod-pow-add
 use Rattle.std.proofs.lemmas.Nat.Bits.{bit_at-suc, bit_at-zero, bit_at-lt, bit_at_and, bit_at_or, bit_at_not, bit_at_cat_low}
 use Rattle.std.proofs.lemmas.Bool.{eqb-true, lt-leb}
 use Rattle.std.proofs.lemmas.Bool.Decides.{nat_tests}
-use Rattle.cell_ascii_lanes.specs.WordLanes.{AreShortWords, kept}
+use Rattle.cell_ascii_lanes.specs.WordLanes.{AreStarsOrThreeDigitNumbers, flagged_items}
 use Rattle.cell_ascii_lanes.proofs.ByteLaneLemmas.{upto, upto_sound}
 use Rattle.std.proofs.Math.Nat.{div-div-eq-div-mul, pow-suc}
 use lib.Bits.{bit_or, bit_and}
@@ -101,7 +101,7 @@ module _ (words digits stars : ℕ) (D : digits < 2 ^ 64) (S : stars < 2 ^ 64) w
   two_at : (i : ℕ) → i + 1 < 64 → bit_at two (i + 1) ≡ min (bit_at words (i + 1)) (bit_at words i)
   two_at i lt = bit_at_and words (words * 2 % 2 ^ 64) (i + 1) ∙ ap (min (bit_at words (i + 1))) (shl_one words i lt)
 
-  pub short_words : (bit_or (bit_or (bit_or other joined) four) (bit_and words 1) == 0) ≡ true → AreShortWords words digits stars
+  pub short_words : (bit_or (bit_or (bit_or other joined) four) (bit_and words 1) == 0) ≡ true → AreStarsOrThreeDigitNumbers words digits stars
   short_words is =
       let e = eqb-true _ 0 is in
       record {
@@ -141,7 +141,7 @@ abbrev places : ℕ → ℕ → ℕ → List ℕ
 places zero p m = []
 places (suc n) p m = if m % 2 == 1 then p ∷ places n (p + 1) (m / 2) else places n (p + 1) (m / 2)
 
-kept_at : (ms : List Bool) (p : ℕ) (vs : List ℕ) → p + length ms ≤ length vs → map (λ k. get_or vs k 0) (places (length ms) p (mask_l ms)) ≡ kept ms (drop p vs)
+kept_at : (ms : List Bool) (p : ℕ) (vs : List ℕ) → p + length ms ≤ length vs → map (λ k. get_or vs k 0) (places (length ms) p (mask_l ms)) ≡ flagged_items ms (drop p vs)
 kept_at [] p vs le = refl
 kept_at (true ∷ ms) p vs le =
     let m = mask_l ms in
@@ -228,7 +228,7 @@ swz_is v i (j ∷ js) few low =
     ap₂ (λ (a : ℕ) (l : List ℕ). a ∷ l) here (swz_is v (suc i) js (omega arith) low.1)
 
 pub row_picks : (table : List ℕ) → T (upto (good table) 256) → (v : List ℕ) → 8 ≤ length v → (m : ℕ) → m < 256 → (ms : List Bool) → length ms ≡ 8 → m ≡ mask_l ms
-    → take (count_ones m) (swz_l w8 16 v 0 (row table m)) ≡ kept ms v
+    → take (count_ones m) (swz_l w8 16 v 0 (row table m)) ≡ flagged_items ms v
 row_picks table all v long m lt ms size is =
     let pick : ℕ → ℕ = λ j. get_or v j 0 in
     ap (take (count_ones m)) (swz_is v 0 (row table m) (few table m) (row_is table all m lt).low)
@@ -275,7 +275,7 @@ trues-add (suc a) b [] = let next : suc a + b ≡ suc (a + b) = omega arith in r
 trues-add (suc a) b (m ∷ ms) = let next : suc a + b ≡ suc (a + b) = omega arith in rw next (omega (arith, trues-add a b ms))
 
 pub kept-add : (a b : ℕ) (ms : List Bool) (vs : List ℕ) → a ≤ length ms → a ≤ length vs
-    → kept (take (a + b) ms) (take (a + b) vs) ≡ kept (take a ms) (take a vs) ++ kept (take b (drop a ms)) (take b (drop a vs))
+    → flagged_items (take (a + b) ms) (take (a + b) vs) ≡ flagged_items (take a ms) (take a vs) ++ flagged_items (take b (drop a ms)) (take b (drop a vs))
 kept-add zero b ms vs le few = let same : 0 + b ≡ b = omega arith in rw same refl
 kept-add (suc a) b [] vs le few = absurd (omega arith)
 kept-add (suc a) b (m ∷ ms) [] le few = absurd (omega arith)
@@ -286,7 +286,7 @@ kept-add (suc a) b (false ∷ ms) (v ∷ vs) le few =
     let next : suc a + b ≡ suc (a + b) = omega arith in
     rw next (kept-add a b ms vs (omega arith) (omega arith))
 
-pub kept-take : (ms : List Bool) (vs : List ℕ) → kept ms (take (length ms) vs) ≡ kept ms vs
+pub kept-take : (ms : List Bool) (vs : List ℕ) → flagged_items ms (take (length ms) vs) ≡ flagged_items ms vs
 kept-take [] vs = refl
 kept-take (m ∷ ms) [] = refl
 kept-take (true ∷ ms) (v ∷ vs) = ap (λ (l : List ℕ). v ∷ l) (kept-take ms vs)

@@ -7,7 +7,7 @@ use Rattle.std.proofs.lemmas.Nat.{and_le_r}
 use Rattle.std.proofs.lemmas.Nat.Bits.{bit_at-suc, bit_at_and, bit_at_not, same_from_bits_below}
 use Rattle.std.specs.Int.Count.{count_leading_zeros, leading_unique}
 use Rattle.std.proofs.Math.Nat.{pow-suc}
-use Rattle.cell_ascii_lanes.specs.WordLanes.{kept}
+use Rattle.cell_ascii_lanes.specs.WordLanes.{flagged_items}
 use Rattle.cell_ascii_lanes.proofs.ByteBitLemmas.{trues}
 use lib.Bits.{bit_and}
 use lib.Lanes.{mask_l}
@@ -85,7 +85,7 @@ front-trues (suc q) [] = refl
 front-trues zero (m ∷ ms) = let rest : trues (front zero ms) ≡ 0 = front-trues zero ms in omega (arith, rest)
 front-trues (suc q) (m ∷ ms) = ap (λ n. bit m + n) (front-trues q ms)
 
-pub front-kept : (q : ℕ) (ms : List Bool) (vs : List ℕ) → kept (front q ms) vs ≡ kept (take q ms) vs
+pub front-kept : (q : ℕ) (ms : List Bool) (vs : List ℕ) → flagged_items (front q ms) vs ≡ flagged_items (take q ms) vs
 front-kept zero [] vs = refl
 front-kept (suc q) [] vs = refl
 front-kept zero (m ∷ ms) [] = refl

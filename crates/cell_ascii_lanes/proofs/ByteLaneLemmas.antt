@@ -4,7 +4,7 @@ use Rattle.std.specs.Prelude.{◌&&◌}
 use Rattle.std.proofs.lemmas.Simd.{swz_l, mask_l-mod, bit_mask_l, pick_l_left}
 use Rattle.std.proofs.lemmas.List.{length-map, get_or-take, get_or-map, map-append, take-append-le, take_more_set}
 use Rattle.std.proofs.Math.Seq.{take-append-add}
-use Rattle.cell_core_values.specs.SmallCells.{byte_cell, cells_of_bytes}
+use Rattle.cell_core_values.specs.SmallCells.{cell_of_stored_byte, cells_of_bytes}
 use Rattle.std.proofs.lemmas.List.FromFn.{get_or-range_with_len, get_or-map-range_with_len}
 use Rattle.std.proofs.lemmas.Nat.Bits.{bit_at-zero}
 use Rattle.std.specs.List.{range_with_len}
@@ -13,7 +13,8 @@ use Rattle.cell_ascii_meaning.specs.GridTokens.{is_space}
 use Rattle.std.proofs.lemmas.Nat.{and_mask}
 use Rattle.std.proofs.lemmas.Bool.{eqb-true, eqb-false, lt-leb}
 use Rattle.std.proofs.lemmas.Bool.Decides.{nat_tests}
-use Rattle.cell_ascii_lanes.specs.parts.LaneTables.{IsLaneTable, table_place, capped_sum, lane_before}
+use Rattle.cell_ascii_lanes.specs.parts.LaneTables.{IsSixteenEntryTableFourTimes, table_place_of_byte, capped_sum}
+use Rattle.cell_ascii_lanes.specs.parts.LaneTables.{place_of_lane_before}
 use lib.Bits.{bit_and}
 use lib.Lanes.{zip2, mask_l, top, sel_l, pick_l, Each1}
 
@@ -58,7 +59,7 @@ each_byte f p all (x ∷ xs) fits = ap₂ (λ a b. a ∷ b) (same_is _ _ (upto_s
 -- ---- tables
 
 -- a lookup at the positions js gives the table's lanes at js
-pub table_at : (f : ℕ → ℕ) (table : List ℕ) (i : ℕ) (js : List ℕ) → IsLaneTable f table → i + length js ≤ 64 → Each1 (λ j. j < 16) js
+pub table_at : (f : ℕ → ℕ) (table : List ℕ) (i : ℕ) (js : List ℕ) → IsSixteenEntryTableFourTimes f table → i + length js ≤ 64 → Each1 (λ j. j < 16) js
     → swz_l w8 16 (take 64 table) i js ≡ map f js
 table_at f table i [] is few low = refl
 table_at f table i (j ∷ js) is few low =
@@ -71,18 +72,18 @@ table_at f table i (j ∷ js) is few low =
 
 -- ---- distances from 48, at most 15
 
-distance : (x : ℕ) → cond (top 7 (under (less x 48) 15)) (less x 48) 15 ≡ table_place x
+distance : (x : ℕ) → cond (top 7 (under (less x 48) 15)) (less x 48) 15 ≡ table_place_of_byte x
 distance x = by (ltb (less x 48) 15) refl
   where
     by : (b : Bool) → ltb (less x 48) 15 ≡ b → cond (top 7 (cond b 255 0)) (less x 48) 15 ≡ min (less x 48) 15
     by true e = grind (arith, nat_tests)
     by false e = grind (arith, nat_tests)
 
-pub distances : (xs : List ℕ) → sel_l (map (top 7) (zip2 under (zip2 less xs (replicate (length xs) 48)) (replicate (length xs) 15))) (zip2 less xs (replicate (length xs) 48)) (replicate (length xs) 15) ≡ map table_place xs
+pub distances : (xs : List ℕ) → sel_l (map (top 7) (zip2 under (zip2 less xs (replicate (length xs) 48)) (replicate (length xs) 15))) (zip2 less xs (replicate (length xs) 48)) (replicate (length xs) 15) ≡ map table_place_of_byte xs
 distances [] = refl
 distances (x ∷ xs) = ap₂ (λ (a : ℕ) (l : List ℕ). a ∷ l) (distance x) (distances xs)
 
-pub small_place : (xs : List ℕ) (k : ℕ) → get_or (map table_place xs) k 0 < 16
+pub small_place : (xs : List ℕ) (k : ℕ) → get_or (map table_place_of_byte xs) k 0 < 16
 small_place [] k = omega arith
 small_place (x ∷ xs) zero = omega arith
 small_place (x ∷ xs) (suc k) = small_place xs k
@@ -91,17 +92,17 @@ small_place (x ∷ xs) (suc k) = small_place xs k
 abbrev table_of : (ℕ → ℕ) → List ℕ
 table_of f = map (λ k. f (k % 16)) (range_with_len 0 64)
 
-pub table_is : (f : ℕ → ℕ) → IsLaneTable f (table_of f)
+pub table_is : (f : ℕ → ℕ) → IsSixteenEntryTableFourTimes f (table_of f)
 table_is f = λ b j few low.
     let k = 16 * b + j in
     let rest : k % 16 ≡ j = omega arith in
     get_or-map-range_with_len (λ k. f (k % 16)) 0 64 k k 0 (omega arith) (omega arith) ∙ ap f rest
 
 -- a lookup gives the function's value at the byte's table index
-pub looked : (f : ℕ → ℕ) (bytes : List ℕ) (p : ℕ) → p < length bytes → get_or (map f (map table_place bytes)) p 0 ≡ f (table_place (get_or bytes p 0))
+pub looked : (f : ℕ → ℕ) (bytes : List ℕ) (p : ℕ) → p < length bytes → get_or (map f (map table_place_of_byte bytes)) p 0 ≡ f (table_place_of_byte (get_or bytes p 0))
 looked f bytes p within =
-    let inside : p < length (map table_place bytes) = omega (arith, length-map bytes table_place) in
-    get_or-map f (map table_place bytes) p 0 0 inside ∙ ap f (get_or-map table_place bytes p 0 0 within)
+    let inside : p < length (map table_place_of_byte bytes) = omega (arith, length-map bytes table_place_of_byte) in
+    get_or-map f (map table_place_of_byte bytes) p 0 0 inside ∙ ap f (get_or-map table_place_of_byte bytes p 0 0 within)
 
 -- ---- blanks and line feeds, looked up with the low four bits of bytes
 
@@ -157,11 +158,11 @@ sums_are (x ∷ xs) (y ∷ ys) e f g = ap₂ (λ (a : ℕ) (l : List ℕ). a ∷
 abbrev round : List ℕ
 round = 63 ∷ range_with_len 0 63
 
-round_at : (p : ℕ) → p < 64 → get_or round p 0 ≡ lane_before p
+round_at : (p : ℕ) → p < 64 → get_or round p 0 ≡ place_of_lane_before p
 round_at zero lt = refl
 round_at (suc p) lt = let same : (suc p + 63) % 64 ≡ 0 + p = omega arith in get_or-range_with_len 0 63 p 0 (omega arith) ∙ sym same
 
-pub moved : (v : List ℕ) (p : ℕ) → length v ≡ 64 → p < 64 → get_or (pick_l 0 (v ++ v) round) p 0 ≡ get_or v (lane_before p) 0
+pub moved : (v : List ℕ) (p : ℕ) → length v ≡ 64 → p < 64 → get_or (pick_l 0 (v ++ v) round) p 0 ≡ get_or v (place_of_lane_before p) 0
 moved v p long lt =
     ap (λ l. get_or l p 0) (pick_l_left 0 v v 64 round long tt)
     ∙ get_or-map (λ k. get_or v k 0) round p 0 0 lt ∙ ap (λ k. get_or v k 0) (round_at p lt)
@@ -181,19 +182,19 @@ both_tops true false = refl
 both_tops false true = refl
 both_tops false false = refl
 
-digit_bool : (x : ℕ) → x < 256 → ltb (table_place x) 10 ≡ is_digit x
-digit_bool x lt = same_is _ _ (upto_sound (λ y. same (ltb (table_place y) 10) (is_digit y)) 256 tt x lt)
+digit_bool : (x : ℕ) → x < 256 → ltb (table_place_of_byte x) 10 ≡ is_digit x
+digit_bool x lt = same_is _ _ (upto_sound (λ y. same (ltb (table_place_of_byte y) 10) (is_digit y)) 256 tt x lt)
 
 abbrev pub digit_large : ℕ → ℕ → Bool
 digit_large x y = is_digit x && eqb y 255
 
 pub large_lanes : (xs ys : List ℕ) → length xs ≡ length ys → Each1 (Fits w8) xs
-    → map (top 7) (zip2 bit_and (map (λ a. under (table_place a) 10) xs) (map (λ a. cond (eqb a 255) 255 0) ys)) ≡ zip2 digit_large xs ys
+    → map (top 7) (zip2 bit_and (map (λ a. under (table_place_of_byte a) 10) xs) (map (λ a. cond (eqb a 255) 255 0) ys)) ≡ zip2 digit_large xs ys
 large_lanes [] ys e f = refl
 large_lanes (x ∷ xs) [] e f = absurd (omega arith)
 large_lanes (x ∷ xs) (y ∷ ys) e f =
     ap₂ (λ (a : Bool) (l : List Bool). a ∷ l)
-    (both_tops (ltb (table_place x) 10) (eqb y 255) ∙ ap (λ b. b && eqb y 255) (digit_bool x f.0.fits)) (large_lanes xs ys (omega arith) f.1)
+    (both_tops (ltb (table_place_of_byte x) 10) (eqb y 255) ∙ ap (λ b. b && eqb y 255) (digit_bool x f.0.fits)) (large_lanes xs ys (omega arith) f.1)
 
 pub not_large : (x y : ℕ) → y < 256 → digit_large x y ≡ false → is_digit x ≡ true → y < 255
 not_large x y lt e digit = by (eqb y 255) refl (sym (ap (λ b. b && eqb y 255) digit) ∙ e)
@@ -215,8 +216,9 @@ more_bytes i k row part after within few =
 -- the k more bytes denote k more cells
 pub more_byte_cells : (i k : ℕ) (row part after : List ℕ) → i ≤ length row → k ≤ length part
     → cells_of_bytes (take (i + k) (take i row ++ (part ++ after))) ≡ cells_of_bytes (take i row) ++ cells_of_bytes (take k part)
-more_byte_cells i k row part after within few = ap cells_of_bytes (more_bytes i k row part after within few) ∙ map-append byte_cell (take i row) (take k part)
+more_byte_cells i k row part after within few = ap cells_of_bytes (more_bytes i k row part after within few) ∙ map-append cell_of_stored_byte (take i row) (take k part)
 
 -- setting the next byte of a row adds its cell
-pub byte_set : (i : ℕ) (row : List ℕ) (b : ℕ) → i < length row → cells_of_bytes (take (i + 1) (set row i b)) ≡ cells_of_bytes (take i row) ++ byte_cell b ∷ []
-byte_set i row b lt = ap cells_of_bytes (take_more_set row i b lt) ∙ map-append byte_cell (take i row) (b ∷ [])
+pub byte_set : (i : ℕ) (row : List ℕ) (b : ℕ) → i < length row → cells_of_bytes (take (i + 1) (set row i b)) ≡ cells_of_bytes (take i row) ++ cell_of_stored_byte b ∷ []
+byte_set i row b lt = ap cells_of_bytes (take_more_set row i b lt) ∙ map-append cell_of_stored_byte (take i row) (b
+    ∷ [])

@@ -6,8 +6,8 @@ use Rattle.std.proofs.lemmas.List.{drop_more}
 use Rattle.std.proofs.lemmas.Nat.{and_mask, and_comm}
 use Rattle.std.proofs.lemmas.Bool.Decides.{nat_tests}
 use Rattle.cell_core_values.specs.Digits.{is_digit, value_of_digits}
-use Rattle.cell_ascii_lanes.specs.WordLanes.{AreWordValues}
-use Rattle.cell_ascii_lanes.specs.parts.LaneTables.{table_place, place_at, as_one, as_ten, as_hundred, ones_of_digit, capped_sum, more_at, lane_before}
+use Rattle.cell_ascii_lanes.specs.WordLanes.{AreWordValuesAtLastDigits}
+use Rattle.cell_ascii_lanes.specs.parts.LaneTables.{table_place_of_byte, table_place_of_byte_at_position, ones_digit_value, tens_digit_value, hundreds_digit_value, lane_mask_of_digit, capped_sum, two_digit_value_at_position, place_of_lane_before}
 use lib.Bits.{bit_and}
 use lib.Lanes.{Each1}
 
@@ -26,10 +26,10 @@ all_fit (x ∷ xs) f (suc k) = all_fit xs f.1 k
 record IsAdding (b : ℕ) : Type 0 where
   least : 48 ≤ b
   most : b ≤ 57
-  one : as_one (table_place b) ≡ b - 48
-  ten : as_ten (table_place b) ≡ 10 * (b - 48)
-  hundred : as_hundred (table_place b) ≡ min (100 * (b - 48)) 255
-  mask : ones_of_digit (table_place b) ≡ 255
+  one : ones_digit_value (table_place_of_byte b) ≡ b - 48
+  ten : tens_digit_value (table_place_of_byte b) ≡ 10 * (b - 48)
+  hundred : hundreds_digit_value (table_place_of_byte b) ≡ min (100 * (b - 48)) 255
+  mask : lane_mask_of_digit (table_place_of_byte b) ≡ 255
 
 least_digit : (x : ℕ) → is_digit x ≡ true → 48 ≤ x
 least_digit x e = grind (arith, nat_tests)
@@ -47,26 +47,26 @@ adding : (b : ℕ) → is_digit b ≡ true → IsAdding b
 adding b e =
     let a = least_digit b e in
     let z = most_digit b e in
-    let place : table_place b ≡ b - 48 = omega arith in
+    let place : table_place_of_byte b ≡ b - 48 = omega arith in
     let low : ltb (b - 48) 10 ≡ true = lower (b - 48) (omega arith) in
     record { least = a; most = z; one = rw (place, low) refl; ten = rw (place, low) refl; hundred = rw (place, low) refl; mask = rw (place, low) refl }
 
 record AddsNothing (b : ℕ) : Type 0 where
-  ten : as_ten (table_place b) ≡ 0
-  hundred : as_hundred (table_place b) ≡ 0
-  mask : ones_of_digit (table_place b) ≡ 0
+  ten : tens_digit_value (table_place_of_byte b) ≡ 0
+  hundred : hundreds_digit_value (table_place_of_byte b) ≡ 0
+  mask : lane_mask_of_digit (table_place_of_byte b) ≡ 0
 
-far : (b : ℕ) → b < 256 → is_digit b ≡ false → 10 ≤ table_place b
+far : (b : ℕ) → b < 256 → is_digit b ≡ false → 10 ≤ table_place_of_byte b
 far b lt e = by (leb 48 b) refl (leb b 57) refl e
   where
-    by : (p : Bool) → leb 48 b ≡ p → (q : Bool) → leb b 57 ≡ q → (p && q) ≡ false → 10 ≤ table_place b
+    by : (p : Bool) → leb 48 b ≡ p → (q : Bool) → leb b 57 ≡ q → (p && q) ≡ false → 10 ≤ table_place_of_byte b
     by true e true f o = cc
     by true e false f o = let more : 57 < b = grind (arith, nat_tests) in omega arith
     by false e q f o = let less : b < 48 = grind (arith, nat_tests) in omega arith
 
 adds_nothing : (b : ℕ) → b < 256 → is_digit b ≡ false → AddsNothing b
 adds_nothing b lt e =
-    let high = higher (table_place b) (far b lt e) in
+    let high = higher (table_place_of_byte b) (far b lt e) in
     record { ten = rw high refl; hundred = rw high refl; mask = rw high refl }
 
 -- ---- words in terms of their last bytes
@@ -81,33 +81,34 @@ module _ (bytes : List ℕ) (size : length bytes ≡ 64) (fits : (k : ℕ) → g
   abbrev byte : ℕ → ℕ
   byte p = get_or bytes p 0
 
-  before : (p : ℕ) → p + 1 < 64 → lane_before (p + 1) ≡ p
+  before : (p : ℕ) → p + 1 < 64 → place_of_lane_before (p + 1) ≡ p
   before p lt = omega arith
 
   -- nothing is added before a byte that is not a digit
-  more_of_none : (p : ℕ) → is_digit (byte p) ≡ false → more_at bytes p ≡ 0
+  more_of_none : (p : ℕ) → is_digit (byte p) ≡ false → two_digit_value_at_position bytes p ≡ 0
   more_of_none p e =
       let is = adds_nothing (byte p) (fits p) e in
-      let n = as_hundred (place_at bytes (lane_before p)) in
+      let n = hundreds_digit_value (table_place_of_byte_at_position bytes (place_of_lane_before p)) in
       let none : capped_sum 0 0 ≡ 0 = refl in
       ap₂ capped_sum is.ten (ap (λ m. bit_and m n) is.mask ∙ and_comm 0 n ∙ and_none n) ∙ none
 
-  more_of_one : (p : ℕ) → p + 1 < 64 → is_digit (byte p) ≡ false → is_digit (byte (p + 1)) ≡ true → more_at bytes (p + 1) ≡ 10 * (byte (p + 1) - 48)
+  more_of_one : (p : ℕ) → p + 1 < 64 → is_digit (byte p) ≡ false → is_digit (byte (p + 1)) ≡ true → two_digit_value_at_position bytes (p + 1) ≡ 10 * (byte (p + 1) - 48)
   more_of_one p lt e f =
       let no = adds_nothing (byte p) (fits p) e in
       let is = adding (byte (p + 1)) f in
-      let m = ones_of_digit (place_at bytes (p + 1)) in
+      let m = lane_mask_of_digit (table_place_of_byte_at_position bytes (p + 1)) in
       let sum : capped_sum (10 * (byte (p + 1) - 48)) 0 ≡ 10 * (byte (p + 1) - 48) = omega (arith, is.least, is.most) in
-      ap₂ capped_sum is.ten (ap (λ q. bit_and m (as_hundred (place_at bytes q))) (before p lt) ∙ ap (bit_and m) no.hundred ∙ and_none m) ∙ sum
+      ap₂ capped_sum is.ten (ap (λ q. bit_and m (hundreds_digit_value (table_place_of_byte_at_position bytes q))) (before p lt) ∙ ap (bit_and m) no.hundred ∙ and_none m) ∙ sum
 
   more_of_two : (p : ℕ) → p + 1 < 64 → is_digit (byte p) ≡ true → is_digit (byte (p + 1)) ≡ true
-      → more_at bytes (p + 1) ≡ capped_sum (10 * (byte (p + 1) - 48)) (min (100 * (byte p - 48)) 255)
+      → two_digit_value_at_position bytes (p + 1) ≡ capped_sum (10 * (byte (p + 1) - 48))
+      (min (100 * (byte p - 48)) 255)
   more_of_two p lt e f =
       let no = adding (byte p) e in
       let is = adding (byte (p + 1)) f in
-      let m = ones_of_digit (place_at bytes (p + 1)) in
+      let m = lane_mask_of_digit (table_place_of_byte_at_position bytes (p + 1)) in
       let n = min (100 * (byte p - 48)) 255 in
-      ap₂ capped_sum is.ten (ap (λ q. bit_and m (as_hundred (place_at bytes q))) (before p lt) ∙ ap₂ bit_and is.mask no.hundred ∙ and_ones n (omega arith))
+      ap₂ capped_sum is.ten (ap (λ q. bit_and m (hundreds_digit_value (table_place_of_byte_at_position bytes q))) (before p lt) ∙ ap₂ bit_and is.mask no.hundred ∙ and_ones n (omega arith))
 
   front : (p : ℕ) → p < 64 → drop p bytes ≡ byte p ∷ drop (p + 1) bytes
   front p lt = drop_more bytes p 0 (omega (arith, size))
@@ -145,7 +146,7 @@ module _ (bytes : List ℕ) (size : length bytes ≡ 64) (fits : (k : ℕ) → g
         (first.0, (second.0, (both (is_digit (byte (at + 1 + 1 + 1))) true second.1).0))
 
     -- a word of one digit has the value of the digit
-    of_one : (m : ℕ) → m ≡ 0 → at + 1 < 64 → Digits 0 → get_or values (at + 1) 0 ≡ capped_sum (as_one (place_at bytes (at + 1))) m → IsWord 0
+    of_one : (m : ℕ) → m ≡ 0 → at + 1 < 64 → Digits 0 → get_or values (at + 1) 0 ≡ capped_sum (ones_digit_value (table_place_of_byte_at_position bytes (at + 1))) m → IsWord 0
     of_one m nothing lt digits value =
         let is = adding (byte (at + 1)) (one_digit lt digits) in
         let here : at + 1 + 0 ≡ at + 1 = omega arith in
@@ -153,7 +154,7 @@ module _ (bytes : List ℕ) (size : length bytes ≡ 64) (fits : (k : ℕ) → g
         let sum = ap value_of_digits (one_taken lt) in
         (omega (arith, v, sum, is.least, is.most), omega (arith, v, is.least, is.most))
 
-    of_two : (m : ℕ) → m ≡ 10 * (byte (at + 1) - 48) → at + 1 + 1 < 64 → Digits 1 → get_or values (at + 1 + 1) 0 ≡ capped_sum (as_one (place_at bytes (at + 1 + 1))) m → IsWord 1
+    of_two : (m : ℕ) → m ≡ 10 * (byte (at + 1) - 48) → at + 1 + 1 < 64 → Digits 1 → get_or values (at + 1 + 1) 0 ≡ capped_sum (ones_digit_value (table_place_of_byte_at_position bytes (at + 1 + 1))) m → IsWord 1
     of_two m ten lt digits value =
         let both = two_digits lt digits in
         let first = adding (byte (at + 1)) both.0 in
@@ -163,7 +164,7 @@ module _ (bytes : List ℕ) (size : length bytes ≡ 64) (fits : (k : ℕ) → g
         (omega (arith, v, sum, first.least, first.most, is.least, is.most), omega (arith, v, first.least, first.most, is.least, is.most))
 
     of_three : (m : ℕ) → m ≡ capped_sum (10 * (byte (at + 1 + 1) - 48)) (min (100 * (byte (at + 1) - 48)) 255) → at + 1 + 1 + 1 < 64 → Digits 2
-        → get_or values (at + 1 + 1 + 1) 0 ≡ capped_sum (as_one (place_at bytes (at + 1 + 1 + 1))) m → get_or values (at + 1 + 1 + 1) 0 < 255 → IsWord 2
+        → get_or values (at + 1 + 1 + 1) 0 ≡ capped_sum (ones_digit_value (table_place_of_byte_at_position bytes (at + 1 + 1 + 1))) m → get_or values (at + 1 + 1 + 1) 0 < 255 → IsWord 2
     of_three m more lt digits value small =
         let all = three_digits lt digits in
         let first = adding (byte (at + 1)) all.0 in
@@ -178,27 +179,32 @@ module _ (bytes : List ℕ) (size : length bytes ≡ 64) (fits : (k : ℕ) → g
   -- the sum of two digits is the value of a word of one or two
   pub value_at_two : (values : List ℕ)
       → ((p : ℕ) → p < 64
-      → get_or values p 0 ≡ capped_sum (as_one (place_at bytes p)) (as_ten (place_at bytes (lane_before p))))
+      → get_or values p 0 ≡ capped_sum (ones_digit_value (table_place_of_byte_at_position bytes p))
+      (tens_digit_value (table_place_of_byte_at_position bytes (place_of_lane_before p))))
       → (at n : ℕ) → n < 2 → at + 1 + n < 64 → (none : is_digit (byte at) ≡ false) → Digits values at none n
       → IsWord values at none n
   value_at_two values sums at zero few lt none digits =
       let here : at + 1 < 64 = omega arith in
       let no = adds_nothing (byte at) (fits at) none in
-      of_one values at none (as_ten (place_at bytes (lane_before (at + 1))))
-      (ap (λ q. as_ten (place_at bytes q)) (before at here) ∙ no.ten) here digits (sums (at + 1) here)
+      of_one values at none (tens_digit_value (table_place_of_byte_at_position bytes (place_of_lane_before (at + 1))))
+      (ap (λ q. tens_digit_value (table_place_of_byte_at_position bytes q)) (before at here)
+      ∙ no.ten) here digits (sums (at + 1) here)
   value_at_two values sums at (suc zero) few lt none digits =
       let here : at + 1 + 1 < 64 = omega arith in
       let first = adding (byte (at + 1)) (two_digits values at none here digits).0 in
-      of_two values at none (as_ten (place_at bytes (lane_before (at + 1 + 1))))
-      (ap (λ q. as_ten (place_at bytes q)) (before (at + 1) here) ∙ first.ten) here digits (sums (at + 1 + 1) here)
+      of_two values at none (tens_digit_value (table_place_of_byte_at_position bytes
+      (place_of_lane_before (at + 1 + 1))))
+      (ap (λ q. tens_digit_value (table_place_of_byte_at_position bytes q)) (before (at + 1) here)
+      ∙ first.ten) here digits (sums (at + 1 + 1) here)
   value_at_two values sums at (suc (suc n)) few lt none digits = absurd (omega arith)
 
   -- the sums of two digits are the values of words if no three digits are in a row
   pub values_of_two : (values : List ℕ)
       → ((p : ℕ) → p < 64
-      → get_or values p 0 ≡ capped_sum (as_one (place_at bytes p)) (as_ten (place_at bytes (lane_before p))))
+      → get_or values p 0 ≡ capped_sum (ones_digit_value (table_place_of_byte_at_position bytes p))
+      (tens_digit_value (table_place_of_byte_at_position bytes (place_of_lane_before p))))
       → ((p : ℕ) → p + 2 < 64 → is_digit (byte p) ≡ true → is_digit (byte (p + 1)) ≡ true
-      → is_digit (byte (p + 2)) ≡ true → ⊥) → AreWordValues bytes values
+      → is_digit (byte (p + 2)) ≡ true → ⊥) → AreWordValuesAtLastDigits bytes values
   values_of_two values sums not_three at zero few lt none digits = value_at_two values sums at zero (omega arith) lt
       none digits
   values_of_two values sums not_three at (suc zero) few lt none digits = value_at_two values sums at (suc zero)
@@ -213,33 +219,36 @@ module _ (bytes : List ℕ) (size : length bytes ≡ 64) (fits : (k : ℕ) → g
 
   -- the sum of three digits is the value of a word of at most three if it is below 255
   pub value_at_three : (values : List ℕ)
-      → ((p : ℕ) → p < 64 → get_or values p 0 ≡ capped_sum (as_one (place_at bytes p)) (more_at bytes (lane_before p)))
+      → ((p : ℕ) → p < 64 → get_or values p 0 ≡ capped_sum (ones_digit_value (table_place_of_byte_at_position bytes p))
+      (two_digit_value_at_position bytes (place_of_lane_before p)))
       → (at n : ℕ) → n < 3 → at + 1 + n < 64 → (none : is_digit (byte at) ≡ false) → Digits values at none n
       → get_or values (at + 1 + n) 0 < 255 → IsWord values at none n
   value_at_three values sums at zero few lt none digits small =
       let here : at + 1 < 64 = omega arith in
-      of_one values at none (more_at bytes (lane_before (at + 1)))
-      (ap (more_at bytes) (before at here) ∙ more_of_none at none) here digits (sums (at + 1) here)
+      of_one values at none (two_digit_value_at_position bytes (place_of_lane_before (at + 1)))
+      (ap (two_digit_value_at_position bytes) (before at here) ∙ more_of_none at none) here digits (sums (at + 1) here)
   value_at_three values sums at (suc zero) few lt none digits small =
       let here : at + 1 + 1 < 64 = omega arith in
       let first : at + 1 < 64 = omega arith in
-      of_two values at none (more_at bytes (lane_before (at + 1 + 1)))
-      (ap (more_at bytes) (before (at + 1) here)
+      of_two values at none (two_digit_value_at_position bytes (place_of_lane_before (at + 1 + 1)))
+      (ap (two_digit_value_at_position bytes) (before (at + 1) here)
       ∙ more_of_one at first none (two_digits values at none here digits).0) here digits (sums (at + 1 + 1) here)
   value_at_three values sums at (suc (suc zero)) few lt none digits small =
       let here : at + 1 + 1 + 1 < 64 = omega arith in
       let second : at + 1 + 1 < 64 = omega arith in
       let all = three_digits values at none here digits in
       let third : at + 1 + 2 ≡ at + 1 + 1 + 1 = omega arith in
-      of_three values at none (more_at bytes (lane_before (at + 1 + 1 + 1)))
-      (ap (more_at bytes) (before (at + 1 + 1) here) ∙ more_of_two (at + 1) second all.0 all.1.0) here digits
+      of_three values at none (two_digit_value_at_position bytes (place_of_lane_before (at + 1 + 1 + 1)))
+      (ap (two_digit_value_at_position bytes) (before (at + 1 + 1) here)
+      ∙ more_of_two (at + 1) second all.0 all.1.0) here digits
       (sums (at + 1 + 1 + 1) here) (rw third at small)
   value_at_three values sums at (suc (suc (suc n))) few lt none digits small = absurd (omega arith)
 
   -- the sums of three digits are the values of words if each sum is below 255
   pub values_of_three : (values : List ℕ)
-      → ((p : ℕ) → p < 64 → get_or values p 0 ≡ capped_sum (as_one (place_at bytes p)) (more_at bytes (lane_before p)))
-      → ((p : ℕ) → p < 64 → is_digit (byte p) ≡ true → get_or values p 0 < 255) → AreWordValues bytes values
+      → ((p : ℕ) → p < 64 → get_or values p 0 ≡ capped_sum (ones_digit_value (table_place_of_byte_at_position bytes p))
+      (two_digit_value_at_position bytes (place_of_lane_before p)))
+      → ((p : ℕ) → p < 64 → is_digit (byte p) ≡ true → get_or values p 0 < 255) → AreWordValuesAtLastDigits bytes values
   values_of_three values sums small at n few lt none digits =
       value_at_three values sums at n few lt none digits (small (at + 1 + n) lt (last at n few lt none digits))
     where

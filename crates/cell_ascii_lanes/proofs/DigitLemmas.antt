@@ -14,7 +14,7 @@ use Rattle.std.proofs.lemmas.List.Folds.{list_all-append}
 use Rattle.std.proofs.lemmas.List.Sums.{fold-append}
 use Rattle.std.proofs.lemmas.Nat.{and_block, and_mask}
 use Rattle.std.proofs.lemmas.Simd.{first_set_mask_l, mask_l-mod, splat_is_map, tops_compared, zip2_of_maps, zip2_splat}
-use Rattle.cell_ascii_meaning.specs.EdgeNumbers.{is_digit, value_of_digits, digits_of}
+use Rattle.cell_ascii_meaning.specs.EdgeNumbers.{is_digit, value_of_digits, value_if_digits}
 use Rattle.cell_ascii_lanes.proofs.NumberLemmas.{zeros_value, length-zeros}
 use Rattle.cell_ascii_lanes.proofs.ByteValueLemmas.{both}
 use lib.Arith.{digits_div, digits_mod}
@@ -285,12 +285,12 @@ digits_ahead bs buffered byte n few more =
 -- ---- nine digits
 
 some_value : (word : List ℕ) → 0 < length word → list_all is_digit word ≡ true
-    → digits_of word ≡ Some (value_of_digits word)
+    → value_if_digits word ≡ Some (value_of_digits word)
 some_value [] some digits = absurd (omega arith)
 some_value (b ∷ word) some digits = rw digits refl
 
 pub nine_digits : (bs : List ℕ) → 9 ≤ length bs → list_all is_digit (take 8 bs) ≡ true → is_digit (get_or bs 8 0) ≡ true
-    → digits_of (take 9 bs) ≡ Some (value_of_digits (take 8 bs) * 10 + (get_or bs 8 0 - 48))
+    → value_if_digits (take 9 bs) ≡ Some (value_of_digits (take 8 bs) * 10 + (get_or bs 8 0 - 48))
 nine_digits bs buffered front here =
     let last = get_or bs 8 0 in
     let all : take 9 bs ≡ take 8 bs ++ last ∷ [] = take_more bs 8 0 (omega arith) in

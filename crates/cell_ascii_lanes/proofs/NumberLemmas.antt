@@ -14,7 +14,7 @@ use Rattle.std.proofs.lemmas.Nat.Bits.{bit_at-suc, bit_at-zero, bit_at-lt, bit_a
 use Rattle.std.proofs.lemmas.Simd.{SwzOk, SwzOk-from_Each1, swz_l, get_or-zip2, get_or-replicate, get_or_wider}
 use Rattle.std.proofs.lemmas.Simd.{get_or_narrower, length-zip2, length-replicate, Each1-from_get_or, Each1-get_or}
 use Rattle.cell_core_values.specs.Digits.{is_digit, value_of_digits}
-use Rattle.cell_ascii_lanes.specs.NumberLanes.{AreNumberWords}
+use Rattle.cell_ascii_lanes.specs.NumberLanes.{AreNumbersUpToSevenDigits}
 use Rattle.cell_ascii_lanes.proofs.ByteBitLemmas.{bit_below, shl_one, shl_two}
 use lib.Bits.{bit_or}
 use lib.Lanes.{Each1, zip2, number_l, digits_l, pick_l}
@@ -114,7 +114,7 @@ module _ (blanks digits : ℕ) (B : blanks < 2 ^ 64) (D : digits < 2 ^ 64) where
         eight7 = rw g7 at (eight_at (i + 3) (omega arith));
       }
 
-  pub numbers : (all == 0) ≡ true → AreNumberWords blanks digits
+  pub numbers : (all == 0) ≡ true → AreNumbersUpToSevenDigits blanks digits
   numbers is =
       let e : all ≡ 0 = eqb-true _ 0 is in
       record {
@@ -546,8 +546,10 @@ left_at us vs long k lt =
     sym (get_or-take 16 (us ++ vs) k 0 lt) ∙ ap (λ l. get_or l k 0) (take-append-le 16 us vs whole)
     ∙ get_or-take 16 us k 0 lt
 
-right_at : (us vs : List ℕ) → length us ≡ 16 → (k : ℕ) → get_or (us ++ vs) (16 + k) 0 ≡ get_or vs k 0
-right_at us vs long k = ap (λ n. get_or (us ++ vs) (n + k) 0) (sym long) ∙ get_or-append-add us vs k 0
+columns_read_right_at_offset : (us vs : List ℕ) → length us ≡ 16 → (k : ℕ)
+    → get_or (us ++ vs) (16 + k) 0 ≡ get_or vs k 0
+columns_read_right_at_offset us vs long k = ap (λ n. get_or (us ++ vs) (n + k) 0) (sym long)
+    ∙ get_or-append-add us vs k 0
 
 record AreJoined (ws xs ys : List ℕ) : Type 0 where
   left : (k : ℕ) → k < 8 → get_or ws k 0 ≡ get_or xs k 0
@@ -560,7 +562,7 @@ are_joined us vs xs ys long a b = record { left = left; right = right }
     first k lt = left_at us vs long k (omega arith) ∙ sym (get_or-take 8 us k 0 lt) ∙ ap (λ l. get_or l k 0) a
 
     second : (k : ℕ) → k < 8 → get_or (us ++ vs) (16 + k) 0 ≡ get_or ys k 0
-    second k lt = right_at us vs long k ∙ sym (get_or-take 8 vs k 0 lt) ∙ ap (λ l. get_or l k 0) b
+    second k lt = columns_read_right_at_offset us vs long k ∙ sym (get_or-take 8 vs k 0 lt) ∙ ap (λ l. get_or l k 0) b
 
     left : (k : ℕ) → k < 8 → get_or (joined us vs) k 0 ≡ get_or xs k 0
     left zero lt = first 0 lt

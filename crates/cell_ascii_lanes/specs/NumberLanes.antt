@@ -3,7 +3,7 @@ use Rattle.std.specs.Prelude.{ℕ, ◌+◌, ◌≡◌, ◌<◌}
 use Rattle.std.specs.Int.{bit_at}
 
 -- every word has one to seven digits and follows a single blank, given the bits of blanks and of digits
-pub record AreNumberWords (blanks digits : ℕ) : Type 0 where
+pub record AreNumbersUpToSevenDigits (blanks digits : ℕ) : Type 0 where
   pub first : bit_at blanks 0 ≡ 1
   pub known : (i : ℕ) → i < 64 → bit_at blanks i ≡ 0 → bit_at digits i ≡ 1
   pub apart : (i : ℕ) → i + 1 < 64 → bit_at blanks i ≡ 1 → bit_at blanks (i + 1) ≡ 0

@@ -3,7 +3,7 @@
 ghost use Rattle.std.specs.Prelude.{ℕ, ◌++◌, replicate, true, ◌≡◌, ◌-◌, ◌<◌, ◌≤◌, length, take, Some, IfSome};
 ghost use Rattle.std.specs.List.{list_all};
 ghost use Rattle.std.specs.Simd.Lanes.{number_l};
-ghost use Rattle.cell_ascii_meaning.specs.EdgeNumbers.{digits_of, is_digit, value_of_digits};
+ghost use Rattle.cell_ascii_meaning.specs.EdgeNumbers.{value_if_digits, is_digit, value_of_digits};
 
 use cell_core_values::whole_numbers::is_digit;
 use std::simd::prelude::*;
@@ -60,7 +60,7 @@ fn digits_value(bytes: &[u8], size: usize) -> u64
 // Returns the value of nine digits.
 fn nine_value(bytes: &[u8], size: usize) -> Option<u32>
     requires { 9 ≤ length bytes.now }
-    ensures { IfSome result (λ value. digits_of (take size bytes.now) ≡ Some value) }
+    ensures { IfSome result (λ value. value_if_digits (take size bytes.now) ≡ Some value) }
 {
     if size != MOST_DIGITS || digits_at(bytes) < MOST_AT_ONCE {
         return None;
@@ -75,7 +75,7 @@ fn nine_value(bytes: &[u8], size: usize) -> Option<u32>
 #[inline(always)]
 pub fn value_of(bytes: &[u8], size: usize) -> Option<u32>
     requires { 9 ≤ length bytes.now }
-    ensures { IfSome result (λ value. digits_of (take size bytes.now) ≡ Some value) }
+    ensures { IfSome result (λ value. value_if_digits (take size bytes.now) ≡ Some value) }
 {
     if size > MOST_AT_ONCE {
         return nine_value(bytes, size);

@@ -8,7 +8,7 @@ ghost use Rattle.std.specs.Int.{bit_at};
 ghost use Rattle.cell_ascii_lanes.specs.NullLanes.{AreOtherStarts, AreShortNumbers, AreTwoDigits, AreNumberValues, IsNullKey, AreNulls, IsOtherLane};
 
 use crate::digit_words::word_key;
-use crate::word_lanes::{space_mask, three_digits, two_digits};
+use crate::word_lanes::{space_mask, values_of_three_digit_words, values_of_two_digit_words};
 use std::simd::prelude::*;
 
 // Maximum length of a null text that has a key.
@@ -73,9 +73,9 @@ pub fn number_values(bytes: u8x64, blanks: u64, marked: u64, has_three: bool) ->
     ensures { result.1 ≡ true → AreNumberValues bytes blanks marked has_three result.0 }
 {
     if !has_three {
-        return (two_digits(bytes), true);
+        return (values_of_two_digit_words(bytes), true);
     }
-    let values = three_digits(bytes);
+    let values = values_of_three_digit_words(bytes);
     let large = largest_mask(values);
     (values, large & !blanks & ((blanks & !marked) >> 1) == 0)
 }

@@ -6,20 +6,20 @@
 ghost use Rattle.std.specs.Prelude.{ℕ, true, ◌≡◌, ◌+◌, ◌-◌, ◌*◌, ◌%◌, ◌<◌, ◌≤◌, ◌++◌, length, take, replicate, slice_index_or};
 ghost use Rattle.std.specs.List.{list_all};
 ghost use Rattle.cell_core_values.specs.Digits.{is_digit, value_of_digits};
-ghost use Rattle.cell_ascii_lanes.specs.NumberLanes.{AreNumberWords};
+ghost use Rattle.cell_ascii_lanes.specs.NumberLanes.{AreNumbersUpToSevenDigits};
 
 use std::simd::prelude::*;
 
 // For each word length, the source index of each byte in a half that ends with the word; 128 stands for a zero.
-static SOURCES: [u8; 24] = [
+static SHUFFLE_INDICES_BY_WORD_LENGTH: [u8; 24] = [
     128, 128, 128, 128, 128, 128, 128, 128, 0, 1, 2, 3, 4, 5, 6, 7, 8, 9, 10, 11, 12, 13, 14, 15,
 ];
 
 /// Returns whether every word has one to seven digits and follows a single blank, given the bits of blanks and of
 /// digits.
 #[inline(always)]
-pub fn are_numbers(blanks: u64, digits: u64) -> bool
-    ensures { result ≡ true → AreNumberWords blanks digits }
+pub fn are_numbers_up_to_seven_digits(blanks: u64, digits: u64) -> bool
+    ensures { result ≡ true → AreNumbersUpToSevenDigits blanks digits }
 {
     let words = !blanks;
     let two = words & (words << 1);
@@ -30,13 +30,13 @@ pub fn are_numbers(blanks: u64, digits: u64) -> bool
 
 // Moves a word to the end of the first eight lanes, after zeros.
 #[inline(always)]
-fn at_end(bytes: &[u8], size: usize) -> u8x16
+fn word_moved_to_end_of_lanes(bytes: &[u8], size: usize) -> u8x16
     requires few { size ≤ 8 }
     requires buffered { 16 ≤ length bytes.now }
     ensures word { take 8 result ≡ replicate (8 - size) 0 ++ take size bytes.now }
     ensures long { length result ≡ 16 }
 {
-    u8x16::from_slice(bytes).swizzle_dyn(u8x16::from_slice(&SOURCES[size..]))
+    u8x16::from_slice(bytes).swizzle_dyn(u8x16::from_slice(&SHUFFLE_INDICES_BY_WORD_LENGTH[size..]))
 }
 
 // Combines digits into the values of pairs.
@@ -63,7 +63,7 @@ fn fours(twos: u16x8) -> u32x4
 
 // Combines groups of four digits into the values of eight.
 #[inline(always)]
-fn eights(fours: u32x4) -> u64x2
+fn values_of_eight_digits(fours: u32x4) -> u64x2
     requires { (k : ℕ) → k < 4 → slice_index_or fours k 0 < 10000 }
     ensures { (j : ℕ) → j < 2 → slice_index_or result j 0
         ≡ 10000 * slice_index_or fours (2 * j) 0 + slice_index_or fours (2 * j + 1) 0 }
@@ -74,7 +74,12 @@ fn eights(fours: u32x4) -> u64x2
 
 /// Returns the values of two words of digits.
 #[inline(always)]
-pub fn two_values(first: &[u8], size: usize, second: &[u8], size_of_second: usize) -> (u64, u64)
+pub fn values_of_two_words(
+    first: &[u8],
+    size: usize,
+    second: &[u8],
+    size_of_second: usize,
+) -> (u64, u64)
     requires few { (size ≤ 8) × (size_of_second ≤ 8) }
     requires buffered { (16 ≤ length first.now) × (16 ≤ length second.now) }
     requires digits { (list_all is_digit (take size first.now) ≡ true)
@@ -83,10 +88,10 @@ pub fn two_values(first: &[u8], size: usize, second: &[u8], size_of_second: usiz
     ensures second { result.1 ≡ value_of_digits (take size_of_second second.now) }
     ensures small { (result.0 < 100000000) × (result.1 < 100000000) }
 {
-    let words = at_end(first, size).shuffle(
-        at_end(second, size_of_second),
+    let words = word_moved_to_end_of_lanes(first, size).shuffle(
+        word_moved_to_end_of_lanes(second, size_of_second),
         [0, 1, 2, 3, 4, 5, 6, 7, 16, 17, 18, 19, 20, 21, 22, 23],
     );
-    let [one, two] = eights(fours(twos(words))).to_array();
+    let [one, two] = values_of_eight_digits(fours(twos(words))).to_array();
     (one, two)
 }

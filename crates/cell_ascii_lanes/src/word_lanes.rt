@@ -9,14 +9,14 @@ ghost use Rattle.std.specs.Int.RustNames.{count_ones};
 ghost use Rattle.std.specs.Simd.Lanes.{mask_l};
 ghost use Rattle.cell_core_values.specs.Digits.{is_digit};
 ghost use Rattle.cell_ascii_meaning.specs.GridTokens.{is_space};
-ghost use Rattle.cell_ascii_lanes.specs.WordLanes.{AreWordValues, AreShortWords, AreLowest, kept, is_null_star};
-ghost use Rattle.cell_ascii_lanes.specs.parts.LaneTables.{IsLaneTable, table_place, place_at, more_at, as_one, as_ten, capped_sum, lane_before, ones_of_digit};
+ghost use Rattle.cell_ascii_lanes.specs.WordLanes.{AreWordValuesAtLastDigits, AreStarsOrThreeDigitNumbers, AreLowBitsUpToSetBitCount, flagged_items, is_null_star};
+ghost use Rattle.cell_ascii_lanes.specs.parts.LaneTables.{IsSixteenEntryTableFourTimes, table_place_of_byte, table_place_of_byte_at_position, two_digit_value_at_position, ones_digit_value, tens_digit_value, capped_sum, place_of_lane_before, lane_mask_of_digit};
 
 use std::simd::prelude::*;
 
 // The positions of the set bits of each number below 256, padded with zeros to eight bytes. Eight spare bytes follow,
 // so that a vector can be loaded at each entry.
-static PLACES: [u8; 2056] = [
+static SET_BIT_POSITIONS_BY_BYTE: [u8; 2056] = [
     0, 0, 0, 0, 0, 0, 0, 0, 0, 0, 0, 0, 0, 0, 0, 0, 1, 0, 0, 0, 0, 0, 0, 0, 0, 1, 0, 0, 0, 0, 0, 0,
     2, 0, 0, 0, 0, 0, 0, 0, 0, 2, 0, 0, 0, 0, 0, 0, 1, 2, 0, 0, 0, 0, 0, 0, 0, 1, 2, 0, 0, 0, 0, 0,
     3, 0, 0, 0, 0, 0, 0, 0, 0, 3, 0, 0, 0, 0, 0, 0, 1, 3, 0, 0, 0, 0, 0, 0, 0, 1, 3, 0, 0, 0, 0, 0,
@@ -86,27 +86,27 @@ static PLACES: [u8; 2056] = [
 
 // The value of a digit in the last position of a word, indexed by its byte minus 48. The table is repeated for each of
 // the four parts of a vector.
-static ONES: [u8; 64] = [
+static ONES_DIGIT_VALUES: [u8; 64] = [
     0, 1, 2, 3, 4, 5, 6, 7, 8, 9, 0, 0, 0, 0, 0, 0, 0, 1, 2, 3, 4, 5, 6, 7, 8, 9, 0, 0, 0, 0, 0, 0,
     0, 1, 2, 3, 4, 5, 6, 7, 8, 9, 0, 0, 0, 0, 0, 0, 0, 1, 2, 3, 4, 5, 6, 7, 8, 9, 0, 0, 0, 0, 0, 0,
 ];
 
-// Like `ONES`, for the second-to-last digit.
-static TENS: [u8; 64] = [
+// Like `ONES_DIGIT_VALUES`, for the second-to-last digit.
+static TENS_DIGIT_VALUES: [u8; 64] = [
     0, 10, 20, 30, 40, 50, 60, 70, 80, 90, 0, 0, 0, 0, 0, 0, 0, 10, 20, 30, 40, 50, 60, 70, 80, 90,
     0, 0, 0, 0, 0, 0, 0, 10, 20, 30, 40, 50, 60, 70, 80, 90, 0, 0, 0, 0, 0, 0, 0, 10, 20, 30, 40,
     50, 60, 70, 80, 90, 0, 0, 0, 0, 0, 0,
 ];
 
-// Like `ONES`, for the third-to-last digit; 255 if the word would exceed 254.
-static HUNDREDS: [u8; 64] = [
+// Like `ONES_DIGIT_VALUES`, for the third-to-last digit; 255 if the word would exceed 254.
+static HUNDREDS_DIGIT_VALUES: [u8; 64] = [
     0, 100, 200, 255, 255, 255, 255, 255, 255, 255, 0, 0, 0, 0, 0, 0, 0, 100, 200, 255, 255, 255,
     255, 255, 255, 255, 0, 0, 0, 0, 0, 0, 0, 100, 200, 255, 255, 255, 255, 255, 255, 255, 0, 0, 0,
     0, 0, 0, 0, 100, 200, 255, 255, 255, 255, 255, 255, 255, 0, 0, 0, 0, 0, 0,
 ];
 
-// All bits set for digits, indexed like `ONES`.
-static DIGITS: [u8; 64] = [
+// All bits set for digits, indexed like `ONES_DIGIT_VALUES`.
+static DIGIT_LANE_MASKS: [u8; 64] = [
     255, 255, 255, 255, 255, 255, 255, 255, 255, 255, 0, 0, 0, 0, 0, 0, 255, 255, 255, 255, 255,
     255, 255, 255, 255, 255, 0, 0, 0, 0, 0, 0, 255, 255, 255, 255, 255, 255, 255, 255, 255, 255, 0,
     0, 0, 0, 0, 0, 255, 255, 255, 255, 255, 255, 255, 255, 255, 255, 0, 0, 0, 0, 0, 0,
@@ -114,7 +114,7 @@ static DIGITS: [u8; 64] = [
 
 // Blanks and line feeds, indexed by the low four bits of their bytes. All other entries are 0, and no byte with these
 // low bits is 0.
-static SPACES: [u8; 64] = [
+static SPACE_BYTES_BY_LOW_BITS: [u8; 64] = [
     32, 0, 0, 0, 0, 0, 0, 0, 0, 9, 10, 0, 0, 13, 0, 0, 32, 0, 0, 0, 0, 0, 0, 0, 0, 9, 10, 0, 0, 13,
     0, 0, 32, 0, 0, 0, 0, 0, 0, 0, 0, 9, 10, 0, 0, 13, 0, 0, 32, 0, 0, 0, 0, 0, 0, 0, 0, 9, 10, 0,
     0, 13, 0, 0,
@@ -122,24 +122,24 @@ static SPACES: [u8; 64] = [
 
 // Returns the table entries at the indices given by `places`.
 #[inline(always)]
-fn looked_up(table: &[u8; 64], places: u8x64) -> u8x64
+fn looked_up_table_bytes(table: &[u8; 64], places: u8x64) -> u8x64
     requires { (k : ℕ) → slice_index_or places k 0 < 16 }
-    ensures { (f : ℕ → ℕ) → IsLaneTable f table.now → result ≡ map f places }
+    ensures { (f : ℕ → ℕ) → IsSixteenEntryTableFourTimes f table.now → result ≡ map f places }
 {
     u8x64::from_slice(table).swizzle_dyn_within::<16>(places)
 }
 
 // Returns the table index of each byte.
 #[inline(always)]
-fn places_of(bytes: u8x64) -> u8x64
-    ensures { result ≡ map table_place bytes }
+fn table_places_of_bytes(bytes: u8x64) -> u8x64
+    ensures { result ≡ map table_place_of_byte bytes }
 {
     (bytes - u8x64::splat(b'0')).simd_min(u8x64::splat(15))
 }
 
 // Adds lanes, capping sums at 255.
 #[inline(always)]
-fn sums(a: u8x64, b: u8x64) -> u8x64
+fn capped_lane_sums(a: u8x64, b: u8x64) -> u8x64
     ensures { (p : ℕ) → p < 64
         → slice_index_or result p 0 ≡ capped_sum (slice_index_or a p 0) (slice_index_or b p 0) }
 {
@@ -148,44 +148,55 @@ fn sums(a: u8x64, b: u8x64) -> u8x64
 
 // Rotates the lanes by one, so that each lane receives its predecessor.
 #[inline(always)]
-fn moved_up(lanes: u8x64) -> u8x64
+fn lanes_rotated_by_one(lanes: u8x64) -> u8x64
     ensures { (p : ℕ) → p < 64
-        → slice_index_or result p 0 ≡ slice_index_or lanes (lane_before p) 0 }
+        → slice_index_or result p 0 ≡ slice_index_or lanes (place_of_lane_before p) 0 }
 {
     lanes.rotate_elements_right::<1>()
 }
 
 // Keeps the lanes whose table index is a digit, and sets the others to 0.
 #[inline(always)]
-fn of_digits(places: u8x64, lanes: u8x64) -> u8x64
+fn lanes_kept_at_digits(places: u8x64, lanes: u8x64) -> u8x64
     requires { (k : ℕ) → slice_index_or places k 0 < 16 }
     ensures { (p : ℕ) → p < 64 → slice_index_or result p 0
-        ≡ bit_and (ones_of_digit (slice_index_or places p 0)) (slice_index_or lanes p 0) }
+        ≡ bit_and (lane_mask_of_digit (slice_index_or places p 0)) (slice_index_or lanes p 0) }
 {
-    looked_up(&DIGITS, places) & lanes
+    looked_up_table_bytes(&DIGIT_LANE_MASKS, places) & lanes
 }
 
 // Returns the values of words of one or two digits, at their last digits.
 #[inline(always)]
-pub(crate) fn two_digits(bytes: u8x64) -> u8x64
+pub(crate) fn values_of_two_digit_words(bytes: u8x64) -> u8x64
     ensures { (p : ℕ) → p < 64 → slice_index_or result p 0
-        ≡ capped_sum (as_one (place_at bytes p)) (as_ten (place_at bytes (lane_before p))) }
+        ≡ capped_sum (ones_digit_value (table_place_of_byte_at_position bytes p))
+        (tens_digit_value (table_place_of_byte_at_position bytes (place_of_lane_before p))) }
 {
-    let places = places_of(bytes);
-    let tens = looked_up(&TENS, places);
-    sums(looked_up(&ONES, places), moved_up(tens))
+    let places = table_places_of_bytes(bytes);
+    let tens = looked_up_table_bytes(&TENS_DIGIT_VALUES, places);
+    capped_lane_sums(
+        looked_up_table_bytes(&ONES_DIGIT_VALUES, places),
+        lanes_rotated_by_one(tens),
+    )
 }
 
 // Returns the values of words of one to three digits, at their last digits; 255 stands for larger values.
 #[inline(always)]
-pub(crate) fn three_digits(bytes: u8x64) -> u8x64
+pub(crate) fn values_of_three_digit_words(bytes: u8x64) -> u8x64
     ensures { (p : ℕ) → p < 64 → slice_index_or result p 0
-        ≡ capped_sum (as_one (place_at bytes p)) (more_at bytes (lane_before p)) }
+        ≡ capped_sum (ones_digit_value (table_place_of_byte_at_position bytes p))
+        (two_digit_value_at_position bytes (place_of_lane_before p)) }
 {
-    let places = places_of(bytes);
-    let hundreds = of_digits(places, moved_up(looked_up(&HUNDREDS, places)));
-    let more = sums(looked_up(&TENS, places), hundreds);
-    sums(looked_up(&ONES, places), moved_up(more))
+    let places = table_places_of_bytes(bytes);
+    let hundreds = lanes_kept_at_digits(
+        places,
+        lanes_rotated_by_one(looked_up_table_bytes(&HUNDREDS_DIGIT_VALUES, places)),
+    );
+    let more = capped_lane_sums(looked_up_table_bytes(&TENS_DIGIT_VALUES, places), hundreds);
+    capped_lane_sums(
+        looked_up_table_bytes(&ONES_DIGIT_VALUES, places),
+        lanes_rotated_by_one(more),
+    )
 }
 
 /// Returns a mask of the bytes that are blanks or line feeds.
@@ -193,7 +204,7 @@ pub(crate) fn three_digits(bytes: u8x64) -> u8x64
 pub fn space_mask(bytes: u8x64) -> u64
     ensures { result ≡ mask_l (map is_space bytes) }
 {
-    looked_up(&SPACES, bytes & u8x64::splat(15))
+    looked_up_table_bytes(&SPACE_BYTES_BY_LOW_BITS, bytes & u8x64::splat(15))
         .simd_eq(bytes)
         .to_bitmask()
 }
@@ -203,36 +214,38 @@ pub fn space_mask(bytes: u8x64) -> u64
 pub fn digit_mask(bytes: u8x64) -> u64
     ensures { result ≡ mask_l (map is_digit bytes) }
 {
-    places_of(bytes).simd_lt(u8x64::splat(10)).to_bitmask()
+    table_places_of_bytes(bytes)
+        .simd_lt(u8x64::splat(10))
+        .to_bitmask()
 }
 
 // Returns whether the value at any digit is 255.
 #[inline(always)]
-fn has_large(bytes: u8x64, values: u8x64) -> bool
+fn has_digit_value_of_255(bytes: u8x64, values: u8x64) -> bool
     ensures { result ≡ false → (p : ℕ) → p < 64 → is_digit (slice_index_or bytes p 0) ≡ true
         → slice_index_or values p 0 < 255 }
 {
-    let is_digit = places_of(bytes).simd_lt(u8x64::splat(10));
+    let is_digit = table_places_of_bytes(bytes).simd_lt(u8x64::splat(10));
     (is_digit & values.simd_eq(u8x64::splat(255))).to_bitmask() != 0
 }
 
 /// Returns the values of words of at most three digits, and whether all of them are below 255.
 #[inline(always)]
-pub fn word_values(bytes: u8x64, words: u64) -> (u8x64, bool)
+pub fn word_values_and_if_below_255(bytes: u8x64, words: u64) -> (u8x64, bool)
     requires { (p : ℕ) → p < 64 → is_digit (slice_index_or bytes p 0) ≡ true → bit_at words p ≡ 1 }
-    ensures { result.1 ≡ true → AreWordValues bytes result.0 }
+    ensures { result.1 ≡ true → AreWordValuesAtLastDigits bytes result.0 }
 {
     if words & (words << 1) & (words << 2) == 0 {
-        return (two_digits(bytes), true);
+        return (values_of_two_digit_words(bytes), true);
     }
-    let values = three_digits(bytes);
-    (values, !has_large(bytes, values))
+    let values = values_of_three_digit_words(bytes);
+    (values, !has_digit_value_of_255(bytes, values))
 }
 
 /// Returns whether a blank comes first and all words are stars or numbers of at most three digits.
 #[inline(always)]
-pub fn are_short(words: u64, digits: u64, stars: u64) -> bool
-    ensures { result ≡ true → AreShortWords words digits stars }
+pub fn are_stars_or_short_numbers(words: u64, digits: u64, stars: u64) -> bool
+    ensures { result ≡ true → AreStarsOrThreeDigitNumbers words digits stars }
 {
     let two = words & (words << 1);
     let other = words & !(digits | stars);
@@ -242,27 +255,30 @@ pub fn are_short(words: u64, digits: u64, stars: u64) -> bool
 
 // Moves the lanes whose bits are set to the start; there are at most eight.
 #[inline(always)]
-fn packed(values: u8x16, bits: u64) -> u8x16
+fn selected_lanes_moved_to_start(values: u8x16, bits: u64) -> u8x16
     requires { bits < 256 }
     ensures lanes { (ms : List Bool) → length ms ≡ 8 → bits ≡ mask_l ms
-        → take (count_ones bits) result ≡ kept ms values }
+        → take (count_ones bits) result ≡ flagged_items ms values }
     ensures long { length result ≡ 16 }
 {
-    values.swizzle_dyn(u8x16::from_slice(&PLACES[8 * bits as usize..]))
+    values.swizzle_dyn(u8x16::from_slice(&SET_BIT_POSITIONS_BY_BYTE[8 * bits as usize..]))
 }
 
 /// Writes the bytes whose bits are set to the start of a row. Returns their number.
 #[inline(always)]
-pub fn put_lanes(values: &[u8], bits: u64, row: &mut [u8]) -> usize
+pub fn put_selected_lanes_in_row(values: &[u8], bits: u64, row: &mut [u8]) -> usize
     requires values { 72 ≤ length values.now }
     requires room { 72 ≤ length row.old }
     ensures { (ms : List Bool) → length ms ≡ 64 → bits ≡ mask_l ms
-        → (result ≡ count_ones bits) × (take result row.new ≡ kept ms (take 64 values.now)) }
+        → (result ≡ count_ones bits) × (take result row.new
+        ≡ flagged_items ms (take 64 values.now)) }
 {
     let mut i = 0;
     for k in 0..8 {
         let part = (bits >> (8 * k)) & 255;
-        packed(u8x16::from_slice(&values[8 * k..]), part).copy_to_slice(&mut row[i..]);
+        selected_lanes_moved_to_start(u8x16::from_slice(&values[8 * k..]), part).copy_to_slice(
+            &mut row[i..],
+        );
         i += part.count_ones() as usize;
     }
     i
@@ -270,7 +286,7 @@ pub fn put_lanes(values: &[u8], bits: u64, row: &mut [u8]) -> usize
 
 // Returns `place + step` if at most `most` bits below it are set, and `place` otherwise.
 #[inline(always)]
-fn further(bits: u64, most: usize, place: usize, step: usize) -> usize
+fn place_stepped_if_few_bits_below(bits: u64, most: usize, place: usize, step: usize) -> usize
     requires within { place + step < 64 }
     requires few { count_ones (bits % 2 ^ place) ≤ most }
     ensures within { result ≤ place + step }
@@ -285,24 +301,24 @@ fn further(bits: u64, most: usize, place: usize, step: usize) -> usize
 
 /// Returns the lowest bits of `bits`, as many as contain at most `most` set bits.
 #[inline(always)]
-pub fn lowest_bits(bits: u64, most: usize) -> u64
-    ensures { AreLowest bits most result }
+pub fn lowest_bits_up_to_set_bit_count(bits: u64, most: usize) -> u64
+    ensures { AreLowBitsUpToSetBitCount bits most result }
 {
     if bits.count_ones() as usize <= most {
         return bits;
     }
-    let place = further(bits, most, 0, 32);
-    let place = further(bits, most, place, 16);
-    let place = further(bits, most, place, 8);
-    let place = further(bits, most, place, 4);
-    let place = further(bits, most, place, 2);
-    let place = further(bits, most, place, 1);
+    let place = place_stepped_if_few_bits_below(bits, most, 0, 32);
+    let place = place_stepped_if_few_bits_below(bits, most, place, 16);
+    let place = place_stepped_if_few_bits_below(bits, most, place, 8);
+    let place = place_stepped_if_few_bits_below(bits, most, place, 4);
+    let place = place_stepped_if_few_bits_below(bits, most, place, 2);
+    let place = place_stepped_if_few_bits_below(bits, most, place, 1);
     bits & ((1 << place) - 1)
 }
 
 /// Writes the bytes of cells: the values of words of digits, and 255 for stars.
 #[inline(always)]
-pub fn cell_bytes(bytes: u8x64, values: u8x64, lanes: &mut [u8])
+pub fn put_cell_bytes_in_lanes(bytes: u8x64, values: u8x64, lanes: &mut [u8])
     requires { 64 ≤ length lanes.old }
     ensures { (p : ℕ) → p < 64 → slice_index_or lanes.new p 0
         ≡ (if is_null_star (slice_index_or bytes p 0) then 255 else slice_index_or values p 0) }

@@ -6,9 +6,9 @@ use Rattle.std.specs.List.{All}
 use Rattle.std.proofs.lemmas.List.{nil_from_length}
 use Rattle.std.proofs.lemmas.List.Elements.{All-nil, All-cons, All-head, All-tail}
 use Rattle.cell_core.specs.Grid.{CellValue, Grid}
-use Rattle.cell_ascii_meaning.specs.Header.{HeaderValue}
+use Rattle.cell_ascii_meaning.specs.Header.{GridHeaderContents}
 use Rattle.cell_ascii_meaning.specs.CellTexts.{cell_of_word}
-use Rattle.cell_ascii_meaning.specs.GridText.{DenoteCells}
+use Rattle.cell_ascii_meaning.specs.GridText.{WordsDenoteCells}
 use Rattle.cell_ascii_meaning.specs.declared.grid_fault.GridKind.{GridKind}
 use Rattle.cell_ascii_law.proofs.DataLawLemmas.{then_words, taken_cell, take_cell, take_many, take_end, take_grid, whole_grid}
 
@@ -20,15 +20,15 @@ get-drop zero xs i = ap (slice_get xs) (omega arith)
 get-drop (suc n) [] i = refl
 get-drop (suc n) (x ∷ xs) i = get-drop n xs i ∙ (let e : suc (n + i) ≡ suc n + i = omega arith in ap (slice_get (x ∷ xs)) e)
 
-module _ (h : HeaderValue) where
-  abbrev Denotes : Words → ℕ → CellValue → Type 0
-  Denotes words i v = option_map (cell_of_word h) (slice_get words i) ≡ Some (Ok v)
+module _ (h : GridHeaderContents) where
+  abbrev SourceDenotesMap : Words → ℕ → CellValue → Type 0
+  SourceDenotesMap words i v = option_map (cell_of_word h) (slice_get words i) ≡ Some (Ok v)
 
   -- the first n words denote the cells of a row, and `rest` has the words after them
   record IsRow (n : ℕ) (words : Words) (row : List CellValue) (rest : Words) : Type 0 where
     wide : length row ≡ n
     count : length words ≡ n + length rest
-    each : (c : ℕ) → c < n → Denotes words c (slice_index_or row c None)
+    each : (c : ℕ) → c < n → SourceDenotesMap words c (slice_index_or row c None)
     later : (i : ℕ) → slice_get words (n + i) ≡ slice_get rest i
 
   row_more : (n : ℕ) (word : List ℕ) (words : Words) (v : CellValue) (row : List CellValue) (rest : Words) → cell_of_word h word ≡ Ok v → IsRow n words row rest → IsRow (suc n) (word ∷ words) (v ∷ row) rest
@@ -39,7 +39,7 @@ module _ (h : HeaderValue) where
     later = λ i. (let k : suc n + i ≡ suc (n + i) = omega arith in ap (slice_get (word ∷ words)) k) ∙ is.later i;
   }
     where
-      each : (c : ℕ) → c < suc n → Denotes (word ∷ words) c (slice_index_or (v ∷ row) c None)
+      each : (c : ℕ) → c < suc n → SourceDenotesMap (word ∷ words) c (slice_index_or (v ∷ row) c None)
       each zero inside = ap Some e
       each (suc c) inside = is.each c (omega arith)
 
@@ -62,7 +62,7 @@ module _ (h : HeaderValue) where
       by on (Ok v) is e = last v is (take_many (take_cell h) n words) on e
       by on (Err kind) is e = cc
 
-  row_taken : (n : ℕ) (words : Words) (row : List CellValue) → length row ≡ n → n ≤ length words → ((c : ℕ) → c < n → Denotes words c (slice_index_or row c None)) → take_many (take_cell h) n words ≡ Some (row, drop n words)
+  row_taken : (n : ℕ) (words : Words) (row : List CellValue) → length row ≡ n → n ≤ length words → ((c : ℕ) → c < n → SourceDenotesMap words c (slice_index_or row c None)) → take_many (take_cell h) n words ≡ Some (row, drop n words)
   row_taken zero words [] wide count each = refl
   row_taken zero words (v ∷ row) wide count each = absurd (omega arith)
   row_taken (suc n) [] row wide count each = absurd (omega arith)
@@ -82,7 +82,7 @@ module _ (h : HeaderValue) where
       high : length rows ≡ n
       wide : All (λ row. length row ≡ cols) rows
       count : length words ≡ n * cols + length rest
-      each : (r c : ℕ) → r < n → c < cols → Denotes words (r * cols + c) (cell_of rows r c)
+      each : (r c : ℕ) → r < n → c < cols → SourceDenotesMap words (r * cols + c) (cell_of rows r c)
 
     rows_more : (n : ℕ) (words : Words) (row : List CellValue) (between : Words) (rows : List (List CellValue)) (rest : Words) → IsRow cols words row between → AreRows n between rows rest → AreRows (suc n) words (row ∷ rows) rest
     rows_more n words row between rows rest is are = record {
@@ -92,7 +92,7 @@ module _ (h : HeaderValue) where
       each = each;
     }
       where
-        each : (r c : ℕ) → r < suc n → c < cols → Denotes words (r * cols + c) (cell_of (row ∷ rows) r c)
+        each : (r c : ℕ) → r < suc n → c < cols → SourceDenotesMap words (r * cols + c) (cell_of (row ∷ rows) r c)
         each zero c low inside = ap (λ (i : ℕ). option_map (cell_of_word h) (slice_get words i)) (omega arith) ∙ is.each c inside
         each (suc r) c low inside = (let k : suc r * cols + c ≡ cols + (r * cols + c) = omega arith in ap (λ (i : ℕ). option_map (cell_of_word h) (slice_get words i)) k)
             ∙ ap (option_map (cell_of_word h)) (is.later (r * cols + c)) ∙ are.each r c (omega arith) inside
@@ -116,7 +116,7 @@ module _ (h : HeaderValue) where
         by on (Some z) is e = last z (row_read cols words z is) (take_many (take_many (take_cell h) cols) n z.1) (on z.1) e
 
     rows_taken : (n : ℕ) (words : Words) (rows : List (List CellValue)) → length rows ≡ n → All (λ row. length row ≡ cols) rows → length words ≡ n * cols
-        → ((r c : ℕ) → r < n → c < cols → Denotes words (r * cols + c) (cell_of rows r c)) → take_many (take_many (take_cell h) cols) n words ≡ Some (rows, [])
+        → ((r c : ℕ) → r < n → c < cols → SourceDenotesMap words (r * cols + c) (cell_of rows r c)) → take_many (take_many (take_cell h) cols) n words ≡ Some (rows, [])
     rows_taken zero words [] high wide count each = ap (λ (ws : Words). Some ([], ws)) (nil_from_length words (omega arith))
     rows_taken zero words (row ∷ rows) high wide count each = absurd (omega arith)
     rows_taken (suc n) words [] high wide count each = absurd (omega arith)
@@ -124,27 +124,28 @@ module _ (h : HeaderValue) where
         ap (then_words (λ row ws. then_words (λ rows ws. Some (row ∷ rows, ws)) (take_many (take_many (take_cell h) cols) n ws))) (row_taken cols words row (All-head (λ row. length row ≡ cols) row rows wide) (omega arith) first)
         ∙ ap (then_words (λ rows ws. Some (row ∷ rows, ws))) (rows_taken n (drop cols words) rows (omega arith) (All-tail (λ row. length row ≡ cols) row rows wide) (simp length-drop (omega arith)) later)
       where
-        first : (c : ℕ) → c < cols → Denotes words c (slice_index_or row c None)
+        first : (c : ℕ) → c < cols → SourceDenotesMap words c (slice_index_or row c None)
         first c inside = ap (λ (i : ℕ). option_map (cell_of_word h) (slice_get words i)) (omega arith) ∙ each 0 c (omega arith) inside
 
-        later : (r c : ℕ) → r < n → c < cols → Denotes (drop cols words) (r * cols + c) (cell_of rows r c)
+        later : (r c : ℕ) → r < n → c < cols → SourceDenotesMap (drop cols words) (r * cols + c) (cell_of rows r c)
         later r c low inside = ap (option_map (cell_of_word h)) (get-drop cols words (r * cols + c))
             ∙ (let k : cols + (r * cols + c) ≡ suc r * cols + c = omega arith in ap (λ (i : ℕ). option_map (cell_of_word h) (slice_get words i)) k) ∙ each (suc r) c (omega arith) inside
 
   -- a grid that is taken from words has the cells that the words denote, and no others
-  pub cells_read : (words : Words) (m : Grid) → take_grid h words ≡ Some m → (m ≡ whole_grid h m.rows) × DenoteCells h words m
+  pub cells_read : (words : Words) (m : Grid) → take_grid h words ≡ Some m → (m ≡ whole_grid h m.rows) × WordsDenoteCells h words m
   cells_read words m e = by (take_many (take_many (take_cell h) h.region.cols) h.region.rows words) (rows_read h.region.cols h.region.rows words) e
     where
-      last : (rows : List (List CellValue)) (rest : Words) → AreRows h.region.cols h.region.rows words rows rest → take_end h rows rest ≡ Some m → (m ≡ whole_grid h m.rows) × DenoteCells h words m
+      last : (rows : List (List CellValue)) (rest : Words) → AreRows h.region.cols h.region.rows words rows rest → take_end h rows rest ≡ Some m → (m ≡ whole_grid h m.rows) × WordsDenoteCells h words m
       last rows (word ∷ rest) are e = cc
       last rows [] are e =
           let p : whole_grid h rows ≡ m = cc in
-          subst (λ (g : Grid). (g ≡ whole_grid h g.rows) × DenoteCells h words g) p
+          subst (λ (g : Grid). (g ≡ whole_grid h g.rows) × WordsDenoteCells h words g) p
           (refl, record { count = (let k = are.count in omega arith); shape = record { count = are.high; width = are.wide }; each = are.each })
 
-      by : (o : Option (List (List CellValue) × Words)) → ((y : List (List CellValue) × Words) → o ≡ Some y → AreRows h.region.cols h.region.rows words y.0 y.1) → then_words (take_end h) o ≡ Some m → (m ≡ whole_grid h m.rows) × DenoteCells h words m
+      by : (o : Option (List (List CellValue) × Words)) → ((y : List (List CellValue) × Words) → o ≡ Some y → AreRows h.region.cols h.region.rows words y.0 y.1) → then_words (take_end h) o ≡ Some m → (m ≡ whole_grid h m.rows) × WordsDenoteCells h words m
       by None on e = cc
       by (Some y) on e = last y.0 y.1 (on y refl) e
 
-  pub cells_taken : (words : Words) (m : Grid) → DenoteCells h words m → take_grid h words ≡ Some (whole_grid h m.rows)
+  pub cells_taken : (words : Words) (m : Grid) → WordsDenoteCells h words m
+      → take_grid h words ≡ Some (whole_grid h m.rows)
   cells_taken words m are = ap (then_words (take_end h)) (rows_taken h.region.cols h.region.rows words m.rows are.shape.count are.shape.width are.count are.each)

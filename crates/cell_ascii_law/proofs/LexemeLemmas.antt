@@ -4,12 +4,13 @@ use Rattle.std.specs.Option.{option_map, option_and_then}
 use Rattle.std.proofs.lemmas.Bool.{cases_Bool, cases_lt}
 use Rattle.std.proofs.lemmas.Bool.Decides.{nat_tests}
 use Rattle.std.specs.Prelude.{nat_lt}
-use Rattle.cell_core_devices.specs.Device.{Coming}
+use Rattle.cell_core_devices.specs.Device.{ComingBytes}
 use Rattle.cell_ascii_meaning.proofs.TokenLemmas.{coming, gap-ends, gap-fails, gap-feed, gap-more, gap-stuck, gap-word}
 use Rattle.cell_ascii_meaning.proofs.TokenLemmas.{start-begins, start-ends, start-fails, start-more, start-stuck}
 use Rattle.cell_ascii_meaning.proofs.TokenLemmas.{word-ends, word-fails, word-long, word-more, word-stops}
-use Rattle.cell_ascii_meaning.specs.GridTokens.{Start, Begins, Ends, Stops, grid_start, is_space, grid_fault, word_from}
-use Rattle.cell_ascii_meaning.specs.Header.{Gap, Word, Feed, Last, Fault, gap_of}
+use Rattle.cell_ascii_meaning.specs.GridTokens.{NextWordStart, Begins, Ends, Stops, next_word_start, is_space}
+use Rattle.cell_ascii_meaning.specs.GridTokens.{grid_fault_at_line, word_continued_in_bytes}
+use Rattle.cell_ascii_meaning.specs.Header.{BlankRunEnd, Word, Feed, Last, Fault, end_of_continued_blank_run}
 use Rattle.cell_ascii_meaning.specs.declared.grid_fault.GridKind.TheVariants.{Read, ReaderStuck, LongToken}
 use Rattle.cell_ascii_meaning.specs.declared.grid_fault.GridFault.{GridFault}
 
@@ -82,55 +83,58 @@ module _ {Y : Type 0} (G : Lines → Option Y) where
   then_put x xs t (Some ls) = refl
 
   -- Blanks before the next word: if k agrees with the words from the next word on, k agrees from here on.
-  module _ (skips : (ls : Lines) → G ([] ∷ ls) ≡ G ls) (k : Start → Option Y) (stops : (e : GridFault) → k (Stops e) ≡ None) (ends : (line : ℕ) → k (Ends line) ≡ G [])
+  module _ (skips : (ls : Lines) → G ([] ∷ ls) ≡ G ls) (k : NextWordStart → Option Y) (stops : (e : GridFault) → k (Stops e) ≡ None) (ends : (line : ℕ) → k (Ends line) ≡ G [])
       (begins : (line b : ℕ) (bs : List ℕ) (f : Bool) → is_space b ≡ false → k (Begins line (coming (b ∷ bs) f)) ≡ option_and_then G (lex 0 [] (b ∷ bs) f)) where
-    pub before_word : (bs : List ℕ) (f : Bool) (line run : ℕ) → run ≤ 1048576 → k (grid_start line run (coming bs f)) ≡ option_and_then G (lex run [] bs f)
+    pub before_word : (bs : List ℕ) (f : Bool) (line run : ℕ) → run ≤ 1048576 → k (next_word_start line run (coming bs f)) ≡ option_and_then G (lex run [] bs f)
     before_word [] false line run low = ap k (start-ends line run low) ∙ ends line ∙ sym (skips [])
-    before_word [] true line run low = ap k (start-fails line run low) ∙ stops (grid_fault Read line)
+    before_word [] true line run low = ap k (start-fails line run low) ∙ stops (grid_fault_at_line Read line)
     before_word (b ∷ bs) f line run low = by (before_word bs f (line + cond (b == 10) 1 0) (run + 1)) (cases_Bool (is_space b)) (cases_lt run 1048576)
       where
-        by : (run + 1 ≤ 1048576 → k (grid_start (line + cond (b == 10) 1 0) (run + 1) (coming bs f)) ≡ option_and_then G (lex (run + 1) [] bs f))
-            → (is_space b ≡ true) ⊎ (is_space b ≡ false) → (run < 1048576) ⊎ (1048576 ≤ run) → k (grid_start line run (coming (b ∷ bs) f)) ≡ option_and_then G (lex run [] (b ∷ bs) f)
+        by : (run + 1 ≤ 1048576 → k (next_word_start (line + cond (b == 10) 1 0) (run + 1) (coming bs f)) ≡ option_and_then G (lex (run + 1) [] bs f))
+            → (is_space b ≡ true) ⊎ (is_space b ≡ false) → (run < 1048576) ⊎ (1048576 ≤ run) → k (next_word_start line run (coming (b ∷ bs) f)) ≡ option_and_then G (lex run [] (b ∷ bs) f)
         by on (inr word) _ = ap k (start-begins line run low b bs f word) ∙ begins line b bs f word ∙ ap (option_and_then G) (sym (lex-begins run b bs f word))
-        by on (inl space) (inr full) = ap k (start-stuck line run low b bs f space full) ∙ stops (grid_fault ReaderStuck line) ∙ ap (option_and_then G) (sym (lex-stuck run [] b bs f space full))
+        by on (inl space) (inr full) = ap k (start-stuck line run low b bs f space full) ∙ stops (grid_fault_at_line ReaderStuck line) ∙ ap (option_and_then G) (sym (lex-stuck run [] b bs f space full))
         by on (inl space) (inl room) = ap k (start-more line run low b bs f space room) ∙ on (omega arith)
             ∙ sym (ap (option_and_then G) (lex-space run [] b bs f space room) ∙ then_skipped skips (b == 10) (lex (run + 1) [] bs f))
 
   -- The rest of a word: if k agrees from the word's end on, k agrees from here on.
-  module _ (line : ℕ) (k : Result (List ℕ × Coming) GridFault → Option Y) (fails : (e : GridFault) → k (Err e) ≡ None)
+  module _ (line : ℕ) (k : Result (List ℕ × ComingBytes) GridFault → Option Y) (fails : (e : GridFault)
+      → k (Err e) ≡ None)
       (done : (x : ℕ) (xs bs : List ℕ) (f : Bool) → k (Ok (x ∷ xs, coming bs f)) ≡ option_and_then (λ ls. G (put (x ∷ xs) ls)) (lex 0 [] bs f)) where
-    in_word : (bs : List ℕ) (f : Bool) (x : ℕ) (xs : List ℕ) → length (x ∷ xs) ≤ 64 → k (word_from line (x ∷ xs) (coming bs f)) ≡ option_and_then G (lex 0 (x ∷ xs) bs f)
+    in_word : (bs : List ℕ) (f : Bool) (x : ℕ) (xs : List ℕ) → length (x ∷ xs) ≤ 64 → k (word_continued_in_bytes line (x ∷ xs) (coming bs f)) ≡ option_and_then G (lex 0 (x ∷ xs) bs f)
     in_word [] false x xs short = ap k (word-ends line (x ∷ xs) short) ∙ done x xs [] false
-    in_word [] true x xs short = ap k (word-fails line (x ∷ xs) short) ∙ fails (grid_fault Read line)
+    in_word [] true x xs short = ap k (word-fails line (x ∷ xs) short) ∙ fails (grid_fault_at_line Read line)
     in_word (b ∷ bs) f x xs short = by (in_word bs f x (xs ++ b ∷ [])) (cases_Bool (is_space b)) (cases_lt (length (x ∷ xs)) 64)
       where
-        by : (length (x ∷ (xs ++ b ∷ [])) ≤ 64 → k (word_from line (x ∷ (xs ++ b ∷ [])) (coming bs f)) ≡ option_and_then G (lex 0 (x ∷ (xs ++ b ∷ [])) bs f))
-            → (is_space b ≡ true) ⊎ (is_space b ≡ false) → (length (x ∷ xs) < 64) ⊎ (64 ≤ length (x ∷ xs)) → k (word_from line (x ∷ xs) (coming (b ∷ bs) f)) ≡ option_and_then G (lex 0 (x ∷ xs) (b ∷ bs) f)
+        by : (length (x ∷ (xs ++ b ∷ [])) ≤ 64 → k (word_continued_in_bytes line (x ∷ (xs ++ b ∷ [])) (coming bs f)) ≡ option_and_then G (lex 0 (x ∷ (xs ++ b ∷ [])) bs f))
+            → (is_space b ≡ true) ⊎ (is_space b ≡ false) → (length (x ∷ xs) < 64) ⊎ (64 ≤ length (x ∷ xs)) → k (word_continued_in_bytes line (x ∷ xs) (coming (b ∷ bs) f)) ≡ option_and_then G (lex 0 (x ∷ xs) (b ∷ bs) f)
         by on (inl space) _ = ap k (word-stops line (x ∷ xs) short b bs f space) ∙ done x xs (b ∷ bs) f
             ∙ ap (option_and_then (λ ls. G (put (x ∷ xs) ls))) (lex-space 0 [] b bs f space (omega arith)) ∙ then_put x xs (b == 10) (lex 1 [] bs f)
             ∙ sym (ap (option_and_then G) (lex-space 0 (x ∷ xs) b bs f space (omega arith)))
-        by on (inr word) (inr full) = ap k (word-long line (x ∷ xs) short b bs f word full) ∙ fails (grid_fault LongToken line) ∙ ap (option_and_then G) (sym (lex-long 0 (x ∷ xs) b bs f word full))
+        by on (inr word) (inr full) = ap k (word-long line (x ∷ xs) short b bs f word full) ∙ fails (grid_fault_at_line LongToken line) ∙ ap (option_and_then G) (sym (lex-long 0 (x ∷ xs) b bs f word full))
         by on (inr word) (inl room) = ap k (word-more line (x ∷ xs) short b bs f word) ∙ on (omega (arith, length-append xs (b ∷ []))) ∙ ap (option_and_then G) (sym (lex-word 0 (x ∷ xs) b bs f word room))
 
     -- a reading agrees with the words from the first byte of a word on
-    pub next_word : (b : ℕ) (bs : List ℕ) (f : Bool) → is_space b ≡ false → k (word_from line [] (coming (b ∷ bs) f)) ≡ option_and_then G (lex 0 [] (b ∷ bs) f)
+    pub next_word : (b : ℕ) (bs : List ℕ) (f : Bool) → is_space b ≡ false → k (word_continued_in_bytes line [] (coming (b ∷ bs) f)) ≡ option_and_then G (lex 0 [] (b ∷ bs) f)
     next_word b bs f word = ap k (word-more line [] (omega arith) b bs f word) ∙ in_word bs f b [] (omega arith) ∙ ap (option_and_then G) (sym (lex-word 0 [] b bs f word (omega arith)))
 
   -- The blanks of a line: if k agrees from the end of the blanks on, k agrees from here on.
-  module _ (line : ℕ) (k : Gap → Option Y) (fails : (e : GridFault) → k (Fault e) ≡ None) (last : k Last ≡ G ([] ∷ []))
+  module _ (line : ℕ) (k : BlankRunEnd → Option Y) (fails : (e : GridFault)
+      → k (Fault e) ≡ None) (last : k Last ≡ G ([] ∷ []))
       (begins : (b : ℕ) (bs : List ℕ) (f : Bool) → is_space b ≡ false → k (Word (coming (b ∷ bs) f)) ≡ option_and_then G (lex 0 [] (b ∷ bs) f))
       (feeds : (run : ℕ) (bs : List ℕ) (f : Bool) → run ≤ 1048576 → k (Feed run (coming bs f)) ≡ option_and_then (λ ls. G ([] ∷ ls)) (lex run [] bs f)) where
-    pub before_gap : (bs : List ℕ) (f : Bool) (run : ℕ) → run ≤ 1048576 → k (gap_of line run (coming bs f)) ≡ option_and_then G (lex run [] bs f)
+    pub before_gap : (bs : List ℕ) (f : Bool) (run : ℕ) → run ≤ 1048576 → k (end_of_continued_blank_run line run (coming bs f)) ≡ option_and_then G (lex run [] bs f)
     before_gap [] false run low = ap k (gap-ends line run low) ∙ last
-    before_gap [] true run low = ap k (gap-fails line run low) ∙ fails (grid_fault Read line)
+    before_gap [] true run low = ap k (gap-fails line run low) ∙ fails (grid_fault_at_line Read line)
     before_gap (b ∷ bs) f run low = by (before_gap bs f (run + 1)) (cases_Bool (is_space b)) (cases_Bool (b == 10)) (cases_lt run 1048576)
       where
-        by : (run + 1 ≤ 1048576 → k (gap_of line (run + 1) (coming bs f)) ≡ option_and_then G (lex (run + 1) [] bs f))
+        by : (run + 1 ≤ 1048576 → k (end_of_continued_blank_run line (run + 1) (coming bs f))
+            ≡ option_and_then G (lex (run + 1) [] bs f))
             → (is_space b ≡ true) ⊎ (is_space b ≡ false) → ((b == 10) ≡ true) ⊎ ((b == 10) ≡ false) → (run < 1048576) ⊎ (1048576 ≤ run)
-            → k (gap_of line run (coming (b ∷ bs) f)) ≡ option_and_then G (lex run [] (b ∷ bs) f)
+            → k (end_of_continued_blank_run line run (coming (b ∷ bs) f)) ≡ option_and_then G (lex run [] (b ∷ bs) f)
         by on (inr word) _ _ = ap k (gap-word line run low b bs f word) ∙ begins b bs f word ∙ ap (option_and_then G) (sym (lex-begins run b bs f word))
         by on (inl space) (inl feed) (inl room) = ap k (gap-feed line run low b bs f feed room) ∙ feeds (run + 1) bs f (omega arith)
             ∙ sym (ap (option_and_then G) (lex-space run [] b bs f space room) ∙ ap (λ (t : Bool). option_and_then G (option_map (opening t) (lex (run + 1) [] bs f))) feed ∙ then_fed (lex (run + 1) [] bs f))
         by on (inl space) (inr blank) (inl room) = ap k (gap-more line run low b bs f space blank) ∙ on (omega arith)
             ∙ sym (ap (option_and_then G) (lex-space run [] b bs f space room) ∙ ap (λ (t : Bool). option_and_then G (option_map (opening t) (lex (run + 1) [] bs f))) blank ∙ then_same (lex (run + 1) [] bs f))
-        by on (inl space) _ (inr full) = ap k (gap-stuck line run low b bs f space full) ∙ fails (grid_fault ReaderStuck line) ∙ ap (option_and_then G) (sym (lex-stuck run [] b bs f space full))
+        by on (inl space) _ (inr full) = ap k (gap-stuck line run low b bs f space full) ∙ fails (grid_fault_at_line ReaderStuck line) ∙ ap (option_and_then G) (sym (lex-stuck run [] b bs f space full))

@@ -5,7 +5,8 @@ use Rattle.std.specs.List.{All, slice_split, onto_first, filter, list_all}
 use Rattle.std.proofs.lemmas.Bool.{cases_Bool, cases_lt, and_parts, and_from, both_ways}
 use Rattle.std.proofs.lemmas.List.Elements.{All-nil, All-cons, All-head, All-tail, All-append}
 use Rattle.cell_ascii_meaning.specs.GridTokens.{is_space}
-use Rattle.cell_ascii_meaning.specs.GridText.{is_word, grid_words_of, lines_of, line_words, IsWithinLimits}
+use Rattle.cell_ascii_meaning.specs.GridText.{is_nonempty_word, words_of_grid_text, lines_of_text, words_of_each_line}
+use Rattle.cell_ascii_meaning.specs.GridText.{AreWordsAndBlanksWithinLimits}
 use Rattle.cell_ascii_meaning.proofs.TokenLemmas.{no_feed}
 use Rattle.cell_ascii_law.proofs.LexemeLemmas.{Lines, put_token, opening, lex, lex-space, lex-stuck, lex-word, lex-long}
 
@@ -57,30 +58,32 @@ abbrev pub as_word : List ℕ → List (List ℕ)
 as_word [] = []
 as_word (b ∷ bs) = (b ∷ bs) ∷ []
 
-pub as_words : (t : List ℕ) (qs : List (List ℕ)) → filter is_word ((t ++ []) ∷ qs) ≡ as_word t ++ filter is_word qs
-as_words t qs = ap (λ (u : List ℕ). filter is_word (u ∷ qs)) (append-nil t) ∙ by t
+pub as_words : (t : List ℕ) (qs : List (List ℕ)) → filter is_nonempty_word ((t ++ []) ∷ qs) ≡ as_word t
+    ++ filter is_nonempty_word qs
+as_words t qs = ap (λ (u : List ℕ). filter is_nonempty_word (u ∷ qs)) (append-nil t) ∙ by t
   where
-    by : (u : List ℕ) → filter is_word (u ∷ qs) ≡ as_word u ++ filter is_word qs
+    by : (u : List ℕ) → filter is_nonempty_word (u ∷ qs) ≡ as_word u ++ filter is_nonempty_word qs
     by [] = refl
     by (x ∷ xs) = refl
 
-pub words_alone : (t : List ℕ) → IsFree is_space t → grid_words_of (t ++ []) ≡ as_word t
-words_alone t free = ap (filter is_word) (split_free is_space t [] free) ∙ as_words t [] ∙ append-nil (as_word t)
+pub words_alone : (t : List ℕ) → IsFree is_space t → words_of_grid_text (t ++ []) ≡ as_word t
+words_alone t free = ap (filter is_nonempty_word) (split_free is_space t [] free) ∙ as_words t []
+    ∙ append-nil (as_word t)
 
-pub words_space : (t : List ℕ) (b : ℕ) (bs : List ℕ) → IsFree is_space t → is_space b ≡ true → grid_words_of (t ++ b ∷ bs) ≡ as_word t ++ grid_words_of bs
-words_space t b bs free space = ap (filter is_word) (split_free is_space t (b ∷ bs) free)
-    ∙ ap (λ (s : Bool). filter is_word (onto t (cond s ([] ∷ slice_split is_space bs) (onto_first b (slice_split is_space bs))))) space
+pub words_space : (t : List ℕ) (b : ℕ) (bs : List ℕ) → IsFree is_space t → is_space b ≡ true → words_of_grid_text (t ++ b ∷ bs) ≡ as_word t ++ words_of_grid_text bs
+words_space t b bs free space = ap (filter is_nonempty_word) (split_free is_space t (b ∷ bs) free)
+    ∙ ap (λ (s : Bool). filter is_nonempty_word (onto t (cond s ([] ∷ slice_split is_space bs) (onto_first b (slice_split is_space bs))))) space
     ∙ as_words t (slice_split is_space bs)
 
-pub lines_alone : (t : List ℕ) → IsFree is_space t → line_words (t ++ []) ≡ put_token t ([] ∷ [])
-lines_alone t free = ap (map grid_words_of) (split_free (λ b. b == 10) t [] (free_feeds t free)) ∙ ap (λ (ws : List (List ℕ)). ws ∷ []) (words_alone t free) ∙ by t
+pub lines_alone : (t : List ℕ) → IsFree is_space t → words_of_each_line (t ++ []) ≡ put_token t ([] ∷ [])
+lines_alone t free = ap (map words_of_grid_text) (split_free (λ b. b == 10) t [] (free_feeds t free)) ∙ ap (λ (ws : List (List ℕ)). ws ∷ []) (words_alone t free) ∙ by t
   where
     by : (u : List ℕ) → as_word u ∷ [] ≡ put_token u ([] ∷ [])
     by [] = refl
     by (x ∷ xs) = refl
 
-pub lines_space : (t : List ℕ) (b : ℕ) (bs : List ℕ) → IsFree is_space t → is_space b ≡ true → line_words (t ++ b ∷ bs) ≡ put_token t (opening (b == 10) (line_words bs))
-lines_space t b bs free space = ap (map grid_words_of) (split_free (λ b. b == 10) t (b ∷ bs) (free_feeds t free)) ∙ by (b == 10) (lines_of bs) (split_made (λ b. b == 10) bs)
+pub lines_space : (t : List ℕ) (b : ℕ) (bs : List ℕ) → IsFree is_space t → is_space b ≡ true → words_of_each_line (t ++ b ∷ bs) ≡ put_token t (opening (b == 10) (words_of_each_line bs))
+lines_space t b bs free space = ap (map words_of_grid_text) (split_free (λ b. b == 10) t (b ∷ bs) (free_feeds t free)) ∙ by (b == 10) (lines_of_text bs) (split_made (λ b. b == 10) bs)
   where
     fed : (u : List ℕ) (ls : Lines) → as_word u ∷ ls ≡ put_token u ([] ∷ ls)
     fed [] ls = refl
@@ -90,16 +93,16 @@ lines_space t b bs free space = ap (map grid_words_of) (split_free (λ b. b == 1
     more [] ws ls = refl
     more (x ∷ xs) ws ls = refl
 
-    by : (feed : Bool) (qs : List (List ℕ)) → IsMade qs → map grid_words_of (onto t (cond feed ([] ∷ qs) (onto_first b qs))) ≡ put_token t (opening feed (map grid_words_of qs))
+    by : (feed : Bool) (qs : List (List ℕ)) → IsMade qs → map words_of_grid_text (onto t (cond feed ([] ∷ qs) (onto_first b qs))) ≡ put_token t (opening feed (map words_of_grid_text qs))
     by feed [] made = absurd made
-    by true (q ∷ qs) made = ap (λ (ws : List (List ℕ)). ws ∷ map grid_words_of (q ∷ qs)) (words_alone t free) ∙ fed t (map grid_words_of (q ∷ qs))
-    by false (q ∷ qs) made = ap (λ (ws : List (List ℕ)). ws ∷ map grid_words_of qs) (words_space t b q free space) ∙ more t (grid_words_of q) (map grid_words_of qs)
+    by true (q ∷ qs) made = ap (λ (ws : List (List ℕ)). ws ∷ map words_of_grid_text (q ∷ qs)) (words_alone t free) ∙ fed t (map words_of_grid_text (q ∷ qs))
+    by false (q ∷ qs) made = ap (λ (ws : List (List ℕ)). ws ∷ map words_of_grid_text qs) (words_space t b q free space) ∙ more t (words_of_grid_text q) (map words_of_grid_text qs)
 
 -- No word of the text has more than 64 bytes.
 abbrev AreShort : List ℕ → Type 0
-AreShort text = All (λ w. length w ≤ 64) (grid_words_of text)
+AreShort text = All (λ w. length w ≤ 64) (words_of_grid_text text)
 
-short_from : (text : List ℕ) (ws : List (List ℕ)) → grid_words_of text ≡ ws → All (λ w. length w ≤ 64) ws → AreShort text
+short_from : (text : List ℕ) (ws : List (List ℕ)) → words_of_grid_text text ≡ ws → All (λ w. length w ≤ 64) ws → AreShort text
 short_from text ws e short = subst (λ (vs : List (List ℕ)). All (λ w. length w ≤ 64) vs) (sym e) short
 
 short_word : (t : List ℕ) → length t ≤ 64 → All (λ w. length w ≤ 64) (as_word t)
@@ -114,7 +117,7 @@ rest_short : (t : List ℕ) (ws : List (List ℕ)) → All (λ w. length w ≤ 6
 rest_short [] ws short = short
 rest_short (x ∷ xs) ws short = All-tail (λ w. length w ≤ 64) (x ∷ xs) ws short
 
-words_short : (text : List ℕ) (ws : List (List ℕ)) → grid_words_of text ≡ ws → AreShort text → All (λ w. length w ≤ 64) ws
+words_short : (text : List ℕ) (ws : List (List ℕ)) → words_of_grid_text text ≡ ws → AreShort text → All (λ w. length w ≤ 64) ws
 words_short text ws e short = subst (λ (vs : List (List ℕ)). All (λ w. length w ≤ 64) vs) e short
 
 pub one_more : (t : List ℕ) (b : ℕ) (bs : List ℕ) → (t ++ b ∷ []) ++ bs ≡ t ++ b ∷ bs
@@ -126,7 +129,7 @@ token_short [] t free short = first_short t [] (words_short (t ++ []) (as_word t
 token_short (b ∷ bs) t free short = by (token_short bs (t ++ b ∷ [])) (cases_Bool (is_space b))
   where
     by : (IsFree is_space (t ++ b ∷ []) → AreShort ((t ++ b ∷ []) ++ bs) → length (t ++ b ∷ []) ≤ 64) → (is_space b ≡ true) ⊎ (is_space b ≡ false) → length t ≤ 64
-    by on (inl space) = first_short t (grid_words_of bs) (words_short (t ++ b ∷ bs) (as_word t ++ grid_words_of bs) (words_space t b bs free space) short)
+    by on (inl space) = first_short t (words_of_grid_text bs) (words_short (t ++ b ∷ bs) (as_word t ++ words_of_grid_text bs) (words_space t b bs free space) short)
     by on (inr word) = let h = on (free_more is_space t b free word) (subst AreShort (sym (one_more t b bs)) short) in omega (arith, length-append t (b ∷ []))
 
 -- No run of spaces has more than 1048576 bytes, if the text follows `run` spaces.
@@ -190,7 +193,7 @@ pub record IsLexed (run : ℕ) (t bs : List ℕ) (f : Bool) (ls : Lines) : Type 
   pub ends : f ≡ false
   pub words : AreShort (t ++ bs)
   pub gaps : AreGaps run bs
-  pub lines : ls ≡ line_words (t ++ bs)
+  pub lines : ls ≡ words_of_each_line (t ++ bs)
 
 lexed : (bs : List ℕ) (f : Bool) (run : ℕ) (t : List ℕ) → IsFree is_space t → length t ≤ 64 → run ≤ 1048576 → (ls : Lines) → lex run t bs f ≡ Some ls → IsLexed run t bs f ls
 lexed [] true run t free short low ls e = cc
@@ -209,7 +212,7 @@ lexed (b ∷ bs) f run t free short low ls e = by (lexed bs f (run + 1) []) (lex
         let h : put_token t (opening (b == 10) l) ≡ ls = cc in
         record {
           ends = g.ends;
-          words = short_from (t ++ b ∷ bs) (as_word t ++ grid_words_of bs) (words_space t b bs free space) (All-append (λ w. length w ≤ 64) (as_word t) (grid_words_of bs) (short_word t short) g.words);
+          words = short_from (t ++ b ∷ bs) (as_word t ++ words_of_grid_text bs) (words_space t b bs free space) (All-append (λ w. length w ≤ 64) (as_word t) (words_of_grid_text bs) (short_word t short) g.words);
           gaps = gaps_space run b bs g.gaps;
           lines = sym h ∙ ap (λ (l : Lines). put_token t (opening (b == 10) l)) g.lines ∙ sym (lines_space t b bs free space);
         }
@@ -226,29 +229,31 @@ lexed (b ∷ bs) f run t free short low ls e = by (lexed bs f (run + 1) []) (lex
           ends = g.ends;
           words = subst AreShort (one_more t b bs) g.words;
           gaps = gaps_word run b bs word low g.gaps;
-          lines = g.lines ∙ ap line_words (one_more t b bs);
+          lines = g.lines ∙ ap words_of_each_line (one_more t b bs);
         }
 
-lexes : (bs : List ℕ) (run : ℕ) (t : List ℕ) → IsFree is_space t → AreShort (t ++ bs) → AreGaps run bs → lex run t bs false ≡ Some (line_words (t ++ bs))
+lexes : (bs : List ℕ) (run : ℕ) (t : List ℕ) → IsFree is_space t → AreShort (t ++ bs) → AreGaps run bs → lex run t bs false ≡ Some (words_of_each_line (t ++ bs))
 lexes [] run t free short are = ap Some (sym (lines_alone t free))
 lexes (b ∷ bs) run t free short are = by (lexes bs (run + 1) []) (lexes bs 0 (t ++ b ∷ [])) (cases_Bool (is_space b))
   where
-    by : (IsFree is_space [] → AreShort bs → AreGaps (run + 1) bs → lex (run + 1) [] bs false ≡ Some (line_words bs))
-        → (IsFree is_space (t ++ b ∷ []) → AreShort ((t ++ b ∷ []) ++ bs) → AreGaps 0 bs → lex 0 (t ++ b ∷ []) bs false ≡ Some (line_words ((t ++ b ∷ []) ++ bs)))
-        → (is_space b ≡ true) ⊎ (is_space b ≡ false) → lex run t (b ∷ bs) false ≡ Some (line_words (t ++ b ∷ bs))
+    by : (IsFree is_space [] → AreShort bs → AreGaps (run + 1) bs
+        → lex (run + 1) [] bs false ≡ Some (words_of_each_line bs))
+        → (IsFree is_space (t ++ b ∷ []) → AreShort ((t ++ b ∷ []) ++ bs) → AreGaps 0 bs → lex 0 (t ++ b ∷ []) bs false ≡ Some (words_of_each_line ((t ++ b ∷ []) ++ bs)))
+        → (is_space b ≡ true) ⊎ (is_space b ≡ false) → lex run t (b ∷ bs) false
+        ≡ Some (words_of_each_line (t ++ b ∷ bs))
     by on inside (inl space) =
         let g = space_gaps run b bs are space in
-        let s = rest_short t (grid_words_of bs) (words_short (t ++ b ∷ bs) (as_word t ++ grid_words_of bs) (words_space t b bs free space) short) in
+        let s = rest_short t (words_of_grid_text bs) (words_short (t ++ b ∷ bs) (as_word t ++ words_of_grid_text bs) (words_space t b bs free space) short) in
         lex-space run t b bs false space g.0 ∙ ap (option_map (λ ls. put_token t (opening (b == 10) ls))) (on tt s g.1) ∙ ap Some (sym (lines_space t b bs free space))
     by on inside (inr word) =
         let s : AreShort ((t ++ b ∷ []) ++ bs) = subst AreShort (sym (one_more t b bs)) short in
         let free' = free_more is_space t b free word in
         let h = token_short bs (t ++ b ∷ []) free' s in
-        lex-word run t b bs false word (omega (arith, length-append t (b ∷ []))) ∙ inside free' s (word_gaps run b bs are) ∙ ap (λ (l : List ℕ). Some (line_words l)) (one_more t b bs)
+        lex-word run t b bs false word (omega (arith, length-append t (b ∷ []))) ∙ inside free' s (word_gaps run b bs are) ∙ ap (λ (l : List ℕ). Some (words_of_each_line l)) (one_more t b bs)
 
 -- if the words of a text are read line by line, no read fails, and the text is within the limits
-pub limits_are : (bs : List ℕ) (f : Bool) (ls : Lines) → lex 0 [] bs f ≡ Some ls → (f ≡ false) × IsWithinLimits bs × (ls ≡ line_words bs)
+pub limits_are : (bs : List ℕ) (f : Bool) (ls : Lines) → lex 0 [] bs f ≡ Some ls → (f ≡ false) × AreWordsAndBlanksWithinLimits bs × (ls ≡ words_of_each_line bs)
 limits_are bs f ls e = let g = lexed bs f 0 [] tt (omega arith) (omega arith) ls e in (g.ends, record { words = g.words; gaps = λ front gap back e s. g.gaps.later front gap back e s }, g.lines)
 
-pub within_limits : (bs : List ℕ) → IsWithinLimits bs → lex 0 [] bs false ≡ Some (line_words bs)
+pub within_limits : (bs : List ℕ) → AreWordsAndBlanksWithinLimits bs → lex 0 [] bs false ≡ Some (words_of_each_line bs)
 within_limits bs is = lexes bs 0 [] tt is.words (record { here = λ gap back e s. let h = is.gaps [] gap back e s in omega arith; later = λ front gap back e s. is.gaps front gap back e s })

@@ -6,11 +6,12 @@ use Rattle.std.specs.List.{All, AllByRecursion, IsDistinct, find, filter, flat_m
 use Rattle.std.proofs.lemmas.Bool.{cases_Bool, both_ways}
 use Rattle.std.proofs.lemmas.Slice.Eq.{bytes_eq-Decides}
 use Rattle.std.proofs.lemmas.List.Elements.{All-nil, All-cons, All-head, All-tail}
-use Rattle.cell_core.specs.Grid.{Grid, no_labels}
-use Rattle.cell_ascii_meaning.specs.EdgeNumbers.{coordinate, side, whole_in_range}
-use Rattle.cell_ascii_meaning.specs.KeyNames.{header_key_of}
-use Rattle.cell_ascii_meaning.specs.Header.{HeaderValue, KeyValues, no_keys, with_header_key, header_of, has_colon, usual_null, usual_multiplier}
-use Rattle.cell_ascii_meaning.specs.GridText.{is_data_line, is_header_line, header_lines, data_words, key_text, line_values, value_of, IsHeader, DenoteCells, read_or, null_text, int_type}
+use Rattle.cell_core.specs.Grid.{Grid, empty_category_labels}
+use Rattle.cell_ascii_meaning.specs.EdgeNumbers.{coordinate_of_text, row_or_column_count_of_text}
+use Rattle.cell_ascii_meaning.specs.EdgeNumbers.{whole_number_in_category_range}
+use Rattle.cell_ascii_meaning.specs.KeyNames.{header_key_with_name}
+use Rattle.cell_ascii_meaning.specs.Header.{GridHeaderContents, HeaderKeyValues, empty_header_key_values, key_values_with_header_key, header_defined_by_keys, has_colon, usual_null_text, usual_multiplier}
+use Rattle.cell_ascii_meaning.specs.GridText.{is_data_line, is_header_line, header_lines, data_words, key_text_of_header_line, values_of_header_line, value_of_header_key, HeaderLinesFormHeader, WordsDenoteCells, read_value_or_default, null_text, int_type_of_text}
 use Rattle.cell_ascii_meaning.specs.declared.header_key.HeaderKey.{HeaderKey}
 use Rattle.cell_ascii_meaning.specs.declared.header_key.HeaderKey.TheVariants.{North, South, East, West, Rows, Cols, Null, CellType, Multiplier}
 use Rattle.cell_ascii_meaning.specs.declared.grid_fault.GridKind.{GridKind}
@@ -21,11 +22,12 @@ use Rattle.cell_ascii_law.proofs.KeyLawLemmas.{Value, Number, Count, Text, held,
 use Rattle.cell_ascii_law.proofs.GridCellLemmas.{cells_read, cells_taken}
 
 -- The header lines, and then the words of the data.
-abbrev pub then_keys : Result KeyValues GridKind → (KeyValues → Result KeyValues GridKind) → Result KeyValues GridKind
+abbrev pub then_keys : Result HeaderKeyValues GridKind → (HeaderKeyValues → Result HeaderKeyValues GridKind)
+    → Result HeaderKeyValues GridKind
 then_keys (Ok keys) rest = rest keys
 then_keys (Err kind) rest = Err kind
 
-abbrev pub with_lines : KeyValues → Lines → Result KeyValues GridKind
+abbrev pub with_lines : HeaderKeyValues → Lines → Result HeaderKeyValues GridKind
 with_lines keys [] = Ok keys
 with_lines keys (l ∷ ls) = then_keys (with_line keys l) (λ k. with_lines k ls)
 
@@ -35,7 +37,8 @@ no_data l = not (is_data_line l)
 one_more : (n : ℕ) → 1 + n ≡ suc n
 one_more n = omega arith
 
-pub text_parts : {Y : Type 0} (take_words : KeyValues → List (List ℕ) → Option Y) (ls : Lines) (keys : KeyValues)
+pub text_parts : {Y : Type 0} (take_words : HeaderKeyValues → List (List ℕ)
+    → Option Y) (ls : Lines) (keys : HeaderKeyValues)
     → take_by take_words keys ls ≡ after_key (with_lines keys (header_lines ls)) (λ k. take_words k (data_words ls))
 text_parts take_words [] keys = refl
 text_parts take_words ([] ∷ ls) keys =
@@ -43,8 +46,8 @@ text_parts take_words ([] ∷ ls) keys =
     ∙ ap (λ (n : ℕ). after_key (with_lines keys (filter is_header_line (take n ([] ∷ ls)))) (λ k. take_words k (flat_map (λ l. l) (drop n ([] ∷ ls))))) (sym (one_more (prefix_len no_data ls)))
 text_parts take_words ((w ∷ ws) ∷ ls) keys = by (has_colon w) refl (text_parts take_words ls)
   where
-    keyed : (r : Result KeyValues GridKind)
-        → ((k : KeyValues) → take_by take_words k ls ≡ after_key (with_lines k (header_lines ls))
+    keyed : (r : Result HeaderKeyValues GridKind)
+        → ((k : HeaderKeyValues) → take_by take_words k ls ≡ after_key (with_lines k (header_lines ls))
         (λ k. take_words k (data_words ls)))
         → after_key r (λ k. take_by take_words k ls) ≡ after_key (then_keys r (λ k. with_lines k (header_lines ls)))
         (λ k. take_words k (data_words ls))
@@ -52,7 +55,7 @@ text_parts take_words ((w ∷ ws) ∷ ls) keys = by (has_colon w) refl (text_par
     keyed (Err kind) on = refl
 
     by : (t : Bool) → has_colon w ≡ t
-        → ((k : KeyValues) → take_by take_words k ls ≡ after_key (with_lines k (header_lines ls))
+        → ((k : HeaderKeyValues) → take_by take_words k ls ≡ after_key (with_lines k (header_lines ls))
         (λ k. take_words k (data_words ls)))
         → (if t then after_key (with_line keys (w ∷ ws)) (λ k. take_by take_words k ls) else take_words keys
         (w ∷ (ws ++ all_words ls)))
@@ -74,7 +77,7 @@ name_of Null = codes "null"
 name_of CellType = codes "type"
 name_of Multiplier = codes "multiplier"
 
-key_named : (q : HeaderKey) → header_key_of (name_of q) ≡ Some q
+key_named : (q : HeaderKey) → header_key_with_name (name_of q) ≡ Some q
 key_named North = refl
 key_named South = refl
 key_named East = refl
@@ -85,7 +88,7 @@ key_named Null = refl
 key_named CellType = refl
 key_named Multiplier = refl
 
-pub name_is : (t : List ℕ) (q : HeaderKey) → header_key_of t ≡ Some q → t ≡ name_of q
+pub name_is : (t : List ℕ) (q : HeaderKey) → header_key_with_name t ≡ Some q → t ≡ name_of q
 name_is t q k = by (bytes_eq t (codes "north")) (bytes_eq t (codes "south")) (bytes_eq t (codes "east")) (bytes_eq t (codes "west")) (bytes_eq t (codes "rows")) (bytes_eq t (codes "cols")) (bytes_eq t (codes "null")) (bytes_eq t (codes "type")) (bytes_eq t (codes "multiplier")) refl refl refl refl refl refl refl refl refl k
   where
     named : (p : HeaderKey) → bytes_eq t (name_of p) ≡ true → Some p ≡ Some q → t ≡ name_of q
@@ -106,19 +109,23 @@ name_is t q k = by (bytes_eq t (codes "north")) (bytes_eq t (codes "south")) (by
 
 -- a line has the key p
 abbrev pub has_key : HeaderKey → List (List ℕ) → Bool
-has_key p l = bytes_eq (name_of p) (key_text l)
+has_key p l = bytes_eq (name_of p) (key_text_of_header_line l)
 
-has_its_key : (l : List (List ℕ)) (q : HeaderKey) → header_key_of (key_text l) ≡ Some q → has_key q l ≡ true
-has_its_key l q e = (bytes_eq-Decides (name_of q) (key_text l)).1 (sym (name_is (key_text l) q e))
+has_its_key : (l : List (List ℕ)) (q : HeaderKey) → header_key_with_name (key_text_of_header_line l) ≡ Some q
+    → has_key q l ≡ true
+has_its_key l q e = (bytes_eq-Decides (name_of q) (key_text_of_header_line l)).1
+    (sym (name_is (key_text_of_header_line l) q e))
 
-only_its_key : (l : List (List ℕ)) (q p : HeaderKey) → header_key_of (key_text l) ≡ Some q → has_key p l ≡ true → p ≡ q
+only_its_key : (l : List (List ℕ)) (q p : HeaderKey) → header_key_with_name (key_text_of_header_line l) ≡ Some q
+    → has_key p l ≡ true → p ≡ q
 only_its_key l q p e has =
-    let same : name_of p ≡ key_text l = (bytes_eq-Decides (name_of p) (key_text l)).0 has in
-    let some : Some p ≡ Some q = sym (key_named p) ∙ ap header_key_of same ∙ e in
+    let same : name_of p ≡ key_text_of_header_line l = (bytes_eq-Decides (name_of p)
+    (key_text_of_header_line l)).0 has in
+    let some : Some p ≡ Some q = sym (key_named p) ∙ ap header_key_with_name same ∙ e in
     cc
 
 -- a line with the key q has the key p only if p is q
-key_cases : (l : List (List ℕ)) (q p : HeaderKey) → header_key_of (key_text l) ≡ Some q → (p ≡ q) ⊎ ((has_key p l ≡ false) × (p ≡ q → ⊥))
+key_cases : (l : List (List ℕ)) (q p : HeaderKey) → header_key_with_name (key_text_of_header_line l) ≡ Some q → (p ≡ q) ⊎ ((has_key p l ≡ false) × (p ≡ q → ⊥))
 key_cases l q p e = by (cases_Bool (has_key p l))
   where
     by : (has_key p l ≡ true) ⊎ (has_key p l ≡ false) → (p ≡ q) ⊎ ((has_key p l ≡ false) × (p ≡ q → ⊥))
@@ -130,41 +137,41 @@ abbrev pub line_of : HeaderKey → Lines → Option (List (List ℕ))
 line_of p ls = find (has_key p) ls
 
 abbrev pub number_in : HeaderKey → Option (List (List ℕ)) → Option Value
-number_in p o = option_and_then (number_of p) (option_and_then (λ l. slice_get (line_values l) 0) o)
+number_in p o = option_and_then (number_of p) (option_and_then (λ l. slice_get (values_of_header_line l) 0) o)
 
 abbrev pub looked_up : HeaderKey → Lines → Option Value
 looked_up p ls = number_in p (line_of p ls)
 
-line_first : (l : List (List ℕ)) (ls : Lines) (q : HeaderKey) → header_key_of (key_text l) ≡ Some q → line_of q (l ∷ ls) ≡ Some l
+line_first : (l : List (List ℕ)) (ls : Lines) (q : HeaderKey) → header_key_with_name (key_text_of_header_line l) ≡ Some q → line_of q (l ∷ ls) ≡ Some l
 line_first l ls q e = ap (λ (t : Bool). cond t (Some l) (line_of q ls)) (has_its_key l q e)
 
 line_later : (l : List (List ℕ)) (ls : Lines) (p : HeaderKey) → has_key p l ≡ false → line_of p (l ∷ ls) ≡ line_of p ls
 line_later l ls p e = ap (λ (t : Bool). cond t (Some l) (line_of p ls)) e
 
 -- if no line with a key is found, no line has the key
-none_found : (t : List ℕ) (p : HeaderKey) → t ≡ name_of p → (ls : Lines) → line_of p ls ≡ None → AllByRecursion (λ y. bytes_eq t y ≡ false) (map key_text ls)
+none_found : (t : List ℕ) (p : HeaderKey) → t ≡ name_of p → (ls : Lines) → line_of p ls ≡ None → AllByRecursion (λ y. bytes_eq t y ≡ false) (map key_text_of_header_line ls)
 none_found t p is [] e = tt
 none_found t p is (l ∷ ls) e = by (cases_Bool (has_key p l)) (none_found t p is ls)
   where
-    by : (has_key p l ≡ true) ⊎ (has_key p l ≡ false) → (line_of p ls ≡ None → AllByRecursion (λ y. bytes_eq t y ≡ false) (map key_text ls)) → AllByRecursion (λ y. bytes_eq t y ≡ false) (map key_text (l ∷ ls))
+    by : (has_key p l ≡ true) ⊎ (has_key p l ≡ false) → (line_of p ls ≡ None → AllByRecursion (λ y. bytes_eq t y ≡ false) (map key_text_of_header_line ls)) → AllByRecursion (λ y. bytes_eq t y ≡ false) (map key_text_of_header_line (l ∷ ls))
     by (inl has) on = let f : Some l ≡ None = sym (ap (λ (t : Bool). cond t (Some l) (line_of p ls)) has) ∙ e in absurd cc
-    by (inr other) on = (ap (λ (u : List ℕ). bytes_eq u (key_text l)) is ∙ other, on (sym (line_later l ls p other) ∙ e))
+    by (inr other) on = (ap (λ (u : List ℕ). bytes_eq u (key_text_of_header_line l)) is ∙ other, on (sym (line_later l ls p other) ∙ e))
 
-not_found : (t : List ℕ) (p : HeaderKey) → t ≡ name_of p → (ls : Lines) → AllByRecursion (λ y. bytes_eq t y ≡ false) (map key_text ls) → line_of p ls ≡ None
+not_found : (t : List ℕ) (p : HeaderKey) → t ≡ name_of p → (ls : Lines) → AllByRecursion (λ y. bytes_eq t y ≡ false) (map key_text_of_header_line ls) → line_of p ls ≡ None
 not_found t p is [] all = refl
-not_found t p is (l ∷ ls) all = line_later l ls p (ap (λ (u : List ℕ). bytes_eq u (key_text l)) (sym is) ∙ all.0) ∙ not_found t p is ls all.1
+not_found t p is (l ∷ ls) all = line_later l ls p (ap (λ (u : List ℕ). bytes_eq u (key_text_of_header_line l)) (sym is) ∙ all.0) ∙ not_found t p is ls all.1
 
 -- The changes that header lines make to the keys given before them.
-pub record IsTaken (a k : KeyValues) (ls : Lines) : Type 0 where
-  pub one_value : All (λ l. length (line_values l) ≡ 1) ls
-  pub known : All (λ l. IsSome (header_key_of (key_text l))) ls
-  pub once : IsDistinct bytes_eq (map key_text ls)
+pub record IsTaken (a k : HeaderKeyValues) (ls : Lines) : Type 0 where
+  pub one_value : All (λ l. length (values_of_header_line l) ≡ 1) ls
+  pub known : All (λ l. IsSome (header_key_with_name (key_text_of_header_line l))) ls
+  pub once : IsDistinct bytes_eq (map key_text_of_header_line ls)
   pub looked : (p : HeaderKey) → held a p ≡ None → held k p ≡ looked_up p ls
   pub stands : (p : HeaderKey) → held a p ≡ None → is_some (held k p) ≡ is_some (line_of p ls)
-  pub good : (p : HeaderKey) → held a p ≡ None → (v : List ℕ) → value_of (name_of p) ls ≡ Some v → is_some (number_of p v) ≡ true
+  pub good : (p : HeaderKey) → held a p ≡ None → (v : List ℕ) → value_of_header_key (name_of p) ls ≡ Some v → is_some (number_of p v) ≡ true
   pub stood : (p : HeaderKey) (x : Value) → held a p ≡ Some x → (line_of p ls ≡ None) × (held k p ≡ Some x)
 
-valued : (a : KeyValues) (key : Option HeaderKey) (vs : List (List ℕ)) (k : KeyValues) → with_values a key vs ≡ Ok k → (v : List ℕ) × (vs ≡ v ∷ []) × (with_header_key a key v ≡ Ok k)
+valued : (a : HeaderKeyValues) (key : Option HeaderKey) (vs : List (List ℕ)) (k : HeaderKeyValues) → with_values a key vs ≡ Ok k → (v : List ℕ) × (vs ≡ v ∷ []) × (key_values_with_header_key a key v ≡ Ok k)
 valued a key [] k e = cc
 valued a key (v ∷ []) k e = (v, refl, e)
 valued a key (v ∷ w ∷ vs) k e = cc
@@ -180,26 +187,26 @@ numbered (Some x) e = (x, refl)
 
 -- the first value of a line, if there is a line
 abbrev pub value_at : Option (List (List ℕ)) → Option (List ℕ)
-value_at o = option_and_then (λ l. slice_get (line_values l) 0) o
+value_at o = option_and_then (λ l. slice_get (values_of_header_line l) 0) o
 
-value_first : (l : List (List ℕ)) (ls : Lines) (q : HeaderKey) (v : List ℕ) → header_key_of (key_text l) ≡ Some q → line_values l ≡ v ∷ [] → value_of (name_of q) (l ∷ ls) ≡ Some v
+value_first : (l : List (List ℕ)) (ls : Lines) (q : HeaderKey) (v : List ℕ) → header_key_with_name (key_text_of_header_line l) ≡ Some q → values_of_header_line l ≡ v ∷ [] → value_of_header_key (name_of q) (l ∷ ls) ≡ Some v
 value_first l ls q v is one = ap value_at (line_first l ls q is) ∙ ap (λ (vs : List (List ℕ)). slice_get vs 0) one
 
-number_first : (l : List (List ℕ)) (ls : Lines) (q : HeaderKey) (v : List ℕ) → header_key_of (key_text l) ≡ Some q → line_values l ≡ v ∷ [] → looked_up q (l ∷ ls) ≡ number_of q v
+number_first : (l : List (List ℕ)) (ls : Lines) (q : HeaderKey) (v : List ℕ) → header_key_with_name (key_text_of_header_line l) ≡ Some q → values_of_header_line l ≡ v ∷ [] → looked_up q (l ∷ ls) ≡ number_of q v
 number_first l ls q v is one = ap (number_in q) (line_first l ls q is) ∙ ap (λ (vs : List (List ℕ)). option_and_then (number_of q) (slice_get vs 0)) one
 
-pub line_then : (a b k : KeyValues) (l : List (List ℕ)) (ls : Lines) → with_line a l ≡ Ok b → with_lines b ls ≡ Ok k → with_lines a (l ∷ ls) ≡ Ok k
+pub line_then : (a b k : HeaderKeyValues) (l : List (List ℕ)) (ls : Lines) → with_line a l ≡ Ok b → with_lines b ls ≡ Ok k → with_lines a (l ∷ ls) ≡ Ok k
 line_then a b k l ls first rest =
-    ap (λ (r : Result KeyValues GridKind). then_keys r (λ k. with_lines k ls)) first ∙ rest
+    ap (λ (r : Result HeaderKeyValues GridKind). then_keys r (λ k. with_lines k ls)) first ∙ rest
 
 -- a line with the key q and the single value v, between the keys a and b
-module _ (a b : KeyValues) (l : List (List ℕ)) (ls : Lines) (q : HeaderKey) (v : List ℕ) (is : header_key_of (key_text l) ≡ Some q) (one : line_values l ≡ v ∷ []) (given : IsGiven a q v b) where
-  taken_more : (k : KeyValues) → IsTaken b k ls → IsTaken a k (l ∷ ls)
+module _ (a b : HeaderKeyValues) (l : List (List ℕ)) (ls : Lines) (q : HeaderKey) (v : List ℕ) (is : header_key_with_name (key_text_of_header_line l) ≡ Some q) (one : values_of_header_line l ≡ v ∷ []) (given : IsGiven a q v b) where
+  taken_more : (k : HeaderKeyValues) → IsTaken b k ls → IsTaken a k (l ∷ ls)
   unfolding IsDistinct
   taken_more k are = record {
-    one_value = All-cons (λ l. length (line_values l) ≡ 1) l ls (ap length one) are.one_value;
-    known = All-cons (λ l. IsSome (header_key_of (key_text l))) l ls (ap is_some is) are.known;
-    once = (none_found (key_text l) q (name_is (key_text l) q is) ls own.0, are.once);
+    one_value = All-cons (λ l. length (values_of_header_line l) ≡ 1) l ls (ap length one) are.one_value;
+    known = All-cons (λ l. IsSome (header_key_with_name (key_text_of_header_line l))) l ls (ap is_some is) are.known;
+    once = (none_found (key_text_of_header_line l) q (name_is (key_text_of_header_line l) q is) ls own.0, are.once);
     looked = λ p free. looked p free (key_cases l q p is);
     stands = λ p free. stands p free (key_cases l q p is);
     good = λ p free v e. good p free v e (key_cases l q p is);
@@ -220,9 +227,9 @@ module _ (a b : KeyValues) (l : List (List ℕ)) (ls : Lines) (q : HeaderKey) (v
       stands p free (inl same) = (λ i. is_some (held k (same i))) ∙ ap is_some (own.1 ∙ sym number.1) ∙ given.number ∙ ap is_some (sym (line_first l ls q is)) ∙ ap (λ (r : HeaderKey). is_some (line_of r (l ∷ ls))) (sym same)
       stands p free (inr other) = are.stands p (given.others p other.1 ∙ free) ∙ ap is_some (sym (line_later l ls p other.0))
 
-      good : (p : HeaderKey) → held a p ≡ None → (u : List ℕ) → value_of (name_of p) (l ∷ ls) ≡ Some u → (p ≡ q) ⊎ ((has_key p l ≡ false) × (p ≡ q → ⊥)) → is_some (number_of p u) ≡ true
+      good : (p : HeaderKey) → held a p ≡ None → (u : List ℕ) → value_of_header_key (name_of p) (l ∷ ls) ≡ Some u → (p ≡ q) ⊎ ((has_key p l ≡ false) × (p ≡ q → ⊥)) → is_some (number_of p u) ≡ true
       good p free u e (inl same) =
-          let first : Some v ≡ Some u = sym (value_first l ls q v is one) ∙ ap (λ (r : HeaderKey). value_of (name_of r) (l ∷ ls)) (sym same) ∙ e in
+          let first : Some v ≡ Some u = sym (value_first l ls q v is one) ∙ ap (λ (r : HeaderKey). value_of_header_key (name_of r) (l ∷ ls)) (sym same) ∙ e in
           let one_text : v ≡ u = cc in
           (λ i. is_some (number_of (same i) (sym one_text i))) ∙ given.number
       good p free u e (inr other) = are.good p (given.others p other.1 ∙ free) u (ap value_at (sym (line_later l ls p other.0)) ∙ e)
@@ -231,47 +238,47 @@ module _ (a b : KeyValues) (l : List (List ℕ)) (ls : Lines) (q : HeaderKey) (v
       stood p x e (inl same) = let f : Some x ≡ None = sym e ∙ ap (held a) same ∙ given.free in absurd cc
       stood p x e (inr other) = let s = are.stood p x (given.others p other.1 ∙ e) in (line_later l ls p other.0 ∙ s.0, s.1)
 
-pub lines_taken : (ls : Lines) (a k : KeyValues) → with_lines a ls ≡ Ok k → IsTaken a k ls
+pub lines_taken : (ls : Lines) (a k : HeaderKeyValues) → with_lines a ls ≡ Ok k → IsTaken a k ls
 unfolding IsDistinct
 lines_taken [] a k e = record {
-  one_value = All-nil (λ l. length (line_values l) ≡ 1);
-  known = All-nil (λ l. IsSome (header_key_of (key_text l)));
+  one_value = All-nil (λ l. length (values_of_header_line l) ≡ 1);
+  known = All-nil (λ l. IsSome (header_key_with_name (key_text_of_header_line l)));
   once = tt;
-  looked = λ p free. ap (λ (m : KeyValues). held m p) (sym same) ∙ free;
-  stands = λ p free. ap is_some (ap (λ (m : KeyValues). held m p) (sym same) ∙ free);
+  looked = λ p free. ap (λ (m : HeaderKeyValues). held m p) (sym same) ∙ free;
+  stands = λ p free. ap is_some (ap (λ (m : HeaderKeyValues). held m p) (sym same) ∙ free);
   good = λ p free v e. cc;
-  stood = λ p x e. (refl, ap (λ (m : KeyValues). held m p) (sym same) ∙ e);
+  stood = λ p x e. (refl, ap (λ (m : HeaderKeyValues). held m p) (sym same) ∙ e);
 }
   where
     same : a ≡ k
     same = cc
 lines_taken (l ∷ ls) a k e = by (with_line a l) refl (lines_taken ls) e
   where
-    by : (r : Result KeyValues GridKind) → with_line a l ≡ r → ((b m : KeyValues) → with_lines b ls ≡ Ok m → IsTaken b m ls) → then_keys r (λ k. with_lines k ls) ≡ Ok k → IsTaken a k (l ∷ ls)
+    by : (r : Result HeaderKeyValues GridKind) → with_line a l ≡ r → ((b m : HeaderKeyValues) → with_lines b ls ≡ Ok m → IsTaken b m ls) → then_keys r (λ k. with_lines k ls) ≡ Ok k → IsTaken a k (l ∷ ls)
     by (Err kind) is on e = cc
     by (Ok b) is on e =
-        let v = valued a (header_key_of (key_text l)) (line_values l) b is in
-        let q = key_known a (header_key_of (key_text l)) v.0 b v.2 in
+        let v = valued a (header_key_with_name (key_text_of_header_line l)) (values_of_header_line l) b is in
+        let q = key_known a (header_key_with_name (key_text_of_header_line l)) v.0 b v.2 in
         taken_more a b l ls q.0 v.0 q.1 v.1 q.2 k (on b k e)
 
 -- The conditions under which header lines are accepted after the keys given before them.
-record IsReady (a : KeyValues) (ls : Lines) : Type 0 where
-  one_value : All (λ l. length (line_values l) ≡ 1) ls
-  known : All (λ l. IsSome (header_key_of (key_text l))) ls
-  once : IsDistinct bytes_eq (map key_text ls)
-  looked : (p : HeaderKey) → held a p ≡ None → (v : List ℕ) → value_of (name_of p) ls ≡ Some v → is_some (number_of p v) ≡ true
+record IsReady (a : HeaderKeyValues) (ls : Lines) : Type 0 where
+  one_value : All (λ l. length (values_of_header_line l) ≡ 1) ls
+  known : All (λ l. IsSome (header_key_with_name (key_text_of_header_line l))) ls
+  once : IsDistinct bytes_eq (map key_text_of_header_line ls)
+  looked : (p : HeaderKey) → held a p ≡ None → (v : List ℕ) → value_of_header_key (name_of p) ls ≡ Some v → is_some (number_of p v) ≡ true
   stood : (p : HeaderKey) (x : Value) → held a p ≡ Some x → line_of p ls ≡ None
 
 known_key : (o : Option HeaderKey) → is_some o ≡ true → (q : HeaderKey) × (o ≡ Some q)
 known_key None e = cc
 known_key (Some q) e = (q, refl)
 
-module _ (a b : KeyValues) (l : List (List ℕ)) (ls : Lines) (q : HeaderKey) (v : List ℕ) (is : header_key_of (key_text l) ≡ Some q) (one : line_values l ≡ v ∷ []) (given : IsGiven a q v b) where
+module _ (a b : HeaderKeyValues) (l : List (List ℕ)) (ls : Lines) (q : HeaderKey) (v : List ℕ) (is : header_key_with_name (key_text_of_header_line l) ≡ Some q) (one : values_of_header_line l ≡ v ∷ []) (given : IsGiven a q v b) where
   ready_more : IsReady a (l ∷ ls) → IsReady b ls
   unfolding IsDistinct
   ready_more are = record {
-    one_value = All-tail (λ l. length (line_values l) ≡ 1) l ls are.one_value;
-    known = All-tail (λ l. IsSome (header_key_of (key_text l))) l ls are.known;
+    one_value = All-tail (λ l. length (values_of_header_line l) ≡ 1) l ls are.one_value;
+    known = All-tail (λ l. IsSome (header_key_with_name (key_text_of_header_line l))) l ls are.known;
     once = are.once.1;
     looked = λ p free u e. looked p free u e (key_cases l q p is);
     stood = λ p x e. stood p x e (key_cases l q p is);
@@ -280,25 +287,26 @@ module _ (a b : KeyValues) (l : List (List ℕ)) (ls : Lines) (q : HeaderKey) (v
       number : (x : Value) × (number_of q v ≡ Some x)
       number = numbered (number_of q v) given.number
 
-      looked : (p : HeaderKey) → held b p ≡ None → (u : List ℕ) → value_of (name_of p) ls ≡ Some u → (p ≡ q) ⊎ ((has_key p l ≡ false) × (p ≡ q → ⊥)) → is_some (number_of p u) ≡ true
+      looked : (p : HeaderKey) → held b p ≡ None → (u : List ℕ) → value_of_header_key (name_of p) ls ≡ Some u → (p ≡ q) ⊎ ((has_key p l ≡ false) × (p ≡ q → ⊥)) → is_some (number_of p u) ≡ true
       looked p free u e (inl same) = let f : None ≡ Some number.0 = sym free ∙ ap (held b) same ∙ given.kept ∙ number.1 in absurd cc
       looked p free u e (inr other) = are.looked p (sym (given.others p other.1) ∙ free) u (ap value_at (line_later l ls p other.0) ∙ e)
 
       stood : (p : HeaderKey) (x : Value) → held b p ≡ Some x → (p ≡ q) ⊎ ((has_key p l ≡ false) × (p ≡ q → ⊥)) → line_of p ls ≡ None
-      stood p x e (inl same) = subst (λ (r : HeaderKey). line_of r ls ≡ None) (sym same) (not_found (key_text l) q (name_is (key_text l) q is) ls are.once.0)
+      stood p x e (inl same) = subst (λ (r : HeaderKey). line_of r ls ≡ None) (sym same) (not_found (key_text_of_header_line l) q (name_is (key_text_of_header_line l) q is) ls are.once.0)
       stood p x e (inr other) = sym (line_later l ls p other.0) ∙ are.stood p x (sym (given.others p other.1) ∙ e)
 
-lines_ready : (ls : Lines) (a : KeyValues) → IsReady a ls → (k : KeyValues) × (with_lines a ls ≡ Ok k)
+lines_ready : (ls : Lines) (a : HeaderKeyValues) → IsReady a ls → (k : HeaderKeyValues) × (with_lines a ls ≡ Ok k)
 lines_ready [] a are = (a, refl)
 lines_ready (l ∷ ls) a are = by (held a q.0) refl (lines_ready ls)
   where
-    q : (q : HeaderKey) × (header_key_of (key_text l) ≡ Some q)
-    q = known_key (header_key_of (key_text l)) (All-head (λ l. IsSome (header_key_of (key_text l))) l ls are.known)
+    q : (q : HeaderKey) × (header_key_with_name (key_text_of_header_line l) ≡ Some q)
+    q = known_key (header_key_with_name (key_text_of_header_line l))
+        (All-head (λ l. IsSome (header_key_with_name (key_text_of_header_line l))) l ls are.known)
 
-    v : (v : List ℕ) × (line_values l ≡ v ∷ [])
-    v = lengths_one (line_values l) (All-head (λ l. length (line_values l) ≡ 1) l ls are.one_value)
+    v : (v : List ℕ) × (values_of_header_line l ≡ v ∷ [])
+    v = lengths_one (values_of_header_line l) (All-head (λ l. length (values_of_header_line l) ≡ 1) l ls are.one_value)
 
-    by : (o : Option Value) → held a q.0 ≡ o → ((b : KeyValues) → IsReady b ls → (k : KeyValues) × (with_lines b ls ≡ Ok k)) → (k : KeyValues) × (with_lines a (l ∷ ls) ≡ Ok k)
+    by : (o : Option Value) → held a q.0 ≡ o → ((b : HeaderKeyValues) → IsReady b ls → (k : HeaderKeyValues) × (with_lines b ls ≡ Ok k)) → (k : HeaderKeyValues) × (with_lines a (l ∷ ls) ≡ Ok k)
     by (Some x) free on = let f : Some l ≡ None = sym (line_first l ls q.0 q.1) ∙ are.stood q.0 x free in absurd cc
     by None free on =
         let b = key_taken a q.0 v.0 free (are.looked q.0 free v.0 (value_first l ls q.0 v.0 q.1 v.1)) in
@@ -333,14 +341,15 @@ module _ {X : Type 0} (wrap : X → Value) (same : (x y : X) → wrap x ≡ wrap
   good_value : (o : Option (List ℕ)) (x : X) → option_and_then reads o ≡ Some x → (v : List ℕ) → o ≡ Some v → is_some (option_map wrap (reads v)) ≡ true
   good_value o x e v is = ap (λ (r : Option X). is_some (option_map wrap r)) (ap (option_and_then reads) (sym is) ∙ e)
 
-  good_or : (usual : X) (o : Option (List ℕ)) (x : X) → read_or reads usual o ≡ Some x → (v : List ℕ) → o ≡ Some v → is_some (option_map wrap (reads v)) ≡ true
-  good_or usual o x e v is = ap (λ (r : Option X). is_some (option_map wrap r)) (ap (read_or reads usual) (sym is) ∙ e)
+  good_or : (usual : X) (o : Option (List ℕ)) (x : X) → read_value_or_default reads usual o ≡ Some x → (v : List ℕ) → o ≡ Some v → is_some (option_map wrap (reads v)) ≡ true
+  good_or usual o x e v is = ap (λ (r : Option X). is_some (option_map wrap r))
+      (ap (read_value_or_default reads usual) (sym is) ∙ e)
 
-  or_given : (usual : X) (k : Option X) (o : Option (List ℕ)) (x : X) → k ≡ option_and_then reads o → read_or reads usual o ≡ Some x → unwrap_or k usual ≡ x
+  or_given : (usual : X) (k : Option X) (o : Option (List ℕ)) (x : X) → k ≡ option_and_then reads o → read_value_or_default reads usual o ≡ Some x → unwrap_or k usual ≡ x
   or_given usual k None x is e = ap (λ (r : Option X). unwrap_or r usual) is ∙ (let s : usual ≡ x = cc in s)
   or_given usual k (Some v) x is e = ap (λ (r : Option X). unwrap_or r usual) (is ∙ e)
 
-  given_or : (usual : X) (k : Option X) (o : Option (List ℕ)) (x : X) → k ≡ option_and_then reads o → ((v : List ℕ) → o ≡ Some v → is_some (option_map wrap (reads v)) ≡ true) → unwrap_or k usual ≡ x → read_or reads usual o ≡ Some x
+  given_or : (usual : X) (k : Option X) (o : Option (List ℕ)) (x : X) → k ≡ option_and_then reads o → ((v : List ℕ) → o ≡ Some v → is_some (option_map wrap (reads v)) ≡ true) → unwrap_or k usual ≡ x → read_value_or_default reads usual o ≡ Some x
   given_or usual k None x is good e = ap Some (ap (λ (r : Option X). unwrap_or r usual) (sym is) ∙ e)
   given_or usual k (Some v) x is good e = by (reads v) (good v refl) (ap (λ (r : Option X). unwrap_or r usual) (sym is) ∙ e)
     where
@@ -349,54 +358,59 @@ module _ {X : Type 0} (wrap : X → Value) (same : (x y : X) → wrap x ≡ wrap
       by (Some y) s e = ap Some e
 
 -- header lines that give the keys of a header have that header
-pub header_read : (ls : Lines) (k : KeyValues) (h : HeaderValue) → with_lines no_keys ls ≡ Ok k → IsHeaderOf k h
-    → IsHeader ls h
+pub header_read : (ls : Lines) (k : HeaderKeyValues) (h : GridHeaderContents)
+    → with_lines empty_header_key_values ls ≡ Ok k → IsHeaderOf k h
+    → HeaderLinesFormHeader ls h
 header_read ls k h e is = record {
   one_value = are.one_value;
   known = are.known;
   once = are.once;
-  north = sym (unwrapped Number same_number coordinate k.north (value_of (codes "north") ls) (are.looked North refl)) ∙ is.north;
-  south = sym (unwrapped Number same_number coordinate k.south (value_of (codes "south") ls) (are.looked South refl)) ∙ is.south;
-  east = sym (unwrapped Number same_number coordinate k.east (value_of (codes "east") ls) (are.looked East refl)) ∙ is.east;
-  west = sym (unwrapped Number same_number coordinate k.west (value_of (codes "west") ls) (are.looked West refl)) ∙ is.west;
-  rows = sym (unwrapped Count same_count side k.rows (value_of (codes "rows") ls) (are.looked Rows refl)) ∙ is.rows;
-  cols = sym (unwrapped Count same_count side k.cols (value_of (codes "cols") ls) (are.looked Cols refl)) ∙ is.cols;
-  null = given_or Text same_text null_text usual_null k.null (value_of (codes "null") ls) h.null_text (unwrapped Text same_text null_text k.null (value_of (codes "null") ls) (are.looked Null refl)) (are.good Null refl) is.null;
-  int = by (value_of (codes "type") ls) (are.good CellType refl);
-  multiplier = given_or Number same_number whole_in_range usual_multiplier k.multiplier (value_of (codes "multiplier") ls) h.multiplier (unwrapped Number same_number whole_in_range k.multiplier (value_of (codes "multiplier") ls) (are.looked Multiplier refl)) (are.good Multiplier refl) is.multiplier;
+  north = sym (unwrapped Number same_number coordinate_of_text k.north (value_of_header_key (codes "north") ls) (are.looked North refl)) ∙ is.north;
+  south = sym (unwrapped Number same_number coordinate_of_text k.south (value_of_header_key (codes "south") ls) (are.looked South refl)) ∙ is.south;
+  east = sym (unwrapped Number same_number coordinate_of_text k.east (value_of_header_key (codes "east") ls) (are.looked East refl)) ∙ is.east;
+  west = sym (unwrapped Number same_number coordinate_of_text k.west (value_of_header_key (codes "west") ls) (are.looked West refl)) ∙ is.west;
+  rows = sym (unwrapped Count same_count row_or_column_count_of_text k.rows (value_of_header_key (codes "rows") ls)
+      (are.looked Rows refl)) ∙ is.rows;
+  cols = sym (unwrapped Count same_count row_or_column_count_of_text k.cols (value_of_header_key (codes "cols") ls)
+      (are.looked Cols refl)) ∙ is.cols;
+  null = given_or Text same_text null_text usual_null_text k.null (value_of_header_key (codes "null") ls) h.null_text (unwrapped Text same_text null_text k.null (value_of_header_key (codes "null") ls) (are.looked Null refl)) (are.good Null refl) is.null;
+  int = by (value_of_header_key (codes "type") ls) (are.good CellType refl);
+  multiplier = given_or Number same_number whole_number_in_category_range usual_multiplier k.multiplier (value_of_header_key (codes "multiplier") ls) h.multiplier (unwrapped Number same_number whole_number_in_category_range k.multiplier (value_of_header_key (codes "multiplier") ls) (are.looked Multiplier refl)) (are.good Multiplier refl) is.multiplier;
   good = is.good;
 }
   where
-    are : IsTaken no_keys k ls
-    are = lines_taken ls no_keys k e
+    are : IsTaken empty_header_key_values k ls
+    are = lines_taken ls empty_header_key_values k e
 
     typed : (o : Option (Unit {0})) → is_some (option_map (λ _. Text []) o) ≡ true → o ≡ Some tt
     typed None s = cc
     typed (Some u) s = refl
 
-    by : (o : Option (List ℕ)) → ((v : List ℕ) → o ≡ Some v → is_some (number_of CellType v) ≡ true) → read_or int_type tt o ≡ Some tt
+    by : (o : Option (List ℕ)) → ((v : List ℕ) → o ≡ Some v → is_some (number_of CellType v) ≡ true) → read_value_or_default int_type_of_text tt o ≡ Some tt
     by None good = refl
-    by (Some v) good = typed (int_type v) (good v refl)
+    by (Some v) good = typed (int_type_of_text v) (good v refl)
 
-header_taken : (ls : Lines) (h : HeaderValue) → IsHeader ls h
-    → (k : KeyValues) × (with_lines no_keys ls ≡ Ok k) × IsHeaderOf k h
+header_taken : (ls : Lines) (h : GridHeaderContents) → HeaderLinesFormHeader ls h
+    → (k : HeaderKeyValues) × (with_lines empty_header_key_values ls ≡ Ok k) × IsHeaderOf k h
 header_taken ls h is = (
   taken.0,
   taken.1,
   record {
-    north = unwrapped Number same_number coordinate taken.0.north (value_of (codes "north") ls) (are.looked North refl) ∙ is.north;
-    south = unwrapped Number same_number coordinate taken.0.south (value_of (codes "south") ls) (are.looked South refl) ∙ is.south;
-    east = unwrapped Number same_number coordinate taken.0.east (value_of (codes "east") ls) (are.looked East refl) ∙ is.east;
-    west = unwrapped Number same_number coordinate taken.0.west (value_of (codes "west") ls) (are.looked West refl) ∙ is.west;
-    rows = unwrapped Count same_count side taken.0.rows (value_of (codes "rows") ls) (are.looked Rows refl) ∙ is.rows;
-    cols = unwrapped Count same_count side taken.0.cols (value_of (codes "cols") ls) (are.looked Cols refl) ∙ is.cols;
-    null = or_given Text same_text null_text usual_null taken.0.null (value_of (codes "null") ls) h.null_text (unwrapped Text same_text null_text taken.0.null (value_of (codes "null") ls) (are.looked Null refl)) is.null;
-    multiplier = or_given Number same_number whole_in_range usual_multiplier taken.0.multiplier (value_of (codes "multiplier") ls) h.multiplier (unwrapped Number same_number whole_in_range taken.0.multiplier (value_of (codes "multiplier") ls) (are.looked Multiplier refl)) is.multiplier;
+    north = unwrapped Number same_number coordinate_of_text taken.0.north (value_of_header_key (codes "north") ls) (are.looked North refl) ∙ is.north;
+    south = unwrapped Number same_number coordinate_of_text taken.0.south (value_of_header_key (codes "south") ls) (are.looked South refl) ∙ is.south;
+    east = unwrapped Number same_number coordinate_of_text taken.0.east (value_of_header_key (codes "east") ls) (are.looked East refl) ∙ is.east;
+    west = unwrapped Number same_number coordinate_of_text taken.0.west (value_of_header_key (codes "west") ls) (are.looked West refl) ∙ is.west;
+    rows = unwrapped Count same_count row_or_column_count_of_text taken.0.rows (value_of_header_key (codes "rows") ls)
+        (are.looked Rows refl) ∙ is.rows;
+    cols = unwrapped Count same_count row_or_column_count_of_text taken.0.cols (value_of_header_key (codes "cols") ls)
+        (are.looked Cols refl) ∙ is.cols;
+    null = or_given Text same_text null_text usual_null_text taken.0.null (value_of_header_key (codes "null") ls) h.null_text (unwrapped Text same_text null_text taken.0.null (value_of_header_key (codes "null") ls) (are.looked Null refl)) is.null;
+    multiplier = or_given Number same_number whole_number_in_category_range usual_multiplier taken.0.multiplier (value_of_header_key (codes "multiplier") ls) h.multiplier (unwrapped Number same_number whole_number_in_category_range taken.0.multiplier (value_of_header_key (codes "multiplier") ls) (are.looked Multiplier refl)) is.multiplier;
     good = is.good;
   },
 )
   where
-    none : (p : HeaderKey) → held no_keys p ≡ None
+    none : (p : HeaderKey) → held empty_header_key_values p ≡ None
     none North = refl
     none South = refl
     none East = refl
@@ -407,44 +421,54 @@ header_taken ls h is = (
     none CellType = refl
     none Multiplier = refl
 
-    typed : (o : Option (List ℕ)) → read_or int_type tt o ≡ Some tt → (v : List ℕ) → o ≡ Some v → is_some (number_of CellType v) ≡ true
-    typed o e v is = ap (λ (r : Option (Unit {0})). is_some (option_map (λ _. Text []) r)) (ap (read_or int_type tt) (sym is) ∙ e)
+    typed : (o : Option (List ℕ)) → read_value_or_default int_type_of_text tt o ≡ Some tt → (v : List ℕ) → o ≡ Some v → is_some (number_of CellType v) ≡ true
+    typed o e v is = ap (λ (r : Option (Unit {0})). is_some (option_map (λ _. Text []) r)) (ap (read_value_or_default int_type_of_text tt) (sym is) ∙ e)
 
-    looked : (p : HeaderKey) (v : List ℕ) → value_of (name_of p) ls ≡ Some v → is_some (number_of p v) ≡ true
-    looked North = good_value Number same_number coordinate (value_of (codes "north") ls) h.region.north is.north
-    looked South = good_value Number same_number coordinate (value_of (codes "south") ls) h.region.south is.south
-    looked East = good_value Number same_number coordinate (value_of (codes "east") ls) h.region.east is.east
-    looked West = good_value Number same_number coordinate (value_of (codes "west") ls) h.region.west is.west
-    looked Rows = good_value Count same_count side (value_of (codes "rows") ls) h.region.rows is.rows
-    looked Cols = good_value Count same_count side (value_of (codes "cols") ls) h.region.cols is.cols
-    looked Null = good_or Text same_text null_text usual_null (value_of (codes "null") ls) h.null_text is.null
-    looked CellType = typed (value_of (codes "type") ls) is.int
-    looked Multiplier = good_or Number same_number whole_in_range usual_multiplier (value_of (codes "multiplier") ls) h.multiplier is.multiplier
+    looked : (p : HeaderKey) (v : List ℕ) → value_of_header_key (name_of p) ls ≡ Some v → is_some (number_of p v) ≡ true
+    looked North = good_value Number same_number coordinate_of_text
+        (value_of_header_key (codes "north") ls) h.region.north is.north
+    looked South = good_value Number same_number coordinate_of_text
+        (value_of_header_key (codes "south") ls) h.region.south is.south
+    looked East = good_value Number same_number coordinate_of_text
+        (value_of_header_key (codes "east") ls) h.region.east is.east
+    looked West = good_value Number same_number coordinate_of_text
+        (value_of_header_key (codes "west") ls) h.region.west is.west
+    looked Rows = good_value Count same_count row_or_column_count_of_text
+        (value_of_header_key (codes "rows") ls) h.region.rows is.rows
+    looked Cols = good_value Count same_count row_or_column_count_of_text
+        (value_of_header_key (codes "cols") ls) h.region.cols is.cols
+    looked Null = good_or Text same_text null_text usual_null_text
+        (value_of_header_key (codes "null") ls) h.null_text is.null
+    looked CellType = typed (value_of_header_key (codes "type") ls) is.int
+    looked Multiplier = good_or Number same_number whole_number_in_category_range usual_multiplier (value_of_header_key (codes "multiplier") ls) h.multiplier is.multiplier
 
-    taken : (k : KeyValues) × (with_lines no_keys ls ≡ Ok k)
-    taken = lines_ready ls no_keys (record { one_value = is.one_value; known = is.known; once = is.once; looked = λ p free v e. looked p v e; stood = λ p x e. (let f = none p in cc) })
+    taken : (k : HeaderKeyValues) × (with_lines empty_header_key_values ls ≡ Ok k)
+    taken = lines_ready ls empty_header_key_values (record { one_value = is.one_value; known = is.known; once = is.once; looked = λ p free v e. looked p v e; stood = λ p x e. (let f = none p in cc) })
 
-    are : IsTaken no_keys taken.0 ls
-    are = lines_taken ls no_keys taken.0 taken.1
+    are : IsTaken empty_header_key_values taken.0 ls
+    are = lines_taken ls empty_header_key_values taken.0 taken.1
 
 -- The map that the words of the lines denote has that header and those cells.
-pub text_read : (ls : Lines) (m : Grid) → take_text no_keys ls ≡ Some m → (h : HeaderValue) × IsHeader (header_lines ls) h × DenoteCells h (data_words ls) m × (m ≡ whole_grid h m.rows)
-text_read ls m e = by (with_lines no_keys (header_lines ls)) refl (sym (text_parts take_data ls no_keys) ∙ e)
+pub text_read : (ls : Lines) (m : Grid) → take_text empty_header_key_values ls ≡ Some m → (h : GridHeaderContents) × HeaderLinesFormHeader (header_lines ls) h × WordsDenoteCells h (data_words ls) m × (m ≡ whole_grid h m.rows)
+text_read ls m e = by (with_lines empty_header_key_values (header_lines ls)) refl
+    (sym (text_parts take_data ls empty_header_key_values) ∙ e)
   where
-    last : (k : KeyValues) → with_lines no_keys (header_lines ls) ≡ Ok k → (r : Result HeaderValue GridKind) → header_of k ≡ r → at_header r (data_words ls) ≡ Some m
-        → (h : HeaderValue) × IsHeader (header_lines ls) h × DenoteCells h (data_words ls) m × (m ≡ whole_grid h m.rows)
+    last : (k : HeaderKeyValues) → with_lines empty_header_key_values (header_lines ls) ≡ Ok k → (r : Result GridHeaderContents GridKind) → header_defined_by_keys k ≡ r → at_header r (data_words ls) ≡ Some m
+        → (h : GridHeaderContents) × HeaderLinesFormHeader (header_lines ls) h × WordsDenoteCells h (data_words ls) m
+        × (m ≡ whole_grid h m.rows)
     last k is (Err kind) given e = cc
     last k is (Ok h) given e = let cells = cells_read h (data_words ls) m e in (h, header_read (header_lines ls) k h is (header_given k h given), cells.1, cells.0)
 
-    by : (r : Result KeyValues GridKind) → with_lines no_keys (header_lines ls) ≡ r → after_key r (λ k. take_data k (data_words ls)) ≡ Some m
-        → (h : HeaderValue) × IsHeader (header_lines ls) h × DenoteCells h (data_words ls) m × (m ≡ whole_grid h m.rows)
+    by : (r : Result HeaderKeyValues GridKind) → with_lines empty_header_key_values (header_lines ls) ≡ r → after_key r (λ k. take_data k (data_words ls)) ≡ Some m
+        → (h : GridHeaderContents) × HeaderLinesFormHeader (header_lines ls) h × WordsDenoteCells h (data_words ls) m
+        × (m ≡ whole_grid h m.rows)
     by (Err kind) is e = cc
-    by (Ok k) is e = last k is (header_of k) refl e
+    by (Ok k) is e = last k is (header_defined_by_keys k) refl e
 
-pub text_taken : (ls : Lines) (h : HeaderValue) (m : Grid) → IsHeader (header_lines ls) h → DenoteCells h (data_words ls) m → m.region ≡ h.region → m.labels ≡ no_labels → take_text no_keys ls ≡ Some m
+pub text_taken : (ls : Lines) (h : GridHeaderContents) (m : Grid) → HeaderLinesFormHeader (header_lines ls) h → WordsDenoteCells h (data_words ls) m → m.region ≡ h.region → m.labels ≡ empty_category_labels → take_text empty_header_key_values ls ≡ Some m
 text_taken ls h m header cells region labels =
     let k = header_taken (header_lines ls) h header in
-    text_parts take_data ls no_keys
-    ∙ ap (λ (r : Result KeyValues GridKind). after_key r (λ k. take_data k (data_words ls))) k.1
-    ∙ ap (λ (r : Result HeaderValue GridKind). at_header r (data_words ls)) (header_kept k.0 h k.2)
+    text_parts take_data ls empty_header_key_values
+    ∙ ap (λ (r : Result HeaderKeyValues GridKind). after_key r (λ k. take_data k (data_words ls))) k.1
+    ∙ ap (λ (r : Result GridHeaderContents GridKind). at_header r (data_words ls)) (header_kept k.0 h k.2)
     ∙ cells_taken h (data_words ls) m cells ∙ (λ i. Some (record { region = sym region i; rows = m.rows; labels = sym labels i }))

@@ -8,8 +8,8 @@ use Rattle.std.proofs.lemmas.Slice.Eq.{bytes_eq-Decides}
 use Rattle.std.proofs.lemmas.List.Elements.{All-head, All-tail}
 use Rattle.cell_core.specs.Grid.{CellValue}
 use Rattle.cell_core_values.proofs.NameLemmas.{bytes_eq-differ}
-use Rattle.cell_ascii_meaning.specs.EdgeNumbers.{whole_number, is_in_range}
-use Rattle.cell_ascii_meaning.specs.Header.{HeaderValue, usual_multiplier}
+use Rattle.cell_ascii_meaning.specs.EdgeNumbers.{whole_number_of_text, is_in_category_range}
+use Rattle.cell_ascii_meaning.specs.Header.{GridHeaderContents, usual_multiplier}
 use Rattle.cell_ascii_meaning.specs.CellTexts.{cell_of_number, cell_of_word}
 use Rattle.cell_core.specs.Text.{cell_text}
 use Rattle.cell_ascii_meaning.specs.declared.grid_fault.GridKind.TheVariants.{CellRange}
@@ -17,19 +17,20 @@ use Rattle.cell_ascii_law.proofs.LexemeLemmas.{Lines}
 use Rattle.cell_ascii_law.proofs.DataLawLemmas.{all_words, then_words, taken_cell, take_cell, take_many}
 use Rattle.cell_ascii_law.proofs.WritingNumberLemmas.{whole_back, in_range_low}
 
-module _ (h : HeaderValue) (once : h.multiplier ≡ usual_multiplier) where
+module _ (h : GridHeaderContents) (once : h.multiplier ≡ usual_multiplier) where
   -- null, or a category in range whose decimal text is not the null text
   abbrev pub IsGood : CellValue → Type 0
-  IsGood cell = IfSome cell (λ category. IsTrue (is_in_range category)) × IfSome cell (λ category. signed_decimal category ≢ h.null_text)
+  IsGood cell = IfSome cell (λ category. IsTrue (is_in_category_range category)) × IfSome cell (λ category. signed_decimal category ≢ h.null_text)
 
   cell_back : (cell : CellValue) → IsGood cell → cell_of_word h (cell_text h.null_text cell) ≡ Ok cell
   unfolding one
-  cell_back None good = ap (λ t. if t then Ok None else cell_of_number h.multiplier (whole_number h.null_text)) ((bytes_eq-Decides h.null_text h.null_text).1 refl)
+  cell_back None good = ap (λ t. if t then Ok None else cell_of_number h.multiplier (whole_number_of_text h.null_text)) ((bytes_eq-Decides h.null_text h.null_text).1 refl)
   cell_back (Some z) good =
       let differ = bytes_eq-differ (signed_decimal z) h.null_text good.1 in
       let same = *ℤ-one z in
       (λ i. if differ i then Ok None else cell_of_number (once i) (whole_back z (in_range_low z good.0) i))
-      ∙ (λ i. if good.0 i then (if is_in_range (same i) then Ok (Some (same i)) else Err CellRange) else Err CellRange)
+      ∙ (λ i. if good.0 i then (if is_in_category_range (same i) then Ok
+      (Some (same i)) else Err CellRange) else Err CellRange)
       ∙ (λ i. if good.0 i then Ok (Some z) else Err CellRange)
 
   pub row_back : (row : List CellValue) (rest : List (List ℕ)) → All IsGood row → take_many (take_cell h) (length row) (map (cell_text h.null_text) row ++ rest) ≡ Some (row, rest)

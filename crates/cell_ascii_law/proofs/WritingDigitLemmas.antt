@@ -10,7 +10,7 @@ use Rattle.std.proofs.lemmas.List.{reverse-append, reverse-reverse, length-rever
 use Rattle.std.proofs.lemmas.List.Sums.{fold-append, prefix_len-le-length}
 use Rattle.std.proofs.lemmas.Str.Parse.{IsNumeralModel, numerals_by_fold, digits_value_short}
 use Rattle.cell_ascii_meaning.specs.EdgeNumbers.{is_digit, value_of_digits}
-use Rattle.cell_ascii_meaning.specs.Writing.{without_zeros}
+use Rattle.cell_ascii_meaning.specs.Writing.{digits_without_trailing_zeros}
 
 abbrev value_after : ℕ → List ℕ → ℕ
 value_after n ds = fold (λ m b. m * 10 + (b - 48)) n ds
@@ -56,8 +56,8 @@ first_digit d ds part low short is = by (cases_lt (length ds) 8)
 abbrev pub eight : ℕ → List ℕ
 eight part = drop 1 (decimal (100000000 + part))
 
-pub eight_digits : (part : ℕ) → part < 100000000 → (length (eight part) ≡ 8) × IsNumeralOf part (eight part)
-eight_digits part low = by (decimal (100000000 + part)) (length-decimal-le 9 (100000000 + part) (omega arith) (omega arith) (omega arith)) (numeral (100000000 + part) (omega arith))
+pub eight_digits_of_fraction : (part : ℕ) → part < 100000000 → (length (eight part) ≡ 8) × IsNumeralOf part (eight part)
+eight_digits_of_fraction part low = by (decimal (100000000 + part)) (length-decimal-le 9 (100000000 + part) (omega arith) (omega arith) (omega arith)) (numeral (100000000 + part) (omega arith))
   where
     by : (ds : List ℕ) → length ds ≤ 9 → IsNumeralOf (100000000 + part) ds → (length (drop 1 ds) ≡ 8) × IsNumeralOf part (drop 1 ds)
     by [] short is = absurd (let h = is.some in omega arith)
@@ -101,14 +101,14 @@ pub record IsCut (ds front : List ℕ) : Type 0 where
   pub whole : ds ≡ front ++ replicate (zeros ds) 48
   pub count : length front + zeros ds ≡ length ds
 
-pub cut : (ds : List ℕ) → IsCut ds (without_zeros ds)
+pub cut : (ds : List ℕ) → IsCut ds (digits_without_trailing_zeros ds)
 cut ds =
     let k = zeros ds in
     let front = reverse (drop k (reverse ds)) in
     let whole : ds ≡ front ++ replicate k 48 = sym (reverse-reverse ds) ∙ ap reverse (leading (reverse ds)) ∙ reverse-append (replicate k 48) (drop k (reverse ds)) ∙ ap (λ l. front ++ l) (reverse_same k) in
     let count : length front + k ≡ length ds = omega (arith, length-reverse ds, length-reverse (drop k (reverse ds)), length-drop k (reverse ds), prefix_len-le-length is_zero (reverse ds)) in
     let least : length front ≡ length ds - k = omega arith in
-    let taken : front ≡ without_zeros ds = sym (take-append_seam front (replicate k 48)) ∙ (λ i. take (least i) (sym whole i)) in
+    let taken : front ≡ digits_without_trailing_zeros ds = sym (take-append_seam front (replicate k 48)) ∙ (λ i. take (least i) (sym whole i)) in
     subst (IsCut ds) taken (record { whole = whole; count = count })
 
 -- The part is the value of the remaining digits times the weight of the zeros.
@@ -117,11 +117,11 @@ pub record IsFraction (part : ℕ) (ds : List ℕ) : Type 0 where
   pub short : length ds ≤ 8
   pub value : value_of_digits ds * 10 ^ (8 - length ds) ≡ part
 
-pub fraction : (part : ℕ) → part < 100000000 → IsFraction part (without_zeros (eight part))
+pub fraction : (part : ℕ) → part < 100000000 → IsFraction part (digits_without_trailing_zeros (eight part))
 fraction part low =
-    let front = without_zeros (eight part) in
+    let front = digits_without_trailing_zeros (eight part) in
     let k = zeros (eight part) in
-    let is = eight_digits part low in
+    let is = eight_digits_of_fraction part low in
     let c = cut (eight part) in
     let weight : 8 - length front ≡ k = (let count = c.count in let all = is.0 in omega arith) in
     record {

@@ -9,7 +9,8 @@ use Rattle.std.proofs.lemmas.List.Folds.{list_all-append}
 use Rattle.cell_ascii_meaning.specs.GridTokens.{is_word_byte}
 use Rattle.cell_ascii_meaning.specs.EdgeNumbers.{is_digit}
 use Rattle.cell_ascii_meaning.specs.Header.{has_colon, is_colon}
-use Rattle.cell_ascii_meaning.specs.Writing.{without_zeros, fraction_text, units_text, coordinate_text, IsNullText}
+use Rattle.cell_ascii_meaning.specs.Writing.{digits_without_trailing_zeros, fraction_text, unsigned_coordinate_text}
+use Rattle.cell_ascii_meaning.specs.Writing.{coordinate_text, IsValidNullText}
 use Rattle.cell_ascii_law.proofs.WritingDigitLemmas.{numeral, eight, fraction}
 use Rattle.cell_ascii_law.proofs.WritingNumberLemmas.{size}
 use Rattle.cell_ascii_law.proofs.WritingLexLemmas.{IsToken}
@@ -57,29 +58,31 @@ signed_value (negsuc n) low =
     let is = numeral (suc n) low in
     marks_value (45 ∷ decimal (suc n)) (omega arith) (omega (arith, length-decimal-le 20 (suc n) (omega arith) (omega arith) low)) (digits_mark (decimal (suc n)) is.digits)
 
-pub null_value : (null_text : List ℕ) → IsNullText null_text → IsValue null_text
+pub null_value : (null_text : List ℕ) → IsValidNullText null_text → IsValue null_text
 null_value null_text is = record { token = record { some = is.some; most = is.most; word = is.word }; colon = is.colon }
 
 fraction_marks : (part : ℕ) → part < 100000000 → (list_all is_mark (fraction_text part) ≡ true) × (length (fraction_text part) ≤ 9)
 fraction_marks part low = by (part == 0)
   where
-    by : (t : Bool) → (list_all is_mark (if t then [] else 46 ∷ without_zeros (eight part)) ≡ true) × (length (if t then [] else 46 ∷ without_zeros (eight part)) ≤ 9)
+    by : (t : Bool) → (list_all is_mark (if t then [] else 46 ∷ digits_without_trailing_zeros (eight part)) ≡ true) × (length (if t then [] else 46 ∷ digits_without_trailing_zeros (eight part)) ≤ 9)
     by true = (refl, omega arith)
-    by false = let is = fraction part low in (digits_mark (without_zeros (eight part)) is.digits, (let short = is.short in omega arith))
+    by false = let is = fraction part low in (digits_mark (digits_without_trailing_zeros (eight part)) is.digits, (let short = is.short in omega arith))
 
-units_marks : (n : ℕ) → n ≤ 999999999999999999 → (list_all is_mark (units_text n) ≡ true) × (length (units_text n) ≤ 19) × (0 < length (units_text n))
+units_marks : (n : ℕ) → n ≤ 999999999999999999 → (list_all is_mark (unsigned_coordinate_text n) ≡ true) × (length (unsigned_coordinate_text n) ≤ 19) × (0 < length (unsigned_coordinate_text n))
 units_marks n low =
     let w = n / 100000000 in
     let tail = fraction_text (n % 100000000) in
     let is = numeral w (omega arith) in
     let some = is.some in
     let behind = fraction_marks (n % 100000000) (omega arith) in
-    let all : list_all is_mark (units_text n) ≡ true = list_all-append is_mark (decimal w) tail ∙ (λ i. digits_mark (decimal w) is.digits i && behind.0 i) in
-    let count : length (units_text n) ≡ length (decimal w) + length tail = length-append (decimal w) tail in
+    let all : list_all is_mark (unsigned_coordinate_text n) ≡ true = list_all-append is_mark (decimal w) tail ∙ (λ i. digits_mark (decimal w) is.digits i && behind.0 i) in
+    let count : length (unsigned_coordinate_text n) ≡ length (decimal w) + length tail = length-append
+    (decimal w) tail in
     let few = length-decimal-le 10 w (omega arith) (omega arith) (omega arith) in
     let short = behind.1 in
     (all, omega arith, omega arith)
 
 pub coordinate_value : (z : ℤ) → size z ≤ 999999999999999999 → IsValue (coordinate_text z)
-coordinate_value (pos n) low = let is = units_marks n low in marks_value (units_text n) is.2 (omega arith) is.0
-coordinate_value (negsuc n) low = let is = units_marks (suc n) low in marks_value (45 ∷ units_text (suc n)) (omega arith) (omega arith) is.0
+coordinate_value (pos n) low = let is = units_marks n low in marks_value (unsigned_coordinate_text n) is.2
+    (omega arith) is.0
+coordinate_value (negsuc n) low = let is = units_marks (suc n) low in marks_value (45 ∷ unsigned_coordinate_text (suc n)) (omega arith) (omega arith) is.0

@@ -5,9 +5,9 @@ use Rattle.std.specs.Option.{option_map}
 use Rattle.std.proofs.lemmas.Bool.{cases_Bool}
 use Rattle.std.proofs.lemmas.List.{reverse-append}
 use Rattle.std.proofs.lemmas.List.Sums.{sum_by-append, fold-append}
-use Rattle.cell_ascii_meaning.specs.GridTokens.{is_space, grid_fault}
-use Rattle.cell_ascii_meaning.specs.GridText.{line_words, grid_words_of}
-use Rattle.cell_ascii_meaning.specs.FaultPlaces.{FaultPlace, Byte, End, Fails, last_token, front_of, line_of_place, gap_of_place, token_at_place, Table, kind_at, ◌or◌, reported_fault, first_reported}
+use Rattle.cell_ascii_meaning.specs.GridTokens.{is_space, grid_fault_at_line}
+use Rattle.cell_ascii_meaning.specs.GridText.{words_of_each_line, words_of_grid_text}
+use Rattle.cell_ascii_meaning.specs.FaultPlaces.{ByteOrTextEndOrFailedRead, Byte, End, Fails, last_token, all_but_last, line_number_of_place, gap_length_before_place, unfinished_token_before_place, FaultTable, fault_kind_at_place, ◌or◌, fault_reported_at_place, first_fault_in_rest_of_text}
 use Rattle.cell_ascii_meaning.specs.declared.grid_fault.GridFault.{GridFault}
 use Rattle.cell_ascii_meaning.proofs.TokenLemmas.{no_feed}
 use Rattle.cell_ascii_law.proofs.LexemeLemmas.{Lines, put_token, opening}
@@ -48,10 +48,10 @@ abbrev AreLines : Lines → Type 0
 AreLines [] = ⊥
 AreLines (l ∷ ls) = Unit {0}
 
-lines_made : (bs : List ℕ) → AreLines (line_words bs)
+lines_made : (bs : List ℕ) → AreLines (words_of_each_line bs)
 lines_made bs = by (slice_split (λ b. b == 10) bs) (split_made (λ b. b == 10) bs)
   where
-    by : (ps : List (List ℕ)) → IsMade ps → AreLines (map grid_words_of ps)
+    by : (ps : List (List ℕ)) → IsMade ps → AreLines (map words_of_grid_text ps)
     by [] made = made
     by (p ∷ ps) made = tt
 
@@ -72,21 +72,22 @@ join_more ws t [] made = absurd made
 join_more ws [] (l ∷ ls) made = refl
 join_more ws (x ∷ xs) (l ∷ ls) made = ap (λ (k : List (List ℕ)). k ∷ ls) (append_assoc ws ((x ∷ xs) ∷ []) l)
 
-tracked_lines : (bs : List ℕ) (ls : Lines) (ws : List (List ℕ)) (t : List ℕ) → IsFree is_space t → lines_at (fold track (tracked_at ls ws t) bs) ≡ ls ++ join ws (line_words (t ++ bs))
+tracked_lines : (bs : List ℕ) (ls : Lines) (ws : List (List ℕ)) (t : List ℕ) → IsFree is_space t → lines_at (fold track (tracked_at ls ws t) bs) ≡ ls ++ join ws (words_of_each_line (t ++ bs))
 tracked_lines [] ls ws t free = ap (λ (l : Lines). ls ++ l) (join_alone ws t ∙ ap (join ws) (sym (lines_alone t free)))
 tracked_lines (b ∷ bs) ls ws t free = by (cases_Bool (is_space b)) (cases_Bool (b == 10)) (λ u. tracked_lines bs ls ws (t ++ b ∷ []) u) (tracked_lines bs (lines_at (tracked_at ls ws t)) [] [] tt) (tracked_lines bs ls (with_token ws t) [] tt)
   where
     by : (is_space b ≡ true) ⊎ (is_space b ≡ false) → ((b == 10) ≡ true) ⊎ ((b == 10) ≡ false)
-        → (IsFree is_space (t ++ b ∷ []) → lines_at (fold track (tracked_at ls ws (t ++ b ∷ [])) bs) ≡ ls ++ join ws (line_words ((t ++ b ∷ []) ++ bs)))
-        → lines_at (fold track (tracked_at (lines_at (tracked_at ls ws t)) [] []) bs) ≡ lines_at (tracked_at ls ws t) ++ join [] (line_words bs)
-        → lines_at (fold track (tracked_at ls (with_token ws t) []) bs) ≡ ls ++ join (with_token ws t) (line_words bs)
-        → lines_at (fold track (track (tracked_at ls ws t) b) bs) ≡ ls ++ join ws (line_words (t ++ b ∷ bs))
-    by (inr word) _ go _ _ = ap (λ (s : Bool). lines_at (fold track (track_by s (b == 10) (tracked_at ls ws t) b) bs)) word ∙ go (free_more is_space t b free word) ∙ ap (λ (l : List ℕ). ls ++ join ws (line_words l)) (append_assoc t (b ∷ []) bs)
+        → (IsFree is_space (t ++ b ∷ []) → lines_at (fold track (tracked_at ls ws (t ++ b ∷ [])) bs) ≡ ls ++ join ws (words_of_each_line ((t ++ b ∷ []) ++ bs)))
+        → lines_at (fold track (tracked_at (lines_at (tracked_at ls ws t)) [] []) bs) ≡ lines_at (tracked_at ls ws t) ++ join [] (words_of_each_line bs)
+        → lines_at (fold track (tracked_at ls (with_token ws t) []) bs) ≡ ls
+        ++ join (with_token ws t) (words_of_each_line bs)
+        → lines_at (fold track (track (tracked_at ls ws t) b) bs) ≡ ls ++ join ws (words_of_each_line (t ++ b ∷ bs))
+    by (inr word) _ go _ _ = ap (λ (s : Bool). lines_at (fold track (track_by s (b == 10) (tracked_at ls ws t) b) bs)) word ∙ go (free_more is_space t b free word) ∙ ap (λ (l : List ℕ). ls ++ join ws (words_of_each_line l)) (append_assoc t (b ∷ []) bs)
     by (inl space) (inl feed) _ go _ = (λ i. lines_at (fold track (track_by (space i) (feed i) (tracked_at ls ws t) b) bs)) ∙ go
-        ∙ ap (λ (l : Lines). lines_at (tracked_at ls ws t) ++ l) (join_none (line_words bs) (lines_made bs)) ∙ append_assoc ls (with_token ws t ∷ []) (line_words bs)
-        ∙ ap (λ (l : Lines). ls ++ l) (join_fed ws t (line_words bs) ∙ ap (λ (u : Bool). join ws (put_token t (opening u (line_words bs)))) (sym feed) ∙ ap (join ws) (sym (lines_space t b bs free space)))
+        ∙ ap (λ (l : Lines). lines_at (tracked_at ls ws t) ++ l) (join_none (words_of_each_line bs) (lines_made bs)) ∙ append_assoc ls (with_token ws t ∷ []) (words_of_each_line bs)
+        ∙ ap (λ (l : Lines). ls ++ l) (join_fed ws t (words_of_each_line bs) ∙ ap (λ (u : Bool). join ws (put_token t (opening u (words_of_each_line bs)))) (sym feed) ∙ ap (join ws) (sym (lines_space t b bs free space)))
     by (inl space) (inr blank) _ _ go = (λ i. lines_at (fold track (track_by (space i) (blank i) (tracked_at ls ws t) b) bs)) ∙ go
-        ∙ ap (λ (l : Lines). ls ++ l) (join_more ws t (line_words bs) (lines_made bs) ∙ ap (λ (u : Bool). join ws (put_token t (opening u (line_words bs)))) (sym blank) ∙ ap (join ws) (sym (lines_space t b bs free space)))
+        ∙ ap (λ (l : Lines). ls ++ l) (join_more ws t (words_of_each_line bs) (lines_made bs) ∙ ap (λ (u : Bool). join ws (put_token t (opening u (words_of_each_line bs)))) (sym blank) ∙ ap (join ws) (sym (lines_space t b bs free space)))
 
 pub last_onto : (x : List ℕ) (ps : List (List ℕ)) → IsMade ps → last_token (x ∷ ps) ≡ last_token ps
 last_onto x [] made = absurd made
@@ -116,13 +117,13 @@ tracked_token (b ∷ bs) ls ws t free = by (cases_Bool (is_space b)) (λ u. trac
 abbrev pub tracked : List ℕ → Tracked
 tracked before = fold track (tracked_at [] [] []) before
 
-lines_are : (before : List ℕ) → line_words before ≡ lines_at (tracked before)
-lines_are before = sym (tracked_lines before [] [] [] tt ∙ join_none (line_words before) (lines_made before))
+lines_are : (before : List ℕ) → words_of_each_line before ≡ lines_at (tracked before)
+lines_are before = sym (tracked_lines before [] [] [] tt ∙ join_none (words_of_each_line before) (lines_made before))
 
-token_is : (before : List ℕ) → token_at_place before ≡ (tracked before).token
+token_is : (before : List ℕ) → unfinished_token_before_place before ≡ (tracked before).token
 token_is before = sym (tracked_token before [] [] [] tt)
 
-pub front_append : {X : Type 0} (ls : List X) (l : X) → front_of (ls ++ l ∷ []) ≡ ls
+pub front_append : {X : Type 0} (ls : List X) (l : X) → all_but_last (ls ++ l ∷ []) ≡ ls
 front_append [] l = refl
 front_append (k ∷ []) l = refl
 front_append (k ∷ j ∷ ls) l = ap (λ x. k ∷ x) (front_append (j ∷ ls) l)
@@ -149,8 +150,8 @@ abbrev pub all_lines : Seen → Lines
 all_lines s = s.earlier ++ here s ∷ []
 
 -- the error that is reported at a place, computed from the record
-abbrev pub reports : Table → Seen → FaultPlace → Option GridFault
-reports table s place = option_map (λ kind. grid_fault kind s.line) (kind_at table s.gap s.token s.earlier (here s) (all_lines s) place)
+abbrev pub reports : FaultTable → Seen → ByteOrTextEndOrFailedRead → Option GridFault
+reports table s place = option_map (λ kind. grid_fault_at_line kind s.line) (fault_kind_at_place table s.gap s.token s.earlier (here s) (all_lines s) place)
 
 abbrev pub step_by : Bool → Bool → Seen → ℕ → Seen
 step_by false feed s b = at_seen s.line 0 s.earlier s.words (s.token ++ b ∷ [])
@@ -162,27 +163,28 @@ abbrev pub step : Seen → ℕ → Seen
 step s b = step_by (is_space b) (b == 10) s b
 
 -- the first error that is reported from a place on, computed from the record
-abbrev pub scan : Table → Seen → List ℕ → Bool → Option GridFault
+abbrev pub scan : FaultTable → Seen → List ℕ → Bool → Option GridFault
 scan table s [] false = reports table s End
 scan table s [] true = reports table s Fails
 scan table s (b ∷ bs) fails = reports table s (Byte b) or scan table (step s b) bs fails
 
 abbrev pub seen : List ℕ → Seen
-seen before = at_seen (line_of_place before) (gap_of_place before) (tracked before).earlier (tracked before).words (tracked before).token
+seen before = at_seen (line_number_of_place before) (gap_length_before_place before) (tracked before).earlier (tracked before).words (tracked before).token
 
-reported_is : (table : Table) (before : List ℕ) (place : FaultPlace) → reported_fault table before place ≡ reports table (seen before) place
-reported_is table before place = λ i. option_map (λ kind. grid_fault kind (line_of_place before)) (kind_at table (gap_of_place before) (token_is before i) (front i) (last i) (lines_are before i) place)
+reported_is : (table : FaultTable) (before : List ℕ) (place : ByteOrTextEndOrFailedRead) → fault_reported_at_place table before place ≡ reports table (seen before) place
+reported_is table before place = λ i. option_map (λ kind. grid_fault_at_line kind (line_number_of_place before)) (fault_kind_at_place table (gap_length_before_place before) (token_is before i) (front i) (last i) (lines_are before i) place)
   where
-    front : front_of (line_words before) ≡ (tracked before).earlier
-    front = ap front_of (lines_are before) ∙ front_append (tracked before).earlier (here (seen before))
+    front : all_but_last (words_of_each_line before) ≡ (tracked before).earlier
+    front = ap all_but_last (lines_are before) ∙ front_append (tracked before).earlier (here (seen before))
 
-    last : last_token (line_words before) ≡ here (seen before)
+    last : last_token (words_of_each_line before) ≡ here (seen before)
     last = ap last_token (lines_are before) ∙ last_append (tracked before).earlier (here (seen before))
 
-line_more : (before : List ℕ) (b : ℕ) → line_of_place (before ++ b ∷ []) ≡ line_of_place before + cond (b == 10) 1 0
+line_more : (before : List ℕ) (b : ℕ) → line_number_of_place (before ++ b ∷ [])
+    ≡ line_number_of_place before + cond (b == 10) 1 0
 line_more before b = omega (arith, sum_by-append (λ (x : ℕ). cond (x == 10) 1 0) before (b ∷ []))
 
-pub gap_more : (before : List ℕ) (b : ℕ) → gap_of_place (before ++ b ∷ []) ≡ cond (is_space b) (1 + gap_of_place before) 0
+pub gap_more : (before : List ℕ) (b : ℕ) → gap_length_before_place (before ++ b ∷ []) ≡ cond (is_space b) (1 + gap_length_before_place before) 0
 gap_more before b = ap (prefix_len is_space) (reverse-append before (b ∷ []))
 
 abbrev parts : ℕ → ℕ → Tracked → Seen
@@ -191,22 +193,22 @@ parts line gap x = at_seen line gap x.earlier x.words x.token
 seen_more : (before : List ℕ) (b : ℕ) → seen (before ++ b ∷ []) ≡ step (seen before) b
 seen_more before b = (λ i. parts (line_more before b i) (gap_more before b i) (fold-append track (tracked_at [] [] []) before (b ∷ []) i)) ∙ by (cases_Bool (is_space b)) (cases_Bool (b == 10))
   where
-    wider : 1 + gap_of_place before ≡ gap_of_place before + 1
+    wider : 1 + gap_length_before_place before ≡ gap_length_before_place before + 1
     wider = omega arith
 
-    same : line_of_place before + 0 ≡ line_of_place before
+    same : line_number_of_place before + 0 ≡ line_number_of_place before
     same = omega arith
 
-    by : (is_space b ≡ true) ⊎ (is_space b ≡ false) → ((b == 10) ≡ true) ⊎ ((b == 10) ≡ false) → parts (line_of_place before + cond (b == 10) 1 0) (cond (is_space b) (1 + gap_of_place before) 0) (track (tracked before) b) ≡ step (seen before) b
-    by (inr word) _ = (λ i. parts (line_of_place before + cond (no_feed b word i) 1 0) (cond (word i) (1 + gap_of_place before) 0) (track_by (word i) (no_feed b word i) (tracked before) b))
+    by : (is_space b ≡ true) ⊎ (is_space b ≡ false) → ((b == 10) ≡ true) ⊎ ((b == 10) ≡ false) → parts (line_number_of_place before + cond (b == 10) 1 0) (cond (is_space b) (1 + gap_length_before_place before) 0) (track (tracked before) b) ≡ step (seen before) b
+    by (inr word) _ = (λ i. parts (line_number_of_place before + cond (no_feed b word i) 1 0) (cond (word i) (1 + gap_length_before_place before) 0) (track_by (word i) (no_feed b word i) (tracked before) b))
         ∙ (λ i. parts (same i) 0 (track_by false false (tracked before) b)) ∙ (λ i. step_by (sym word i) (sym (no_feed b word) i) (seen before) b)
-    by (inl space) (inl feed) = (λ i. parts (line_of_place before + cond (feed i) 1 0) (cond (space i) (1 + gap_of_place before) 0) (track_by (space i) (feed i) (tracked before) b))
-        ∙ (λ i. parts (line_of_place before + 1) (wider i) (track_by true true (tracked before) b)) ∙ (λ i. step_by (sym space i) (sym feed i) (seen before) b)
-    by (inl space) (inr blank) = (λ i. parts (line_of_place before + cond (blank i) 1 0) (cond (space i) (1 + gap_of_place before) 0) (track_by (space i) (blank i) (tracked before) b))
+    by (inl space) (inl feed) = (λ i. parts (line_number_of_place before + cond (feed i) 1 0) (cond (space i) (1 + gap_length_before_place before) 0) (track_by (space i) (feed i) (tracked before) b))
+        ∙ (λ i. parts (line_number_of_place before + 1) (wider i) (track_by true true (tracked before) b)) ∙ (λ i. step_by (sym space i) (sym feed i) (seen before) b)
+    by (inl space) (inr blank) = (λ i. parts (line_number_of_place before + cond (blank i) 1 0) (cond (space i) (1 + gap_length_before_place before) 0) (track_by (space i) (blank i) (tracked before) b))
         ∙ (λ i. parts (same i) (wider i) (track_by true false (tracked before) b)) ∙ (λ i. step_by (sym space i) (sym blank i) (seen before) b)
 
 -- the first error reported after some bytes is the first error reported from their record on
-pub first_is : (table : Table) (bs before : List ℕ) (fails : Bool) → first_reported table before bs fails ≡ scan table (seen before) bs fails
+pub first_is : (table : FaultTable) (bs before : List ℕ) (fails : Bool) → first_fault_in_rest_of_text table before bs fails ≡ scan table (seen before) bs fails
 first_is table [] before false = reported_is table before End
 first_is table [] before true = reported_is table before Fails
 first_is table (b ∷ bs) before fails = λ i. reported_is table before (Byte b) i or (first_is table bs (before ++ b ∷ []) fails ∙ ap (λ (s : Seen). scan table s bs fails) (seen_more before b)) i

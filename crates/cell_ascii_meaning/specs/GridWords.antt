@@ -4,7 +4,7 @@ use Rattle.std.specs.List.{list_any}
 use Rattle.cell_core_values.specs.Letters.{byte}
 use Rattle.cell_core.specs.Grid.{CellValue}
 use Rattle.cell_core_values.specs.Region.{RegionValue}
-use Rattle.cell_ascii_meaning.specs.EdgeNumbers.{whole_number, is_in_range}
+use Rattle.cell_ascii_meaning.specs.EdgeNumbers.{whole_number_of_text, is_in_category_range}
 use Rattle.cell_ascii_meaning.specs.declared.grid_fault.GridKind.{GridKind}
 use Rattle.cell_ascii_meaning.specs.declared.grid_fault.GridKind.TheVariants.{BadCell, CellRange}
 
@@ -25,18 +25,18 @@ abbrev pub has_colon : List ℕ → Bool
 has_colon text = list_any is_colon text
 
 -- the value is `int`, the only supported type
-abbrev pub is_int : List ℕ → Bool
-is_int value = bytes_eq value (codes "int")
+abbrev pub is_int_type : List ℕ → Bool
+is_int_type value = bytes_eq value (codes "int")
 
 -- a header: the region, the null text and the multiplier
-pub record HeaderValue : Type 0 where
+pub record GridHeaderContents : Type 0 where
   pub region : RegionValue
   pub null_text : List ℕ
   pub multiplier : ℤ
 
 -- the default null text, an asterisk
-abbrev pub usual_null : List ℕ
-usual_null = codes "*"
+abbrev pub usual_null_text : List ℕ
+usual_null_text = codes "*"
 
 -- the default multiplier, which leaves cells unchanged
 abbrev pub usual_multiplier : ℤ
@@ -46,8 +46,9 @@ usual_multiplier = pos 1
 abbrev pub cell_of_number : ℤ → Option ℤ → Result CellValue GridKind
 cell_of_number multiplier None = Err BadCell
 cell_of_number multiplier (Some n) =
-    if is_in_range n then (if is_in_range (n *ℤ multiplier) then Ok (Some (n *ℤ multiplier)) else Err CellRange) else Err CellRange
+    if is_in_category_range n then (if is_in_category_range (n *ℤ multiplier) then Ok (Some (n *ℤ multiplier)) else Err CellRange) else Err CellRange
 
 -- the cell that a word denotes: null if it is the null text, otherwise a number
-abbrev pub cell_of_word : HeaderValue → List ℕ → Result CellValue GridKind
-cell_of_word h word = if bytes_eq word h.null_text then Ok None else cell_of_number h.multiplier (whole_number word)
+abbrev pub cell_of_word : GridHeaderContents → List ℕ → Result CellValue GridKind
+cell_of_word h word = if bytes_eq word h.null_text then Ok None else cell_of_number h.multiplier
+    (whole_number_of_text word)

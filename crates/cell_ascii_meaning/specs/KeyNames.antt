@@ -4,8 +4,8 @@ use Rattle.cell_ascii_meaning.specs.declared.header_key.HeaderKey.{HeaderKey}
 use Rattle.cell_ascii_meaning.specs.declared.header_key.HeaderKey.TheVariants.{North, South, East, West, Rows, Cols, Null, CellType, Multiplier}
 
 -- the key with this name, if there is one
-abbrev pub header_key_of : List ℕ → Option HeaderKey
-header_key_of name =
+abbrev pub header_key_with_name : List ℕ → Option HeaderKey
+header_key_with_name name =
     if bytes_eq name (codes "north") then Some North
     else (if bytes_eq name (codes "south") then Some South
     else (if bytes_eq name (codes "east") then Some East

@@ -5,8 +5,8 @@ use Rattle.std.specs.List.{list_all}
 use Rattle.std.proofs.lemmas.Bool.Decides.{nat_tests}
 use Rattle.std.proofs.Math.Nat.{mul-le-mul_right, pow-suc, pow-le-pow_right, one-le-pow}
 use Rattle.std.proofs.lemmas.Nat.{pow-add}
-use Rattle.cell_ascii_meaning.specs.EdgeNumbers.{is_digit, value_of_digits, in_units}
-use Rattle.cell_core_values.specs.Capped.{at_most}
+use Rattle.cell_ascii_meaning.specs.EdgeNumbers.{is_digit, value_of_digits, decimal_in_coordinate_units}
+use Rattle.cell_core_values.specs.Capped.{capped_at_10_to_18}
 
 both : (a b : Bool) → (a && b) ≡ true → (a ≡ true) × (b ≡ true)
 both true b e = (refl, e)
@@ -61,13 +61,13 @@ part_least bs e h = let p : 10 ^ length bs ≤ 10 ^ 8 = pow-le-pow_right (omega 
 
 module _ (whole part : List ℕ) (whole_digits : list_all is_digit whole ≡ true) (part_digits : list_all is_digit part ≡ true)
     (short : ((nat_le (length whole) 10 && nat_le (length part) 8) && nat_le 1 (length whole + length part)) ≡ true) where
-  pub whole_capped : at_most (value_of_digits whole) ≡ value_of_digits whole
+  pub whole_capped : capped_at_10_to_18 (value_of_digits whole) ≡ value_of_digits whole
   whole_capped = let h = short_whole (length whole) (length part) short in omega (arith, whole_below whole whole_digits h)
 
-  pub part_capped : at_most (value_of_digits part) ≡ value_of_digits part
+  pub part_capped : capped_at_10_to_18 (value_of_digits part) ≡ value_of_digits part
   part_capped = let h = short_part (length whole) (length part) short in omega (arith, part_least part part_digits h)
 
-  pub in_units_is : in_units whole part ≡ Some (value_of_digits whole * 100000000 + value_of_digits part * 10 ^ (8 - length part))
+  pub in_units_is : decimal_in_coordinate_units whole part ≡ Some (value_of_digits whole * 100000000 + value_of_digits part * 10 ^ (8 - length part))
   in_units_is = rw (whole_digits, part_digits, short) refl
 
   pub units_below : value_of_digits whole * 100000000 + value_of_digits part * 10 ^ (8 - length part) < 1000000000000000000

@@ -2,11 +2,11 @@
 
 ghost use Rattle.std.specs.Prelude.{◌≡◌, Some, true, bytes_eq};
 ghost use Rattle.cell_ascii_meaning.specs.CellTexts.{cell_of_word, cell_of_number};
-ghost use Rattle.cell_ascii_reading.specs.InRange.{cell_in_range, HasPlainNumbers};
-ghost use Rattle.cell_ascii_meaning.specs.EdgeNumbers.{whole_number};
-ghost use Rattle.cell_ascii_meaning.specs.GridWords.{usual_null};
+ghost use Rattle.cell_ascii_reading.specs.InRange.{cell_or_range_fault, DigitWordsDenoteTheirNumber};
+ghost use Rattle.cell_ascii_meaning.specs.EdgeNumbers.{whole_number_of_text};
+ghost use Rattle.cell_ascii_meaning.specs.GridWords.{usual_null_text};
 
-use crate::header_null::HeaderNull;
+use crate::header_null::HeaderNullText;
 use cell_ascii_meaning::grid_fault::GridKind;
 use cell_core::cell::Cell;
 use cell_core::region::Region;
@@ -17,7 +17,7 @@ use std::marker::Model;
 #[derive(Drop)]
 pub struct Header {
     region: Region,
-    null_text: HeaderNull,
+    null_text: HeaderNullText,
     // The null text as a number, if it is one. A word of any other number in range need not be compared with the null
     // text.
     null_number: Option<i64>,
@@ -28,21 +28,21 @@ pub struct Header {
 
 impl Model for Header {
     ghost use Rattle.std.specs.Prelude.{◌≡◌, None, pos, true};
-    ghost use Rattle.cell_core_values.specs.Capped.{capped_number};
-    ghost use Rattle.cell_ascii_meaning.specs.Header.{HeaderValue};
+    ghost use Rattle.cell_core_values.specs.Capped.{capped_whole_number_of_text};
+    ghost use Rattle.cell_ascii_meaning.specs.Header.{GridHeaderContents};
 
-    ghost Value = { HeaderValue };
+    ghost Value = { GridHeaderContents };
 
     ghost view = { λ h. record { region = h.region; null_text = h.null_text; multiplier = h.multiplier } };
 
-    ghost invariant = { λ h. (h.null_number ≡ capped_number h.null_text) × (h.is_plain ≡ true → (h.null_number ≡ None) × (h.multiplier ≡ pos 1)) };
+    ghost invariant = { λ h. (h.null_number ≡ capped_whole_number_of_text h.null_text) × (h.is_plain ≡ true → (h.null_number ≡ None) × (h.multiplier ≡ pos 1)) };
 }
 
 #[inline(always)]
-fn in_range(number: i64) -> Result<Cell, GridKind>
-    ensures { result ≡ cell_in_range number }
+fn cell_if_in_range(number: i64) -> Result<Cell, GridKind>
+    ensures { result ≡ cell_or_range_fault number }
 {
-    if !whole_numbers::is_in_range(number) {
+    if !whole_numbers::is_in_category_range(number) {
         return Err(GridKind::CellRange);
     }
     match Cell::value(number as i32) {
@@ -56,19 +56,19 @@ fn in_range(number: i64) -> Result<Cell, GridKind>
 fn multiplied_cell(multiplier: i32, number: i64) -> Result<Cell, GridKind>
     ensures { result ≡ cell_of_number multiplier (Some number) }
 {
-    if !whole_numbers::is_in_range(number) {
+    if !whole_numbers::is_in_category_range(number) {
         return Err(GridKind::CellRange);
     }
     // With a multiplier of 1, the range is checked only once.
     if multiplier == 1 {
-        return in_range(number);
+        return cell_if_in_range(number);
     }
-    in_range(number * multiplier as i64)
+    cell_if_in_range(number * multiplier as i64)
 }
 
 impl Header {
     /// Returns the header with these values.
-    pub fn new(region: Region, null_text: HeaderNull, multiplier: i32) -> Header
+    pub fn new(region: Region, null_text: HeaderNullText, multiplier: i32) -> Header
         ensures { result
             ≡ record { region = region; null_text = null_text; multiplier = multiplier } }
     {
@@ -93,11 +93,11 @@ impl Header {
     /// Returns the cell that the word of a number denotes. Inlined, because it is called for each cell.
     #[inline(always)]
     pub fn cell_of_number(&self, word: &[u8], number: i64) -> Result<Cell, GridKind>
-        requires { whole_number word.now ≡ Some number }
+        requires { whole_number_of_text word.now ≡ Some number }
         ensures { result ≡ cell_of_word self.now word.now }
     {
         if self.is_plain {
-            return in_range(number);
+            return cell_if_in_range(number);
         }
         if self.spells_null(word, number) {
             Ok(Cell::null())
@@ -110,21 +110,21 @@ impl Header {
     // the question.
     #[inline(always)]
     fn spells_null(&self, word: &[u8], number: i64) -> bool
-        requires { whole_number word.now ≡ Some number }
+        requires { whole_number_of_text word.now ≡ Some number }
         ensures { result ≡ bytes_eq word.now self.now.null_text }
     {
         let Some(null) = self.null_number else {
             return false;
         };
-        if null != number && whole_numbers::is_in_range(number) {
+        if null != number && whole_numbers::is_in_category_range(number) {
             return false;
         }
         self.null_text.is(word)
     }
 
     /// Returns whether each word of digits denotes its own number, if this is in range.
-    pub fn has_plain_numbers(&self) -> bool
-        ensures { result ≡ true → HasPlainNumbers self.now }
+    pub fn digit_words_denote_their_number(&self) -> bool
+        ensures { result ≡ true → DigitWordsDenoteTheirNumber self.now }
     {
         !self.null_text.has_only_digits() && self.multiplier == 1
     }
@@ -138,7 +138,7 @@ impl Header {
 
     /// Returns whether a star denotes null.
     pub fn is_star_null(&self) -> bool
-        ensures { result ≡ true → self.now.null_text ≡ usual_null }
+        ensures { result ≡ true → self.now.null_text ≡ usual_null_text }
     {
         self.null_text.is(b"*")
     }
@@ -150,7 +150,7 @@ impl Header {
         if self.null_text.is(word) {
             return Ok(Cell::null());
         }
-        match whole_numbers::whole_number(word) {
+        match whole_numbers::whole_number_of_text(word) {
             Some(number) => multiplied_cell(self.multiplier, number),
             None => Err(GridKind::BadCell),
         }

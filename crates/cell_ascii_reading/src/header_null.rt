@@ -3,20 +3,20 @@
 ghost use Rattle.std.specs.Prelude.{◌≡◌, ◌≤◌, length, bytes_eq};
 ghost use Rattle.std.specs.List.{list_all};
 ghost use Rattle.cell_core_values.specs.Digits.{is_digit};
-ghost use Rattle.cell_ascii_meaning.specs.Header.{usual_null};
-ghost use Rattle.cell_core_values.specs.Capped.{capped_number};
+ghost use Rattle.cell_ascii_meaning.specs.Header.{usual_null_text};
+ghost use Rattle.cell_core_values.specs.Capped.{capped_whole_number_of_text};
 
 use cell_core_values::whole_numbers;
 use std::marker::Model;
 
 /// A null text of at most 64 bytes.
 #[derive(Drop)]
-pub struct HeaderNull {
+pub struct HeaderNullText {
     bytes: [u8; 64],
     len: usize,
 }
 
-impl Model for HeaderNull {
+impl Model for HeaderNullText {
     ghost use Rattle.std.specs.Prelude.{ℕ, List, take, ◌≤◌};
 
     ghost Value = { List ℕ };
@@ -26,25 +26,25 @@ impl Model for HeaderNull {
     ghost invariant = { λ t. t.len ≤ 64 };
 }
 
-impl HeaderNull {
+impl HeaderNullText {
     /// Returns the default null text, an asterisk.
-    pub fn usual() -> HeaderNull
-        ensures { result ≡ usual_null }
+    pub fn usual() -> HeaderNullText
+        ensures { result ≡ usual_null_text }
     {
-        HeaderNull {
+        HeaderNullText {
             bytes: [b'*'; 64],
             len: 1,
         }
     }
 
     /// Returns a null text with a copy of these bytes.
-    pub fn new(text: &[u8]) -> HeaderNull
+    pub fn new(text: &[u8]) -> HeaderNullText
         requires { length text.now ≤ 64 }
         ensures { result ≡ text.now }
     {
         let mut bytes = [0; 64];
         bytes[..text.len()].copy_from_slice(text);
-        HeaderNull {
+        HeaderNullText {
             bytes,
             len: text.len(),
         }
@@ -73,8 +73,8 @@ impl HeaderNull {
 
     /// Returns the null text as a number, capped at -10^18 and 10^18, if it is one.
     pub fn as_number(&self) -> Option<i64>
-        ensures { result ≡ capped_number self.now }
+        ensures { result ≡ capped_whole_number_of_text self.now }
     {
-        whole_numbers::whole_number(&self.bytes[..self.len])
+        whole_numbers::whole_number_of_text(&self.bytes[..self.len])
     }
 }

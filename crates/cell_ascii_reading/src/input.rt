@@ -1,8 +1,8 @@
 //! Reads a source through a buffer, one byte at a time.
 
 ghost use Rattle.std.specs.Prelude.{◌≡◌, ◌<◌, ◌≤◌, [], drop, length, OnErr, IfOk, IfErr, IfSome, IfNone, Ok, Some, None, slice_get, true, false, is_err};
-ghost use Rattle.cell_core_devices.specs.Asking.{hears, heard_first, is_at};
-ghost use Rattle.cell_ascii_reading.specs.Ahead.{Ahead, bytes_to_come, IsAtEnd, IsUnmoved};
+ghost use Rattle.cell_core_devices.specs.Asking.{source_knowledge_after_calls, knowledge_about_new_source, source_is_in_assumed_state};
+ghost use Rattle.cell_ascii_reading.specs.Ahead.{BytesAhead, bytes_to_come_for_content, IsSourceAtEndOrFailed, NoByteWasSkipped};
 
 use cell_core::device::DeviceFault;
 use cell_core::source::Source;
@@ -10,7 +10,7 @@ use std::alloc::Global;
 use std::marker::Model;
 
 // Number of bytes requested from the source per call.
-const BLOCK: usize = 65536;
+const SOURCE_BLOCK_BYTES: usize = 65536;
 
 /// A source with a buffer.
 #[derive(Drop)]
@@ -25,21 +25,21 @@ pub struct Input<R: Source> {
 
 impl<R: Source> Model for Input<R> {
     ghost use Rattle.std.specs.Prelude.{take, drop, length, ◌≡◌, ◌<◌, ◌≤◌, true, false};
-    ghost use Rattle.cell_core_devices.specs.Asking.{is_at};
-    ghost use Rattle.cell_ascii_reading.specs.Ahead.{Ahead, IsAtEnd, to_come};
+    ghost use Rattle.cell_core_devices.specs.Asking.{source_is_in_assumed_state};
+    ghost use Rattle.cell_ascii_reading.specs.Ahead.{BytesAhead, IsSourceAtEndOrFailed, content_to_come};
 
-    ghost Value = { Ahead };
+    ghost Value = { BytesAhead };
 
     ghost view = { λ i. record {
       buffered = drop i.at (take i.filled i.buffer.items);
       rest = R.supposed i.source;
       ended = i.ended;
-      heard = record { sure = is_at (R.asked i.source) i.ended i.failed; failed = i.failed };
+      heard = record { sure = source_is_in_assumed_state (R.asked i.source) i.ended i.failed; failed = i.failed };
     } };
 
     ghost invariant = { λ i. (i.at ≤ i.filled) × (i.filled ≤ length i.buffer.items) × (0 < length i.buffer.items)
-        × (i.ended ≡ true → (i.at ≡ i.filled) × IsAtEnd false (to_come (R.supposed i.source)))
-        × (i.failed ≡ true → (i.at ≡ i.filled) × IsAtEnd true (to_come (R.supposed i.source)) × (i.ended ≡ false)) };
+        × (i.ended ≡ true → (i.at ≡ i.filled) × IsSourceAtEndOrFailed false (content_to_come (R.supposed i.source)))
+        × (i.failed ≡ true → (i.at ≡ i.filled) × IsSourceAtEndOrFailed true (content_to_come (R.supposed i.source)) × (i.ended ≡ false)) };
 }
 
 impl<R: Source> Input<R> {
@@ -55,11 +55,11 @@ impl<R: Source> Input<R> {
           buffered = [];
           rest = R.supposed source;
           ended = false;
-          heard = heard_first (R.asked source);
+          heard = knowledge_about_new_source (R.asked source);
         }) }
         ensures unread { IfErr result (λ s. s ≡ source) }
     {
-        let Ok(buffer) = vec![in alloc; 0u8; BLOCK] else {
+        let Ok(buffer) = vec![in alloc; 0u8; SOURCE_BLOCK_BYTES] else {
             return Err(source);
         };
         Ok(Input {
@@ -75,13 +75,16 @@ impl<R: Source> Input<R> {
     /// Returns the next byte, or `None` at the end. Does not ask the source again after its end or an `Err`. After an
     /// `Err`, every call returns an error.
     pub fn peek(&mut self) -> Result<Option<u8>, DeviceFault>
-        ensures same { IsUnmoved self.old self.new }
+        ensures same { NoByteWasSkipped self.old self.new }
         ensures byte { IfOk result (λ o. IfSome o (λ b. slice_get self.new.buffered 0 ≡ Some b)) }
-        ensures end { IfOk result (λ o. IfNone o (IsAtEnd false (bytes_to_come self.new))) }
-        ensures fault { OnErr result (IsAtEnd true (bytes_to_come self.new)) }
+        ensures end { IfOk result (λ o. IfNone o
+            (IsSourceAtEndOrFailed false (bytes_to_come_for_content self.new))) }
+        ensures fault { OnErr result (IsSourceAtEndOrFailed true
+            (bytes_to_come_for_content self.new)) }
         ensures reported { IfOk result (λ o. IfNone o (self.new.ended ≡ true)) }
         ensures again { self.old.ended ≡ true → (self.new ≡ self.old) × (result ≡ Ok None) }
-        ensures heard { self.new.heard ≡ hears (is_err result) self.old.heard }
+        ensures heard { self.new.heard ≡ source_knowledge_after_calls
+            (is_err result) self.old.heard }
     {
         if self.at < self.filled {
             return Ok(Some(self.buffer[self.at]));
@@ -124,7 +127,7 @@ impl<R: Source> Input<R> {
     }
 
     /// Skips the byte that `peek` returned.
-    pub fn pass_byte(&mut self)
+    pub fn skip_byte(&mut self)
         requires { 0 < length self.old.buffered }
         ensures buffered { self.new.buffered ≡ drop 1 self.old.buffered }
         ensures rest { self.new.rest ≡ self.old.rest }
@@ -137,7 +140,8 @@ impl<R: Source> Input<R> {
     /// Returns the source after its last read.
     pub fn into_source(self) -> R
         ensures rest { R.supposed result ≡ self.rest }
-        ensures asked { self.heard.sure ≡ is_at (R.asked result) self.ended self.heard.failed }
+        ensures asked { self.heard.sure ≡ source_is_in_assumed_state
+            (R.asked result) self.ended self.heard.failed }
     {
         self.source
     }

@@ -1,13 +1,13 @@
 //! The names of header keys.
 
 ghost use Rattle.std.specs.Prelude.{◌≡◌, Option};
-ghost use Rattle.cell_ascii_meaning.specs.KeyNames.{header_key_of};
+ghost use Rattle.cell_ascii_meaning.specs.KeyNames.{header_key_with_name};
 
 use cell_ascii_meaning::header_key::HeaderKey;
 
 /// Returns the key with this name.
-pub fn header_key_of(name: &[u8]) -> Option<HeaderKey>
-    ensures { result ≡ header_key_of name.now }
+pub fn header_key_with_name(name: &[u8]) -> Option<HeaderKey>
+    ensures { result ≡ header_key_with_name name.now }
 {
     if name == b"north".as_slice() {
         Some(HeaderKey::North)

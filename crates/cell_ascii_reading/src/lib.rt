@@ -12,9 +12,9 @@
 //! Coordinates:
 //!
 //! ```
-//! assert_same!(rt; coordinate(b"10.50"), Some(1050000000));
-//! assert_same!(rt; coordinate(b"-.25"), Some(-25000000));
-//! assert_same!(rt; coordinate(b"north"), None);
+//! assert_same!(rt; coordinate_of_text(b"10.50"), Some(1050000000));
+//! assert_same!(rt; coordinate_of_text(b"-.25"), Some(-25000000));
+//! assert_same!(rt; coordinate_of_text(b"north"), None);
 //! ```
 #![tactic(auto)]
 

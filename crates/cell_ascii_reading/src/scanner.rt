@@ -1,11 +1,11 @@
 //! Reads the words of a text with their lines.
 
 ghost use Rattle.std.specs.Prelude.{true, false, ◌≡◌, ◌+◌, ◌-◌, ◌^◌, ◌<◌, ◌≤◌, [], length, drop, Ok, Some, IfOk, IfErr, OnErr, IfSome, IfNone, slice_get};
-ghost use Rattle.cell_core_devices.specs.Asking.{heard_first, is_at};
-ghost use Rattle.cell_ascii_reading.specs.Ahead.{bytes_to_come, IsAtEnd, IsUnmoved, Agrees};
-ghost use Rattle.cell_ascii_meaning.specs.GridTokens.{grid_fault, is_space, grid_start, word_from};
-ghost use Rattle.cell_ascii_meaning.specs.Header.{gap_of};
-ghost use Rattle.cell_ascii_reading.specs.Scan.{Hears, FailsInText};
+ghost use Rattle.cell_core_devices.specs.Asking.{knowledge_about_new_source, source_is_in_assumed_state};
+ghost use Rattle.cell_ascii_reading.specs.Ahead.{bytes_to_come_for_content, IsSourceAtEndOrFailed, NoByteWasSkipped, ScanResultsBeforeAndAfterAgree};
+ghost use Rattle.cell_ascii_meaning.specs.GridTokens.{grid_fault_at_line, is_space, next_word_start, word_continued_in_bytes};
+ghost use Rattle.cell_ascii_meaning.specs.Header.{end_of_continued_blank_run};
+ghost use Rattle.cell_ascii_reading.specs.Scan.{ResultTellsIfSourceFailed, AnyFaultIsOfTextOrSource};
 
 use crate::input::Input;
 use cell_ascii_meaning::grid_fault::{GridFault, GridKind};
@@ -25,9 +25,9 @@ pub struct Scanner<R: Source> {
 
 impl<R: Source> Model for Scanner<R> {
     ghost use Rattle.std.specs.Prelude.{take, ◌≤◌};
-    ghost use Rattle.cell_ascii_reading.specs.Scan.{Scan};
+    ghost use Rattle.cell_ascii_reading.specs.Scan.{ScannerState};
 
-    ghost Value = { Scan };
+    ghost Value = { ScannerState };
 
     ghost view = { λ s. record { line = s.line; run = s.run; word = take s.len s.word; ahead = s.input } };
 
@@ -43,7 +43,7 @@ pub fn is_space(b: u8) -> bool
 
 // The result of one step over blanks and line feeds.
 #[derive(Clone, Copy)]
-enum ScanStep {
+enum ScanStepResult {
     Blank,
     Feed,
     Word,
@@ -52,34 +52,36 @@ enum ScanStep {
 
 /// The result of skipping blanks and line feeds: the start of a word, or the end of the text.
 #[derive(Clone, Copy)]
-pub enum Next {
+pub enum WordOrTextEnd {
     Word,
     End,
 }
 
 /// The result of skipping the blanks of a line: the start of a word, a line feed, or the end of the text.
 #[derive(Clone, Copy)]
-pub enum InLine {
+pub enum WordOrLineEnd {
     Word,
     Feed,
     End,
 }
 
 impl<R: Source> Scanner<R> {
-    ghost use Rattle.cell_ascii_reading.specs.parts.ScanSteps.{IsStep};
-    ghost use Rattle.cell_ascii_reading.specs.Scan.{start_seen, gap_seen, line_count_seen, word_seen, part_seen};
+    ghost use Rattle.cell_ascii_reading.specs.parts.ScanSteps.{IsScannerAfterStep};
+    ghost use Rattle.cell_ascii_reading.specs.Scan.{word_start_from_call_result, blank_run_end_from_call_result, line_number_after_blanks, word_from_call_result, full_word_from_call_result};
 
     // Returns the next byte, or `None` at the end. Reports a failed source as an error at the current line.
     #[inline(always)]
     fn peek(&mut self) -> Result<Option<u8>, GridFault>
-        ensures same { IsUnmoved self.old.ahead self.new.ahead }
+        ensures same { NoByteWasSkipped self.old.ahead self.new.ahead }
         ensures scan { self.new ≡ record self.old { ahead = self.new.ahead } }
         ensures byte { IfOk result
             (λ o. IfSome o (λ b. slice_get self.new.ahead.buffered 0 ≡ Some b)) }
-        ensures end { IfOk result (λ o. IfNone o (IsAtEnd false (bytes_to_come self.new.ahead))) }
-        ensures failed { OnErr result (IsAtEnd true (bytes_to_come self.new.ahead)) }
-        ensures fault { IfErr result (λ f. f ≡ grid_fault GridKind.Read self.old.line) }
-        ensures heard { Hears result self.old.ahead self.new.ahead }
+        ensures end { IfOk result (λ o. IfNone o
+            (IsSourceAtEndOrFailed false (bytes_to_come_for_content self.new.ahead))) }
+        ensures failed { OnErr result (IsSourceAtEndOrFailed true
+            (bytes_to_come_for_content self.new.ahead)) }
+        ensures fault { IfErr result (λ f. f ≡ grid_fault_at_line GridKind.Read self.old.line) }
+        ensures heard { ResultTellsIfSourceFailed result self.old.ahead self.new.ahead }
     {
         match self.input.peek() {
             Ok(next) => Ok(next),
@@ -91,18 +93,18 @@ impl<R: Source> Scanner<R> {
     }
 
     // Skips the next byte if it is a blank or a line feed.
-    fn step(&mut self) -> Result<ScanStep, GridFault>
+    fn step(&mut self) -> Result<ScanStepResult, GridFault>
         requires room { self.old.line + 1048576 < 2 ^ 64 + self.old.run }
         requires run { self.old.run ≤ 1048576 }
-        ensures step { IsStep result self.old self.new }
-        ensures kind { FailsInText result }
-        ensures heard { Hears result self.old.ahead self.new.ahead }
+        ensures step { IsScannerAfterStep result self.old self.new }
+        ensures kind { AnyFaultIsOfTextOrSource result }
+        ensures heard { ResultTellsIfSourceFailed result self.old.ahead self.new.ahead }
     {
         let Some(b) = self.peek()? else {
-            return Ok(ScanStep::End);
+            return Ok(ScanStepResult::End);
         };
         if !is_space(b) {
-            return Ok(ScanStep::Word);
+            return Ok(ScanStepResult::Word);
         }
         if self.run >= 1048576 {
             return Err(GridFault {
@@ -110,59 +112,64 @@ impl<R: Source> Scanner<R> {
                 line: self.line,
             });
         }
-        self.input.pass_byte();
+        self.input.skip_byte();
         self.run += 1;
         if b == b'\n' {
             self.line += 1;
-            return Ok(ScanStep::Feed);
+            return Ok(ScanStepResult::Feed);
         }
-        Ok(ScanStep::Blank)
+        Ok(ScanStepResult::Blank)
     }
 
     /// Skips blanks and line feeds.
-    pub fn skip_spaces(&mut self) -> Result<Next, GridFault>
+    pub fn skip_spaces(&mut self) -> Result<WordOrTextEnd, GridFault>
         requires room { self.old.line + 1048576 < 2 ^ 64 }
         requires run { self.old.run ≤ 1048576 }
-        ensures starts { Agrees (grid_start self.old.line self.old.run) self.old.ahead
-            (start_seen result self.new.line) self.new.ahead }
+        ensures starts { ScanResultsBeforeAndAfterAgree (next_word_start self.old.line self.old.run)
+            self.old.ahead
+            (word_start_from_call_result result self.new.line) self.new.ahead }
         ensures lines { self.new.line ≤ self.old.line + 1048576 }
         ensures run { self.new.run ≤ 1048576 }
         ensures further { self.old.run ≤ self.new.run }
         ensures word { self.new.word ≡ self.old.word }
-        ensures end { result ≡ Ok Next.End → IsAtEnd false (bytes_to_come self.new.ahead) }
-        ensures kind { FailsInText result }
-        ensures heard { Hears result self.old.ahead self.new.ahead }
+        ensures end { result ≡ Ok WordOrTextEnd.End
+            → IsSourceAtEndOrFailed false (bytes_to_come_for_content self.new.ahead) }
+        ensures kind { AnyFaultIsOfTextOrSource result }
+        ensures heard { ResultTellsIfSourceFailed result self.old.ahead self.new.ahead }
     {
         'spaces: loop {
             match self.step() {
-                Ok(ScanStep::Blank) => {}
-                Ok(ScanStep::Feed) => {}
-                Ok(ScanStep::Word) => return Ok(Next::Word),
-                Ok(ScanStep::End) => return Ok(Next::End),
+                Ok(ScanStepResult::Blank) => {}
+                Ok(ScanStepResult::Feed) => {}
+                Ok(ScanStepResult::Word) => return Ok(WordOrTextEnd::Word),
+                Ok(ScanStepResult::End) => return Ok(WordOrTextEnd::End),
                 Err(fault) => return Err(fault),
             }
         }
     }
 
     /// Skips the blanks of a line, and the line feed if it ends them.
-    pub fn skip_blanks(&mut self) -> Result<InLine, GridFault>
+    pub fn skip_blanks(&mut self) -> Result<WordOrLineEnd, GridFault>
         requires room { self.old.line + 1048576 < 2 ^ 64 }
         requires run { self.old.run ≤ 1048576 }
-        ensures gap { Agrees (gap_of self.old.line self.old.run) self.old.ahead
-            (gap_seen result self.new.run) self.new.ahead }
-        ensures line { self.new.line ≡ line_count_seen result self.old.line }
+        ensures gap { ScanResultsBeforeAndAfterAgree
+            (end_of_continued_blank_run self.old.line self.old.run)
+            self.old.ahead
+            (blank_run_end_from_call_result result self.new.run) self.new.ahead }
+        ensures line { self.new.line ≡ line_number_after_blanks result self.old.line }
         ensures run { self.new.run ≤ 1048576 }
         ensures word { self.new.word ≡ self.old.word }
-        ensures end { result ≡ Ok InLine.End → IsAtEnd false (bytes_to_come self.new.ahead) }
-        ensures kind { FailsInText result }
-        ensures heard { Hears result self.old.ahead self.new.ahead }
+        ensures end { result ≡ Ok WordOrLineEnd.End
+            → IsSourceAtEndOrFailed false (bytes_to_come_for_content self.new.ahead) }
+        ensures kind { AnyFaultIsOfTextOrSource result }
+        ensures heard { ResultTellsIfSourceFailed result self.old.ahead self.new.ahead }
     {
         'blanks: loop {
             match self.step() {
-                Ok(ScanStep::Blank) => {}
-                Ok(ScanStep::Feed) => return Ok(InLine::Feed),
-                Ok(ScanStep::Word) => return Ok(InLine::Word),
-                Ok(ScanStep::End) => return Ok(InLine::End),
+                Ok(ScanStepResult::Blank) => {}
+                Ok(ScanStepResult::Feed) => return Ok(WordOrLineEnd::Feed),
+                Ok(ScanStepResult::Word) => return Ok(WordOrLineEnd::Word),
+                Ok(ScanStepResult::End) => return Ok(WordOrLineEnd::End),
                 Err(fault) => return Err(fault),
             }
         }
@@ -171,14 +178,16 @@ impl<R: Source> Scanner<R> {
     // Reads the next byte if it continues the word. Returns whether it does.
     fn grow(&mut self) -> Result<bool, GridFault>
         requires { length self.old.word ≤ 64 }
-        ensures word { Agrees (word_from self.old.line self.old.word) self.old.ahead
-            (part_seen result self.new.line self.new.word) self.new.ahead }
+        ensures word { ScanResultsBeforeAndAfterAgree
+            (word_continued_in_bytes self.old.line self.old.word)
+            self.old.ahead
+            (full_word_from_call_result result self.new.line self.new.word) self.new.ahead }
         ensures line { self.new.line ≡ self.old.line }
         ensures run { self.new.run ≡ self.old.run }
         ensures short { length self.new.word ≤ 64 }
         ensures further { result ≡ Ok true → length self.new.word ≡ length self.old.word + 1 }
-        ensures kind { FailsInText result }
-        ensures heard { Hears result self.old.ahead self.new.ahead }
+        ensures kind { AnyFaultIsOfTextOrSource result }
+        ensures heard { ResultTellsIfSourceFailed result self.old.ahead self.new.ahead }
     {
         let Some(b) = self.peek()? else {
             return Ok(false);
@@ -192,7 +201,7 @@ impl<R: Source> Scanner<R> {
                 line: self.line,
             });
         }
-        self.input.pass_byte();
+        self.input.skip_byte();
         self.word[self.len] = b;
         self.len += 1;
         Ok(true)
@@ -200,12 +209,13 @@ impl<R: Source> Scanner<R> {
 
     /// Reads the next word. The next byte must not be a blank or a line feed.
     pub fn read_word(&mut self) -> Result<(), GridFault>
-        ensures word { Agrees (word_from self.old.line []) self.old.ahead
-            (word_seen result self.new.word) self.new.ahead }
+        ensures word { ScanResultsBeforeAndAfterAgree
+            (word_continued_in_bytes self.old.line []) self.old.ahead
+            (word_from_call_result result self.new.word) self.new.ahead }
         ensures line { self.new.line ≡ self.old.line }
         ensures run { self.new.run ≡ 0 }
-        ensures kind { FailsInText result }
-        ensures heard { Hears result self.old.ahead self.new.ahead }
+        ensures kind { AnyFaultIsOfTextOrSource result }
+        ensures heard { ResultTellsIfSourceFailed result self.old.ahead self.new.ahead }
     {
         self.len = 0;
         self.run = 0;
@@ -219,7 +229,7 @@ impl<R: Source> Scanner<R> {
     }
 
     /// Begins a new run of blanks and line feeds.
-    pub fn end_run(&mut self)
+    pub fn begin_blank_run(&mut self)
         ensures { self.new ≡ record self.old { run = 0 } }
     {
         self.run = 0;
@@ -233,7 +243,7 @@ impl<R: Source> Scanner<R> {
     }
 
     /// Returns whether no blank or line feed was skipped since the last word.
-    pub fn is_behind_word(&self) -> bool
+    pub fn is_right_after_word(&self) -> bool
         ensures { result ≡ true → self.now.run ≡ 0 }
     {
         self.run == 0
@@ -290,7 +300,7 @@ impl<R: Source> Scanner<R> {
             buffered = [];
             rest = R.supposed source;
             ended = false;
-            heard = heard_first (R.asked source);
+            heard = knowledge_about_new_source (R.asked source);
           };
         }) }
         ensures unread { IfErr result (λ s. s ≡ source) }
@@ -312,7 +322,7 @@ impl<R: Source> Scanner<R> {
     pub fn into_source(self) -> R
         ensures rest { R.supposed result ≡ self.ahead.rest }
         ensures asked { self.ahead.heard.sure
-            ≡ is_at (R.asked result) self.ahead.ended self.ahead.heard.failed }
+            ≡ source_is_in_assumed_state (R.asked result) self.ahead.ended self.ahead.heard.failed }
     {
         self.input.into_source()
     }

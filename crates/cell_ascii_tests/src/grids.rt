@@ -1,15 +1,15 @@
 //! Tests of complete texts, read in pieces of seven bytes.
 
-ghost use Rattle.cell_ascii_meaning.specs.Writing.{IsNullText};
+ghost use Rattle.cell_ascii_meaning.specs.Writing.{IsValidNullText};
 
 use cell_ascii::grid_fault::{GridFault, GridKind};
 use cell_ascii::grid_reader::read_map;
 use cell_ascii::writer::write_map;
-use cell_ascii_reading::number::coordinate;
+use cell_ascii_reading::number::coordinate_of_text;
 use cell_core::device::DeviceFault;
 use cell_core::map::CellMap;
 use cell_core::region::RegionFault;
-use cell_core::sink::{Flushes, MemorySink, Sink};
+use cell_core::sink::{FlushCount, MemorySink, Sink};
 use cell_core::source::MemorySource;
 use cell_core_test_maps::assert_same;
 use std::alloc::AllocGlobal;
@@ -23,7 +23,7 @@ const GRID: &[u8] =
 #[derive(Drop)]
 struct Counting {
     puts: u32,
-    flushes: Flushes,
+    flushes: FlushCount,
 }
 
 impl Sink for Counting {
@@ -98,7 +98,7 @@ fn written<R: Abort + AllocGlobal>(
     null_text: &[u8],
     sink: MemorySink,
 ) -> Result<Vec<u8>, Fail>
-    requires { IsNullText null_text.now }
+    requires { IsValidNullText null_text.now }
 {
     let mut sink = sink;
     let length = write_map(map, null_text, &mut sink)?;
@@ -332,11 +332,11 @@ fn writes_without_a_flush(rt: HostRuntime) -> Result<(), Fail> {
     let map = read_good(&rt, GRID)?;
     let mut sink = Counting {
         puts: 0,
-        flushes: Flushes::Never,
+        flushes: FlushCount::Never,
     };
     let length = write_map(&map, b"*", &mut sink)?;
     assert_same!(rt; length, GRID.len() as u64);
-    assert_same!(rt; (sink.puts, sink.flushes), (1, Flushes::Never));
+    assert_same!(rt; (sink.puts, sink.flushes), (1, FlushCount::Never));
     Ok(())
 }
 
@@ -349,9 +349,9 @@ fn written_again<R: Abort + AllocGlobal>(rt: &R, text: &[u8]) -> Result<Vec<u8>,
 
 #[test]
 fn reads_what_it_writes(rt: HostRuntime) -> Result<(), Fail> {
-    assert_same!(rt; coordinate(b"10.50"), Some(1050000000));
-    assert_same!(rt; coordinate(b"-.25"), Some(-25000000));
-    assert_same!(rt; coordinate(b"north"), None);
+    assert_same!(rt; coordinate_of_text(b"10.50"), Some(1050000000));
+    assert_same!(rt; coordinate_of_text(b"-.25"), Some(-25000000));
+    assert_same!(rt; coordinate_of_text(b"north"), None);
     let row = b"north: 10.50\nsouth: -.25\neast: 4.\nwest: +0\nrows: 1\ncols: 2\n7 *";
     let map = read_good(&rt, row)?;
     let text = written_again(&rt, row)?;

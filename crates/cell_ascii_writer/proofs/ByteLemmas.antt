@@ -6,7 +6,7 @@ use Rattle.std.proofs.lemmas.Simd.{put_chunk_is}
 use Rattle.std.proofs.lemmas.Fmt.{decimal_digit, decimal_nonempty, decimal_step, length-decimal-le}
 use Rattle.std.proofs.Math.Nat.{pow-le-pow_right, pow-suc}
 use Rattle.std.proofs.Math.Seq.{take-append-add}
-use Rattle.cell_ascii_writer.specs.Fields.{low_bytes}
+use Rattle.cell_ascii_writer.specs.Fields.{lowest_bytes_of_number}
 use lib.Lanes.{number_l, digits_l, put_chunk}
 
 -- the low bytes of a number depend only on its low bits
@@ -35,7 +35,7 @@ digits-number (suc size) (suc all) (b ∷ bytes) le held below =
 
 -- the number loaded from a field has the field's space and text as its lowest bytes
 pub loaded : (field text : List ℕ) → 8 ≤ length field → length text ≤ 7 → ((k : ℕ) → get_or text k 0 < 256) → take (length text + 1) field ≡ 32 ∷ text
-    → low_bytes (number_l 256 (take 8 field) % 18446744073709551616) (length text + 1) ≡ 32 ∷ text
+    → lowest_bytes_of_number (number_l 256 (take 8 field) % 18446744073709551616) (length text + 1) ≡ 32 ∷ text
 loaded field text held few below is =
     let size = length text + 1 in
     let le : size ≤ 8 = omega arith in
@@ -53,7 +53,7 @@ digits-fewer (suc size) zero n le = absurd (omega arith)
 digits-fewer (suc size) (suc all) n le = ap (λ (l : List ℕ). (n % 256) ∷ l) (digits-fewer size all (n / 256) (omega arith))
 
 -- storing a number's eight bytes keeps the bytes before them and writes the number's lowest `size` bytes
-pub stored : (line : List ℕ) (at bytes size : ℕ) → at + 8 ≤ length line → size ≤ 8 → take (at + size) (put_chunk at line (digits_l 256 8 (bytes + 0))) ≡ take at line ++ low_bytes bytes size
+pub stored : (line : List ℕ) (at bytes size : ℕ) → at + 8 ≤ length line → size ≤ 8 → take (at + size) (put_chunk at line (digits_l 256 8 (bytes + 0))) ≡ take at line ++ lowest_bytes_of_number bytes size
 stored line at bytes size room few =
     let same : bytes + 0 ≡ bytes = omega arith in
     let eight = digits_l 256 8 (bytes + 0) in
@@ -66,7 +66,8 @@ stored line at bytes size room few =
     ∙ ap (λ (l : List ℕ). take at line ++ l) (take-append-le size eight (drop (length eight) (drop at line)) short ∙ digits-fewer size 8 (bytes + 0) few ∙ ap (digits_l 256 size) same)
 
 -- adding a lowest byte to a number puts it before the number's bytes
-pub low_bytes-more : (bytes size d : ℕ) → d < 256 → low_bytes (bytes * 256 + d) (size + 1) ≡ d ∷ low_bytes bytes size
+pub low_bytes-more : (bytes size d : ℕ) → d < 256 → lowest_bytes_of_number (bytes * 256 + d) (size + 1) ≡ d
+    ∷ lowest_bytes_of_number bytes size
 low_bytes-more bytes size d small =
     let count : size + 1 ≡ suc size = omega arith in
     let first : (bytes * 256 + d) % 256 ≡ d = omega arith in

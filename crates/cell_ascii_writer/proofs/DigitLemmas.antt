@@ -5,18 +5,19 @@ use Rattle.std.proofs.lemmas.Nat.{pow-add, div-mul-add, mod-pow-add}
 use Rattle.std.proofs.lemmas.Bool.{cases_lt}
 use Rattle.std.proofs.Math.Nat.{pow-suc, mul-add, mul_assoc, mul_comm, mul-le-mul_left, pow-le-pow_right}
 use Rattle.std.specs.Int.Count.{count_trailing_zeros, under}
-use Rattle.cell_ascii_writer.specs.Fields.{digit_values, low_bytes}
+use Rattle.cell_ascii_writer.specs.Fields.{last_digits_one_per_byte, lowest_bytes_of_number}
 use lib.Lanes.{digits_l}
 
 -- the digits of a number of two parts are the digits of the parts
 pub values-parts : (j k upper lower : ℕ) → lower < 10 ^ k
-    → digit_values (j + k) (upper * 10 ^ k + lower) ≡ digit_values j upper + 256 ^ j * digit_values k lower
+    → last_digits_one_per_byte (j + k) (upper * 10 ^ k + lower)
+    ≡ last_digits_one_per_byte j upper + 256 ^ j * last_digits_one_per_byte k lower
 values-parts j zero upper lower few =
     let none : lower ≡ 0 = omega arith in
     let count : j + 0 ≡ j = omega arith in
     let number : upper * 1 + lower ≡ upper = omega arith in
-    let rest : digit_values j upper + 256 ^ j * 0 ≡ digit_values j upper = omega arith in
-    ap₂ digit_values count number ∙ sym rest
+    let rest : last_digits_one_per_byte j upper + 256 ^ j * 0 ≡ last_digits_one_per_byte j upper = omega arith in
+    ap₂ last_digits_one_per_byte count number ∙ sym rest
 values-parts j (suc k) upper lower few =
     let count : j + suc k ≡ suc (j + k) = omega arith in
     let power : 10 ^ suc k ≡ 10 ^ k * 10 = pow-suc 10 k in
@@ -26,31 +27,32 @@ values-parts j (suc k) upper lower few =
     let number = upper * 10 ^ suc k + lower in
     let front : number / 10 ≡ p + lower / 10 = omega (arith, big) in
     let last : number % 10 ≡ lower % 10 = omega (arith, big) in
-    let a = digit_values j upper in
-    let b = digit_values k (lower / 10) in
+    let a = last_digits_one_per_byte j upper in
+    let b = last_digits_one_per_byte k (lower / 10) in
     let d = lower % 10 in
     let ends : 256 ^ (j + k) * d ≡ 256 ^ j * (256 ^ k * d) =
     ap (λ (x : ℕ). x * d) (pow-add 256 j k) ∙ mul_assoc (256 ^ j) (256 ^ k) d in
     let both : 256 ^ j * (b + 256 ^ k * d) ≡ 256 ^ j * b + 256 ^ j * (256 ^ k * d) =
     mul-add (256 ^ j) b (256 ^ k * d) in
     let rest : (a + 256 ^ j * b) + 256 ^ (j + k) * d ≡ a + 256 ^ j * (b + 256 ^ k * d) = omega (arith, ends, both) in
-    ap (λ (n : ℕ). digit_values n number) count
-    ∙ ap₂ (λ (n e : ℕ). digit_values (j + k) n + 256 ^ (j + k) * e) front last
+    ap (λ (n : ℕ). last_digits_one_per_byte n number) count
+    ∙ ap₂ (λ (n e : ℕ). last_digits_one_per_byte (j + k) n + 256 ^ (j + k) * e) front last
     ∙ ap (λ (v : ℕ). v + 256 ^ (j + k) * d) (values-parts j k upper (lower / 10) less)
     ∙ rest
 
 -- the digits of 0 are zeros
-values-none : (k : ℕ) → digit_values k 0 ≡ 0
+values-none : (k : ℕ) → last_digits_one_per_byte k 0 ≡ 0
 values-none zero = refl
 values-none (suc k) =
     let rest : 0 + 256 ^ k * 0 ≡ 0 = omega arith in
     ap (λ (v : ℕ). v + 256 ^ k * 0) (values-none k) ∙ rest
 
 -- a smaller number has zeros before its digits
-values-after_zeros : (z k n : ℕ) → n < 10 ^ k → digit_values (z + k) n ≡ 256 ^ z * digit_values k n
+values-after_zeros : (z k n : ℕ) → n < 10 ^ k → last_digits_one_per_byte (z + k) n
+    ≡ 256 ^ z * last_digits_one_per_byte k n
 values-after_zeros z k n few =
     let whole : 0 * 10 ^ k + n ≡ n = omega arith in
-    let parts = ap (digit_values (z + k)) (sym whole) ∙ values-parts z k 0 n few in
+    let parts = ap (last_digits_one_per_byte (z + k)) (sym whole) ∙ values-parts z k 0 n few in
     omega (arith, parts, values-none z)
 
 -- k bytes that are each the digit 0
@@ -80,7 +82,7 @@ zeros-below (suc k) =
     let ih = zeros-below k in
     omega arith
 
-pub text-below : (k n : ℕ) → digit_values k n + zeros k < 256 ^ k
+pub text-below : (k n : ℕ) → last_digits_one_per_byte k n + zeros k < 256 ^ k
 text-below zero n = omega arith
 text-below (suc k) n =
     let power : 256 ^ suc k ≡ 256 ^ k * 256 = pow-suc 256 k in
@@ -91,7 +93,8 @@ text-below (suc k) n =
     omega arith
 
 -- adding a highest byte to a number puts it after the number's bytes
-low_bytes-last : (k a d : ℕ) → a < 256 ^ k → d < 256 → low_bytes (a + 256 ^ k * d) (suc k) ≡ low_bytes a k ++ d ∷ []
+low_bytes-last : (k a d : ℕ) → a < 256 ^ k → d < 256 → lowest_bytes_of_number (a + 256 ^ k * d) (suc k)
+    ≡ lowest_bytes_of_number a k ++ d ∷ []
 low_bytes-last zero a d few small =
     let number : (a + 1 * d) % 256 ≡ d = omega arith in
     ap (λ (x : ℕ). x ∷ []) number
@@ -107,7 +110,7 @@ low_bytes-last (suc k) a d few small =
 
 -- the digits of a number of k + 1 digits are its decimal text
 pub values-decimal : (k n : ℕ) → 10 ^ k ≤ n → n < 10 ^ suc k → n < 2 ^ 64
-    → low_bytes (digit_values (suc k) n + zeros (suc k)) (suc k) ≡ decimal n
+    → lowest_bytes_of_number (last_digits_one_per_byte (suc k) n + zeros (suc k)) (suc k) ≡ decimal n
 values-decimal zero n many few wide =
     let one : n < 10 = omega arith in
     let number : ((0 + 1 * (n % 10)) + (0 + 1 * 48)) % 256 ≡ 48 + n = omega arith in
@@ -122,12 +125,12 @@ values-decimal (suc k) n many few wide =
     let short : n / 10 < 2 ^ 64 = omega (arith, wide) in
     let p = 256 ^ suc k in
     let d = n % 10 in
-    let a = digit_values (suc k) (n / 10) + zeros (suc k) in
+    let a = last_digits_one_per_byte (suc k) (n / 10) + zeros (suc k) in
     let parts : p * (48 + d) ≡ p * 48 + p * d = mul-add p 48 d in
-    let number : (digit_values (suc k) (n / 10) + p * d) + (zeros (suc k) + p * 48) ≡ a + p * (48 + d) =
+    let number : (last_digits_one_per_byte (suc k) (n / 10) + p * d) + (zeros (suc k) + p * 48) ≡ a + p * (48 + d) =
     omega (arith, parts) in
     let small : 48 + d < 256 = omega arith in
-    ap (λ (x : ℕ). low_bytes x (suc (suc k))) number
+    ap (λ (x : ℕ). lowest_bytes_of_number x (suc (suc k))) number
     ∙ low_bytes-last (suc k) a (48 + d) (text-below (suc k) (n / 10)) small
     ∙ ap (λ (l : List ℕ). l ++ (48 + d) ∷ []) (values-decimal k (n / 10) more less short)
     ∙ sym (decimal_step n two wide)
@@ -137,7 +140,7 @@ values-decimal (suc k) n many few wide =
     pow-some (suc k) = omega (arith, pow-suc 10 k, pow-some k)
 
 -- the first digit of a number of k + 1 digits is not 0
-values-first : (k n : ℕ) → 10 ^ k ≤ n → n < 10 ^ suc k → 0 < digit_values (suc k) n % 256
+values-first : (k n : ℕ) → 10 ^ k ≤ n → n < 10 ^ suc k → 0 < last_digits_one_per_byte (suc k) n % 256
 values-first zero n many few = omega arith
 values-first (suc k) n many few =
     let power : 10 ^ suc k ≡ 10 ^ k * 10 = pow-suc 10 k in
@@ -228,18 +231,19 @@ has-digits (suc most) n some few =
 pub record AreDigits (number before bytes : ℕ) : Type 0 where
   pub most : before ≤ 5
   pub small : bytes < 281474976710656
-  pub text : low_bytes bytes (6 - before) ≡ decimal number
+  pub text : lowest_bytes_of_number bytes (6 - before) ≡ decimal number
 
-pub digits-text : (n x before : ℕ) → 0 < n → n < 1000000 → x ≡ digit_values 6 n → before ≡ count_trailing_zeros 64 x / 8
+pub digits-text : (n x before : ℕ) → 0 < n → n < 1000000 → x ≡ last_digits_one_per_byte 6 n
+    → before ≡ count_trailing_zeros 64 x / 8
     → AreDigits n before ((x + 52983525027888) / 2 ^ (8 * before))
 digits-text n x before some few is found =
     let has = has-digits 6 n some few in
     let z = has.before in
     let k = has.others in
-    let v = digit_values (suc k) n in
+    let v = last_digits_one_per_byte (suc k) n in
     let wide : n < 2 ^ 64 = omega (arith, few) in
     let values : x ≡ 256 ^ z * v =
-    is ∙ ap (λ (j : ℕ). digit_values j n) (sym has.all) ∙ values-after_zeros z (suc k) n has.few in
+    is ∙ ap (λ (j : ℕ). last_digits_one_per_byte j n) (sym has.all) ∙ values-after_zeros z (suc k) n has.few in
     let within : z ≤ 5 = omega (arith, has.all) in
     let seven : z ≤ 7 = omega (arith, within) in
     let same : before ≡ z =
@@ -262,19 +266,20 @@ digits-text n x before some few is found =
     record {
       most = omega (arith, same, within);
       small = omega (arith, text, text-below (suc k) n, pow-le-pow_right {n = 256} some_byte {i = suc k} {j = 6} least);
-      text = ap₂ low_bytes text size ∙ values-decimal k n has.many has.few wide;
+      text = ap₂ lowest_bytes_of_number text size ∙ values-decimal k n has.many has.few wide;
     }
 
 -- the text of a number of seven digits is its first digit and the six others
-pub seven-digits : (n x : ℕ) → 1000000 ≤ n → n < 10000000 → x ≡ digit_values 6 (n % 1000000)
-    → low_bytes ((x + 52983525027888) * 256 + (n / 1000000 + 48)) 7 ≡ decimal n
+pub seven-digits : (n x : ℕ) → 1000000 ≤ n → n < 10000000 → x ≡ last_digits_one_per_byte 6 (n % 1000000)
+    → lowest_bytes_of_number ((x + 52983525027888) * 256 + (n / 1000000 + 48)) 7 ≡ decimal n
 seven-digits n x many few is =
     let wide : n < 2 ^ 64 = omega (arith, few) in
     let lower : n % 1000000 < 1000000 = omega arith in
     let parts : n / 1000000 * 1000000 + n % 1000000 ≡ n = omega arith in
     let first : n / 1000000 % 10 ≡ n / 1000000 = omega (arith, few) in
-    let values : digit_values 7 n ≡ (0 + 1 * (n / 1000000 % 10)) + 256 * digit_values 6 (n % 1000000) =
-    ap (digit_values 7) (sym parts) ∙ values-parts 1 6 (n / 1000000) (n % 1000000) lower in
-    let bytes : (x + 52983525027888) * 256 + (n / 1000000 + 48) ≡ digit_values 7 n + 13563782407139376 =
+    let values : last_digits_one_per_byte 7 n ≡ (0 + 1 * (n / 1000000 % 10)) + 256 * last_digits_one_per_byte 6
+    (n % 1000000) =
+    ap (last_digits_one_per_byte 7) (sym parts) ∙ values-parts 1 6 (n / 1000000) (n % 1000000) lower in
+    let bytes : (x + 52983525027888) * 256 + (n / 1000000 + 48) ≡ last_digits_one_per_byte 7 n + 13563782407139376 =
     omega (arith, is, values, first) in
-    ap (λ (y : ℕ). low_bytes y 7) bytes ∙ values-decimal 6 n many few wide
+    ap (λ (y : ℕ). lowest_bytes_of_number y 7) bytes ∙ values-decimal 6 n many few wide

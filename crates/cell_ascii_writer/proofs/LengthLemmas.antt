@@ -5,19 +5,19 @@ use Rattle.std.proofs.lemmas.Bool.Decides.{nat_tests}
 use Rattle.std.proofs.lemmas.Fmt.{length-decimal-le}
 use Rattle.cell_core_values.specs.Region.{RegionValue}
 use Rattle.std.specs.Prelude.{bytes_eq}
-use Rattle.cell_ascii_meaning.specs.Header.{usual_null}
+use Rattle.cell_ascii_meaning.specs.Header.{usual_null_text}
 use lib.Signed.{mag}
 use Rattle.std.proofs.lemmas.Int.{ints}
 use Rattle.std.proofs.lemmas.List.Elements.{All-map}
 use Rattle.std.proofs.lemmas.Fmt.{length_signed_le}
 use Rattle.std.proofs.lemmas.List.{length-map}
-use Rattle.cell_core_values.specs.Cell.{IsCell, is_category}
-use Rattle.cell_core.specs.Grid.{CellValue, Grid, IsFilled, AreCells}
+use Rattle.cell_core_values.specs.Cell.{IsNullOrCategory, is_category}
+use Rattle.cell_core.specs.Grid.{CellValue, Grid, RowsFillRegion, CellsAreNullOrCategories}
 use Rattle.cell_core.specs.Text.{cell_text}
-use Rattle.cell_ascii_meaning.specs.Writing.{coordinate_text, fraction_text, grid_text, line_of_key, null_line, region_text, row_text, units_text, without_zeros}
+use Rattle.cell_ascii_meaning.specs.Writing.{coordinate_text, fraction_text, grid_text, key_line, null_text_header_line, header_lines_of_region, row_text, unsigned_coordinate_text, digits_without_trailing_zeros}
 use Rattle.cell_ascii_writer.proofs.WriterLemmas.{fraction_text-some}
 
-zeros_le : (digits : List ℕ) {most : ℕ} → length digits ≤ most → length (without_zeros digits) ≤ most
+zeros_le : (digits : List ℕ) {most : ℕ} → length digits ≤ most → length (digits_without_trailing_zeros digits) ≤ most
 zeros_le digits h = omega (arith, h, length-take (length digits - prefix_len (λ b. b == 48) (reverse digits)) digits)
 
 decimal_20 : (n : ℕ) → n < 18446744073709551616 → length (decimal n) ≤ 20
@@ -26,11 +26,11 @@ decimal_20 n h = length-decimal-le 20 n (omega arith) (omega (arith, h)) h
 eight : (part : ℕ) → part < 100000000 → length (drop 1 (decimal (100000000 + part))) ≤ 20
 eight part h = omega (arith, decimal_20 (100000000 + part) (omega (arith, h)), length-drop 1 (decimal (100000000 + part)))
 
-some_fraction : (part : ℕ) → part < 100000000 → length ((46 ∷ []) ++ without_zeros (drop 1 (decimal (100000000 + part)))) ≤ 21
+some_fraction : (part : ℕ) → part < 100000000 → length ((46 ∷ []) ++ digits_without_trailing_zeros (drop 1 (decimal (100000000 + part)))) ≤ 21
 some_fraction part h =
     let digits = drop 1 (decimal (100000000 + part)) in
-    let few : length (without_zeros digits) ≤ 20 = zeros_le digits (eight part h) in
-    omega (arith, few, length-append (46 ∷ []) (without_zeros digits))
+    let few : length (digits_without_trailing_zeros digits) ≤ 20 = zeros_le digits (eight part h) in
+    omega (arith, few, length-append (46 ∷ []) (digits_without_trailing_zeros digits))
 
 fraction_if : (part : ℕ) → part < 100000000 → (none : Bool) → (part == 0) ≡ none → length (fraction_text part) ≤ 21
 fraction_if part h true e = rw e (omega arith)
@@ -39,32 +39,32 @@ fraction_if part h false e = rw (fraction_text-some part (grind (arith, nat_test
 fraction : (part : ℕ) → part < 100000000 → length (fraction_text part) ≤ 21
 fraction part h = fraction_if part h (part == 0) refl
 
-units : (n : ℕ) → n < 18446744073709551616 → length (units_text n) ≤ 41
+units : (n : ℕ) → n < 18446744073709551616 → length (unsigned_coordinate_text n) ≤ 41
 units n h = omega (arith, decimal_20 (n / 100000000) (omega (arith, h)), fraction (n % 100000000) (omega arith), length-append (decimal (n / 100000000)) (fraction_text (n % 100000000)))
 
 pub coordinate : (z : ℤ) → unsigned_abs z < 18446744073709551616 → length (coordinate_text z) ≤ 42
 coordinate (pos n) h = omega (arith, units n h)
 coordinate (negsuc n) h = omega (arith, units (suc n) h)
 
-line : (key value : List ℕ) → length (line_of_key key value) ≡ length key + length value + 3
+line : (key value : List ℕ) → length (key_line key value) ≡ length key + length value + 3
 line key value = omega (arith, length-append ((key ++ codes ": ") ++ value) (10 ∷ []), length-append (key ++ codes ": ") value, length-append key (codes ": "))
 
-edge_line : (key : List ℕ) (z : ℤ) → length key ≤ 5 → unsigned_abs z < 18446744073709551616 → length (line_of_key key (coordinate_text z)) ≤ 50
+edge_line : (key : List ℕ) (z : ℤ) → length key ≤ 5 → unsigned_abs z < 18446744073709551616 → length (key_line key (coordinate_text z)) ≤ 50
 edge_line key z few h = omega (arith, line key (coordinate_text z), coordinate z h, few)
 
-side_line : (key : List ℕ) (n : ℕ) → length key ≤ 5 → n ≤ 65535 → length (line_of_key key (decimal n)) ≤ 28
+side_line : (key : List ℕ) (n : ℕ) → length key ≤ 5 → n ≤ 65535 → length (key_line key (decimal n)) ≤ 28
 side_line key n few h = omega (arith, line key (decimal n), decimal_20 n (omega (arith, h)), few)
 
 -- the lines of a region have at most 256 bytes
 pub region_length : (e : RegionValue) → unsigned_abs e.north < 18446744073709551616 → unsigned_abs e.south < 18446744073709551616 → unsigned_abs e.east < 18446744073709551616 → unsigned_abs e.west < 18446744073709551616
-    → e.rows ≤ 65535 → e.cols ≤ 65535 → length (region_text e) ≤ 256
+    → e.rows ≤ 65535 → e.cols ≤ 65535 → length (header_lines_of_region e) ≤ 256
 region_length e north south east west rows cols =
-    let a = line_of_key (codes "north") (coordinate_text e.north) in
-    let b = line_of_key (codes "south") (coordinate_text e.south) in
-    let c = line_of_key (codes "east") (coordinate_text e.east) in
-    let d = line_of_key (codes "west") (coordinate_text e.west) in
-    let r = line_of_key (codes "rows") (decimal e.rows) in
-    let s = line_of_key (codes "cols") (decimal e.cols) in
+    let a = key_line (codes "north") (coordinate_text e.north) in
+    let b = key_line (codes "south") (coordinate_text e.south) in
+    let c = key_line (codes "east") (coordinate_text e.east) in
+    let d = key_line (codes "west") (coordinate_text e.west) in
+    let r = key_line (codes "rows") (decimal e.rows) in
+    let s = key_line (codes "cols") (decimal e.cols) in
     omega (
       arith,
       edge_line (codes "north") e.north (omega arith) north,
@@ -81,10 +81,10 @@ region_length e north south east west rows cols =
     )
 
 -- the line of a null text has at most 71 bytes
-pub null_length : (null : List ℕ) → length null ≤ 64 → length (null_line null) ≤ 71
-null_length null few = by (bytes_eq null usual_null) refl
+pub null_length : (null : List ℕ) → length null ≤ 64 → length (null_text_header_line null) ≤ 71
+null_length null few = by (bytes_eq null usual_null_text) refl
   where
-    by : (usual : Bool) → bytes_eq null usual_null ≡ usual → length (null_line null) ≤ 71
+    by : (usual : Bool) → bytes_eq null usual_null_text ≡ usual → length (null_text_header_line null) ≤ 71
     by true e = rw e (omega arith)
     by false e = rw e (omega (arith, line (codes "null") null, few))
 
@@ -105,22 +105,23 @@ category_below : (c : ℤ) → is_category c ≡ true → mag c < 2147483648
 category_below (pos n) h = grind (arith, ints)
 category_below (negsuc n) h = grind (arith, ints)
 
-cell : (null : List ℕ) → length null ≤ 64 → (cell : CellValue) → IsCell cell → length (cell_text null cell) ≤ 64
+cell : (null : List ℕ) → length null ≤ 64 → (cell : CellValue) → IsNullOrCategory cell
+    → length (cell_text null cell) ≤ 64
 cell null few None is = few
 cell null few (Some c) is = let below = category_below c is in omega (arith, length_signed_le 19 c (omega (arith, below)) (omega (arith, below)))
 
-cells : (null : List ℕ) → length null ≤ 64 → (row : List CellValue) → All IsCell row → All (λ t. length t ≤ 64) (map (cell_text null) row)
+cells : (null : List ℕ) → length null ≤ 64 → (row : List CellValue) → All IsNullOrCategory row → All (λ t. length t ≤ 64) (map (cell_text null) row)
 cells null few row are = All-map (λ t. length t ≤ 64) (cell_text null) row (λ i d h. cell null few (get_or row i d) (are i d h))
 
-row_length : (null : List ℕ) → length null ≤ 64 → (row : List CellValue) → All IsCell row → length row ≤ 65535 → length (row_text null row) ≤ 4259776
+row_length : (null : List ℕ) → length null ≤ 64 → (row : List CellValue) → All IsNullOrCategory row → length row ≤ 65535 → length (row_text null row) ≤ 4259776
 row_length null few row are narrow =
     let texts = map (cell_text null) row in
     omega (arith, joined 32 texts (cells null few row are), length-map row (cell_text null), narrow, length-append (join_with_byte 32 texts) (10 ∷ []))
 
 -- the length of a grid text is below the largest count
-pub grid_length : (null : List ℕ) → length null ≤ 64 → (m : Grid) → length (region_text m.region) ≤ 256 → m.region.rows ≤ 65535 → m.region.cols ≤ 65535 → IsFilled m.region m.rows → AreCells m.rows
+pub grid_length : (null : List ℕ) → length null ≤ 64 → (m : Grid) → length (header_lines_of_region m.region) ≤ 256 → m.region.rows ≤ 65535 → m.region.cols ≤ 65535 → RowsFillRegion m.region m.rows → CellsAreNullOrCategories m.rows
     → length (grid_text null m) < 18446744073709551615
 grid_length null few m region rows cols filled are =
     let text = flat_map (row_text null) m.rows in
     let lines = one_after_another (row_text null) m.rows (λ i d h. row_length null few (get_or m.rows i d) (are i d h) (omega (arith, filled.width i d h, cols))) in
-    omega (arith, region, rows, null_length null few, lines, filled.count, length-append (region_text m.region ++ null_line null) text, length-append (region_text m.region) (null_line null))
+    omega (arith, region, rows, null_length null few, lines, filled.count, length-append (header_lines_of_region m.region ++ null_text_header_line null) text, length-append (header_lines_of_region m.region) (null_text_header_line null))

@@ -7,11 +7,12 @@ use Rattle.std.specs.Prelude.{All, IfOk, OnOk, reverse}
 use Rattle.cell_core.specs.Grid.{CellValue}
 use Rattle.cell_calc_grammar.specs.declared.step.Step.{Step}
 use Rattle.cell_calc.specs.declared.strip.Operand.{Operand}
-use Rattle.cell_calc.specs.declared.strip.Strip.{Strip}
-use Rattle.cell_calc.specs.Window.{Window}
-use Rattle.cell_calc.specs.parts.Operands.{operand_at, operand_cells_at, seen_cell, position_at}
-use Rattle.cell_calc_grammar.specs.Postfix.{arity, values_after, AreEnough}
-use Rattle.cell_calc.specs.RowValues.{at, column}
+use Rattle.cell_calc.specs.declared.strip.RowStrip.{RowStrip}
+use Rattle.cell_calc.specs.Window.{RowWindowValue}
+use Rattle.cell_calc.specs.parts.Operands.{operand_cell_in_strip_column, operand_cells_in_strip_column}
+use Rattle.cell_calc.specs.parts.Operands.{step_result_from_windows, position_of_strip_column}
+use Rattle.cell_calc_grammar.specs.Postfix.{arity_of_step, operands_after_steps, StepsHaveEnoughOperands}
+use Rattle.cell_calc.specs.RowValues.{at, cells_at_column}
 use Rattle.cell_calc_grammar.proofs.PostfixLemmas.{one_step}
 
 -- removing n appended items from a list leaves the list before them
@@ -55,57 +56,62 @@ pub no_steps : (steps : List (Step ℕ)) (i : ℕ) → length steps ≤ i → dr
 no_steps steps i le = nil_from_length (drop i steps) (omega (arith, length-drop i steps))
 
 -- if steps have enough operands, so do the next step and the steps after it
-pub enough_at : (steps : List (Step ℕ)) (i n : ℕ) (d : Step ℕ) → i < length steps → AreEnough (drop i steps) n → arity (get_or steps i d) ≤ n
+pub enough_at : (steps : List (Step ℕ)) (i n : ℕ) (d : Step ℕ) → i < length steps → StepsHaveEnoughOperands (drop i steps) n → arity_of_step (get_or steps i d) ≤ n
 enough_at steps i n d lt h = let all = rw (steps_from steps i d lt) at h in all.0
 
-pub enough_more : (steps : List (Step ℕ)) (i : ℕ) (d : Step ℕ) {X : Type 0} (old new : List X) (o : X) → i < length steps → AreEnough (drop i steps) (length old)
-    → new ≡ take (length old - arity (get_or steps i d)) old ++ o ∷ [] → AreEnough (drop (i + 1) steps) (length new)
+pub enough_more : (steps : List (Step ℕ)) (i : ℕ) (d : Step ℕ) {X : Type 0} (old new : List X) (o : X) → i < length steps → StepsHaveEnoughOperands (drop i steps) (length old)
+    → new ≡ take (length old - arity_of_step (get_or steps i d)) old ++ o ∷ []
+    → StepsHaveEnoughOperands (drop (i + 1) steps) (length new)
 enough_more steps i d old new o lt h is =
     let all = rw (steps_from steps i d lt) at h in
-    let n = length old - arity (get_or steps i d) in
-    let count : length new ≡ length old - arity (get_or steps i d) + 1 =
+    let n = length old - arity_of_step (get_or steps i d) in
+    let count : length new ≡ length old - arity_of_step (get_or steps i d) + 1 =
     ap (λ l. length l) is ∙ length-append (take n old) (o ∷ []) ∙ ap (λ k. k + 1) (length-take-le n old (omega arith)) in
     rw count all.1
 
 -- one more step along a strip gives the step's value at column c
-pub step_more : (windows : List Window) (strip : Strip) (steps : List (Step ℕ)) (i c : ℕ) (d : Step ℕ) (old new : List Operand) (o : Operand) (end : List CellValue)
-    → i < length steps → arity (get_or steps i d) ≤ length old → new ≡ take (length old - arity (get_or steps i d)) old ++ o ∷ []
-    → operand_at windows strip c o ≡ seen_cell windows (position_at strip c) (get_or steps i d) (operand_cells_at windows strip c (drop (length old - arity (get_or steps i d)) old))
-    → values_after (seen_cell windows (position_at strip c)) (drop i steps) (operand_cells_at windows strip c old) ≡ end
-    → values_after (seen_cell windows (position_at strip c)) (drop (i + 1) steps) (operand_cells_at windows strip c new) ≡ end
+pub step_more : (windows : List RowWindowValue) (strip : RowStrip) (steps : List (Step ℕ)) (i c : ℕ) (d : Step ℕ) (old new : List Operand) (o : Operand) (end : List CellValue)
+    → i < length steps → arity_of_step (get_or steps i d) ≤ length old → new ≡ take (length old - arity_of_step (get_or steps i d)) old ++ o ∷ []
+    → operand_cell_in_strip_column windows strip c o ≡ step_result_from_windows windows (position_of_strip_column strip c) (get_or steps i d) (operand_cells_in_strip_column windows strip c (drop (length old - arity_of_step (get_or steps i d)) old))
+    → operands_after_steps (step_result_from_windows windows (position_of_strip_column strip c)) (drop i steps)
+    (operand_cells_in_strip_column windows strip c old) ≡ end
+    → operands_after_steps (step_result_from_windows windows (position_of_strip_column strip c)) (drop (i + 1) steps) (operand_cells_in_strip_column windows strip c new) ≡ end
 step_more windows strip steps i c d old new o end lt le is made before =
-    let f = λ (p : Operand). operand_at windows strip c p in
-    let g = λ (s : Step ℕ) (xs : List CellValue). seen_cell windows (position_at strip c) s xs in
+    let f = λ (p : Operand). operand_cell_in_strip_column windows strip c p in
+    let g = λ (s : Step ℕ) (xs : List CellValue). step_result_from_windows windows
+    (position_of_strip_column strip c) s xs in
     let s = get_or steps i d in
-    let n = length old - arity s in
+    let n = length old - arity_of_step s in
     let split : map f old ≡ map f (take n old) ++ map f (drop n old) = ap (λ l. map f l) (sym (take-append-drop n old)) ∙ map-append f (take n old) (drop n old) in
-    let taken : length (drop n old) ≡ arity s = omega (arith, length-drop n old, le) in
-    ap (λ l. values_after g (drop (i + 1) steps) l)
+    let taken : length (drop n old) ≡ arity_of_step s = omega (arith, length-drop n old, le) in
+    ap (λ l. operands_after_steps g (drop (i + 1) steps) l)
     (ap (λ l. map f l) is ∙ map-append f (take n old) (o ∷ []) ∙ ap (λ v. map f (take n old) ++ v ∷ []) made)
     ∙ sym (one_step g s (drop (i + 1) steps) (map f (take n old)) (map f (drop n old)) (length-map (drop n old) f ∙ taken))
-    ∙ ap (λ l. values_after g (s ∷ drop (i + 1) steps) l) (sym split)
-    ∙ ap (λ l. values_after g l (map f old)) (sym (steps_from steps i d lt)) ∙ before
+    ∙ ap (λ l. operands_after_steps g (s ∷ drop (i + 1) steps) l) (sym split)
+    ∙ ap (λ l. operands_after_steps g l (map f old)) (sym (steps_from steps i d lt)) ∙ before
 
 -- after the last step, the only remaining operand is the value
-pub end_value : (windows : List Window) (strip : Strip) (steps : List (Step ℕ)) (i c : ℕ) (old : List Operand) (o : Operand) (end : List CellValue)
-    → drop i steps ≡ [] → old ≡ o ∷ [] → values_after (seen_cell windows (position_at strip c)) (drop i steps) (operand_cells_at windows strip c old) ≡ end
-    → operand_at windows strip c o ∷ [] ≡ end
-end_value windows strip steps i c old o end none only is =
-    let g = λ (s : Step ℕ) (xs : List CellValue). seen_cell windows (position_at strip c) s xs in
-    ap (λ l. values_after g l (operand_at windows strip c o ∷ [])) (sym none)
-    ∙ ap (λ l. values_after g (drop i steps) (operand_cells_at windows strip c l)) (sym only) ∙ is
+pub end_frame_as_value : (windows : List RowWindowValue) (strip : RowStrip) (steps : List (Step ℕ)) (i c : ℕ) (old : List Operand) (o : Operand) (end : List CellValue)
+    → drop i steps ≡ [] → old ≡ o ∷ [] → operands_after_steps (step_result_from_windows windows (position_of_strip_column strip c)) (drop i steps) (operand_cells_in_strip_column windows strip c old) ≡ end
+    → operand_cell_in_strip_column windows strip c o ∷ [] ≡ end
+end_frame_as_value windows strip steps i c old o end none only is =
+    let g = λ (s : Step ℕ) (xs : List CellValue). step_result_from_windows windows
+    (position_of_strip_column strip c) s xs in
+    ap (λ l. operands_after_steps g l (operand_cell_in_strip_column windows strip c o ∷ [])) (sym none)
+    ∙ ap (λ l. operands_after_steps g (drop i steps) (operand_cells_in_strip_column windows strip c l)) (sym only) ∙ is
 
 -- one more row of arguments adds its cell to the column; the last argument comes first
-pub gather_more : {V : Type 0} (f : V → List CellValue) (windows : List Window) (strip : Strip) (c : ℕ) (old before new : List Operand) (a : Operand) (j : ℕ) (rows : List V) (row : V)
+pub gather_more : {V : Type 0} (f : V → List CellValue) (windows : List RowWindowValue) (strip : RowStrip) (c : ℕ) (old before new : List Operand) (a : Operand) (j : ℕ) (rows : List V) (row : V)
     → j ≤ length old → before ≡ take (length old - j) old → before ≡ new ++ a ∷ []
-    → column c (map f rows) ≡ reverse (operand_cells_at windows strip c (drop (length old - j) old)) → at (f row) c ≡ operand_at windows strip c a
-    → column c (map f (rows ++ row ∷ [])) ≡ reverse (operand_cells_at windows strip c (drop (length old - (j + 1)) old))
+    → cells_at_column c (map f rows) ≡ reverse (operand_cells_in_strip_column windows strip c (drop (length old - j) old)) → at (f row) c ≡ operand_cell_in_strip_column windows strip c a
+    → cells_at_column c (map f (rows ++ row ∷ [])) ≡ reverse (operand_cells_in_strip_column windows strip c
+    (drop (length old - (j + 1)) old))
 gather_more f windows strip c old before new a j rows row le is popped so_far here =
-    let cells = operand_cells_at windows strip c (drop (length old - j) old) in
-    ap (λ l. column c l) (map-append f rows (row ∷ [])) ∙ map-append (λ r. at r c) (map f rows) (f row ∷ [])
+    let cells = operand_cells_in_strip_column windows strip c (drop (length old - j) old) in
+    ap (λ l. cells_at_column c l) (map-append f rows (row ∷ [])) ∙ map-append (λ r. at r c) (map f rows) (f row ∷ [])
     ∙ ap (λ l. l ++ at (f row) c ∷ []) so_far ∙ ap (λ v. reverse cells ++ v ∷ []) here
-    ∙ sym (reverse-append (operand_at windows strip c a ∷ []) cells)
-    ∙ ap (λ l. reverse (operand_cells_at windows strip c l)) (back_more old before new a j le is popped)
+    ∙ sym (reverse-append (operand_cell_in_strip_column windows strip c a ∷ []) cells)
+    ∙ ap (λ l. reverse (operand_cells_in_strip_column windows strip c l)) (back_more old before new a j le is popped)
 
 map-reverse : {X Y : Type 0} (f : X → Y) (xs : List X) → map f (reverse xs) ≡ reverse (map f xs)
 map-reverse f [] = refl
@@ -115,9 +121,9 @@ map-reverse f (x ∷ xs) =
 
 -- reversing the rows puts the arguments in order
 pub gathered : {V : Type 0} (f : V → List CellValue) (c : ℕ) (rows : List V) (cells : List CellValue)
-    → column c (map f rows) ≡ reverse cells → column c (map f (reverse rows)) ≡ cells
+    → cells_at_column c (map f rows) ≡ reverse cells → cells_at_column c (map f (reverse rows)) ≡ cells
 gathered f c rows cells is =
-    ap (λ l. column c l) (map-reverse f rows) ∙ map-reverse (λ r. at r c) (map f rows) ∙ ap (λ l. reverse l) is ∙ reverse-reverse cells
+    ap (λ l. cells_at_column c l) (map-reverse f rows) ∙ map-reverse (λ r. at r c) (map f rows) ∙ ap (λ l. reverse l) is ∙ reverse-reverse cells
 
 -- before any operand is removed, all operands are left
 pub none_taken : {X : Type 0} (old : List X) → old ≡ take (length old - 0) old

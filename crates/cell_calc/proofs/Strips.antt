@@ -6,7 +6,7 @@ use Rattle.std.proofs.lemmas.Int.{ints}
 use Rattle.cell_core.specs.Grid.{CellValue}
 use Rattle.cell_calc_grammar.specs.declared.operator.Operator.{Operator}
 use Rattle.cell_calc_language.specs.Applied.{operator_value}
-use Rattle.cell_calc_language.specs.Offsets.{item_at}
+use Rattle.cell_calc_language.specs.Offsets.{item_at_integer_or_default}
 use Rattle.cell_calc.specs.RowValues.{at}
 
 -- if the cells at the start of a row and the cells after them have a property, all cells of the row have it
@@ -24,7 +24,8 @@ after_front P a front ys count before there c lt false h =
 
 -- a part of a row, moved by an offset, has the cells at that offset from the strip
 pub part_at : (source part : List CellValue) (first width from c : ℕ) (right : ℤ) → part ≡ take width (drop first source)
-    → pos first ≡ pos from +ℤ right → c < width → at part c ≡ item_at None source (pos (from + c) +ℤ right)
+    → pos first ≡ pos from +ℤ right → c < width → at part c ≡ item_at_integer_or_default None source
+    (pos (from + c) +ℤ right)
 part_at source part first width from c right is place lt =
     let there : pos (from + c) +ℤ right ≡ pos (first + c) = omega (arith, ints, place) in
     rw there (ap (λ l. get_or l c None) is ∙ get_or-take width (drop first source) c None lt ∙ get_or-drop first source c None)
@@ -40,11 +41,11 @@ three_parts P a b l m r left middle before there after c lt =
     c (omega (arith, rest, lt)) (nat_lt c a) refl
 
 -- a row has no cells left of its start or right of its end
-pub left_of : (xs : List CellValue) (z : ℤ) → z <ℤ pos 0 → item_at None xs z ≡ None
+pub left_of : (xs : List CellValue) (z : ℤ) → z <ℤ pos 0 → item_at_integer_or_default None xs z ≡ None
 left_of xs (pos n) lt = absurd (let no : ⊥ = omega (arith, ints, lt) in no)
 left_of xs (negsuc n) lt = refl
 
-pub right_of : (xs : List CellValue) (z : ℤ) → pos (length xs) ≤ℤ z → item_at None xs z ≡ None
+pub right_of : (xs : List CellValue) (z : ℤ) → pos (length xs) ≤ℤ z → item_at_integer_or_default None xs z ≡ None
 right_of xs (pos n) le = get_or_past xs n None (omega (arith, ints, le))
 right_of xs (negsuc n) le = refl
 
@@ -59,23 +60,23 @@ pub beside : (op : Operator) (old others source lo mo ro l m r part : List CellV
     → ((c : ℕ) → c < before → (pos (from + c) +ℤ right) <ℤ pos 0)
     → (0 < count → pos first ≡ pos (from + before) +ℤ right)
     → ((c : ℕ) → before + count ≤ c → c < length old → pos (length source) ≤ℤ (pos (from + c) +ℤ right))
-    → (c : ℕ) → c < length old → at (l ++ (m ++ r)) c ≡ operator_value op (at old c) (item_at None source (pos (from + c) +ℤ right))
+    → (c : ℕ) → c < length old → at (l ++ (m ++ r)) c ≡ operator_value op (at old c) (item_at_integer_or_default None source (pos (from + c) +ℤ right))
 beside op old others source lo mo ro l m r part from before first count right blank gap is_blank is_gap lo_is others_is mo_is ro_is
     lo_len others_len mo_len ro_len l_len m_len r_len part_is on_left on_middle on_right left_out place right_out c lt =
-    three_parts (λ i v. v ≡ operator_value op (at old i) (item_at None source (pos (from + i) +ℤ right))) before count l m r (l_len ∙ lo_len) (m_len ∙ mo_len)
+    three_parts (λ i v. v ≡ operator_value op (at old i) (item_at_integer_or_default None source (pos (from + i) +ℤ right))) before count l m r (l_len ∙ lo_len) (m_len ∙ mo_len)
     (λ i li.
     on_left i (omega (arith, lo_len, li))
     ∙ ap (λ v. operator_value op (at lo i) v)
     (is_blank ∙ sym (left_of source (pos (from + i) +ℤ right) (left_out i li)))
-    ∙ ap (λ v. operator_value op v (item_at None source (pos (from + i) +ℤ right))) (ap (λ xs. at xs i) lo_is ∙ get_or-take before old i None li))
+    ∙ ap (λ v. operator_value op v (item_at_integer_or_default None source (pos (from + i) +ℤ right))) (ap (λ xs. at xs i) lo_is ∙ get_or-take before old i None li))
     (λ i li.
     let there : from + before + i ≡ from + (before + i) = omega arith in
     on_middle i (omega (arith, mo_len, li))
-    ∙ ap (λ v. operator_value op (at mo i) v) (part_at source part first count (from + before) i right part_is (place (omega (arith, li))) li ∙ ap (λ n. item_at None source (pos n +ℤ right)) there)
-    ∙ ap (λ v. operator_value op v (item_at None source (pos (from + (before + i)) +ℤ right))) (ap (λ xs. at xs i) mo_is ∙ get_or-take count others i None li ∙ ap (λ xs. at xs i) others_is ∙ get_or-drop before old i None))
+    ∙ ap (λ v. operator_value op (at mo i) v) (part_at source part first count (from + before) i right part_is (place (omega (arith, li))) li ∙ ap (λ n. item_at_integer_or_default None source (pos n +ℤ right)) there)
+    ∙ ap (λ v. operator_value op v (item_at_integer_or_default None source (pos (from + (before + i)) +ℤ right))) (ap (λ xs. at xs i) mo_is ∙ get_or-take count others i None li ∙ ap (λ xs. at xs i) others_is ∙ get_or-drop before old i None))
     (λ i li.
     let outside = right_out (before + (count + i)) (omega arith) (omega (arith, others_len, ro_len, r_len, li)) in
     on_right i (omega (arith, r_len, li))
     ∙ ap (λ v. operator_value op (at ro i) v) (is_gap ∙ sym (right_of source (pos (from + (before + (count + i))) +ℤ right) outside))
-    ∙ ap (λ v. operator_value op v (item_at None source (pos (from + (before + (count + i))) +ℤ right))) (ap (λ xs. at xs i) ro_is ∙ get_or-drop count others i None ∙ ap (λ xs. at xs (count + i)) others_is ∙ get_or-drop before old (count + i) None))
+    ∙ ap (λ v. operator_value op v (item_at_integer_or_default None source (pos (from + (before + (count + i))) +ℤ right))) (ap (λ xs. at xs i) ro_is ∙ get_or-drop count others i None ∙ ap (λ xs. at xs (count + i)) others_is ∙ get_or-drop before old (count + i) None))
     c (omega (arith, others_len, ro_len, r_len, lt))

@@ -1,9 +1,9 @@
 //! Applies functions to rows of arguments.
 
 ghost use Rattle.std.specs.Prelude.{◌≡◌, ◌≤◌, ◌<◌, ◌+◌, length, OnOk};
-ghost use Rattle.cell_calc_language.specs.CellOperators.{if_of, least, greatest_cell, known_cells, first_known, last_argument, truth, is_null};
-ghost use Rattle.cell_calc_language.specs.Applied.{grid_position, size_of, call_result};
-ghost use Rattle.cell_calc.specs.RowValues.{Becomes, AreWide, arguments_at};
+ghost use Rattle.cell_calc_language.specs.CellOperators.{if_call_value, least, greatest_cell, non_null_cells, first_argument_cell, last_argument_cell, cell_of_truth_value, is_null};
+ghost use Rattle.cell_calc_language.specs.Applied.{grid_position, absolute_value_of_cell, call_result};
+ghost use Rattle.cell_calc.specs.RowValues.{RowHoldsCellAtEachColumn, AreRowsOfWidth, argument_cells_at_column};
 
 use crate::rows;
 use cell_calc_grammar::function::Function;
@@ -14,33 +14,35 @@ use cell_core::memory::Memory;
 use cell_core::region::Region;
 use std::alloc::Global;
 
-fn choose_call(arguments: &[Vec<Cell>], row: &mut [Cell])
-    requires { AreWide (length row.old) arguments.now }
-    ensures { Becomes row.old row.new (λ c. if_of (arguments_at c arguments.now)) }
+fn write_if_call_values(arguments: &[Vec<Cell>], row: &mut [Cell])
+    requires { AreRowsOfWidth (length row.old) arguments.now }
+    ensures { RowHoldsCellAtEachColumn row.old row.new
+        (λ c. if_call_value (argument_cells_at_column c arguments.now)) }
 {
     match arguments {
         [x] => {
             row.copy_from_slice(x.as_slice());
-            rows::one_or_zero(row);
+            rows::replace_nonzero_cells_by_one(row);
         }
         [x, a] => {
             row.copy_from_slice(x.as_slice());
-            rows::choose_or_zero(row, a.as_slice());
+            rows::choose_other_cells_or_zero(row, a.as_slice());
         }
         [x, a, b] => {
             row.copy_from_slice(b.as_slice());
-            rows::choose(row, x.as_slice(), a.as_slice());
+            rows::replace_cells_where_true(row, x.as_slice(), a.as_slice());
         }
-        _ => rows::fill(row, Cell::null()),
+        _ => rows::fill_row_with_cell(row, Cell::null()),
     }
 }
 
 fn least(arguments: &[Vec<Cell>], row: &mut [Cell])
-    requires { AreWide (length row.old) arguments.now }
-    ensures { Becomes row.old row.new (λ c. least (arguments_at c arguments.now)) }
+    requires { AreRowsOfWidth (length row.old) arguments.now }
+    ensures { RowHoldsCellAtEachColumn row.old row.new
+        (λ c. least (argument_cells_at_column c arguments.now)) }
 {
     let [first, others @ ..] = arguments else {
-        rows::fill(row, Cell::null());
+        rows::fill_row_with_cell(row, Cell::null());
         return;
     };
     row.copy_from_slice(first.as_slice());
@@ -49,82 +51,87 @@ fn least(arguments: &[Vec<Cell>], row: &mut [Cell])
     }
 }
 
-fn greatest(arguments: &[Vec<Cell>], row: &mut [Cell])
-    requires { AreWide (length row.old) arguments.now }
-    ensures { Becomes row.old row.new (λ c. greatest_cell (arguments_at c arguments.now)) }
+fn write_greatest_of_arguments(arguments: &[Vec<Cell>], row: &mut [Cell])
+    requires { AreRowsOfWidth (length row.old) arguments.now }
+    ensures { RowHoldsCellAtEachColumn row.old row.new
+        (λ c. greatest_cell (argument_cells_at_column c arguments.now)) }
 {
     let [first, others @ ..] = arguments else {
-        rows::fill(row, Cell::null());
+        rows::fill_row_with_cell(row, Cell::null());
         return;
     };
     row.copy_from_slice(first.as_slice());
     for other in others {
-        rows::larger(row, other.as_slice());
+        rows::replace_by_larger_cells(row, other.as_slice());
     }
 }
 
-fn known_least(arguments: &[Vec<Cell>], row: &mut [Cell])
-    requires { AreWide (length row.old) arguments.now }
-    ensures { Becomes row.old row.new
-        (λ c. least (known_cells (arguments_at c arguments.now))) }
+fn write_least_non_null_arguments(arguments: &[Vec<Cell>], row: &mut [Cell])
+    requires { AreRowsOfWidth (length row.old) arguments.now }
+    ensures { RowHoldsCellAtEachColumn row.old row.new
+        (λ c. least (non_null_cells (argument_cells_at_column c arguments.now))) }
 {
-    rows::fill(row, Cell::null());
+    rows::fill_row_with_cell(row, Cell::null());
     for other in arguments {
         rows::known_lesser(row, other.as_slice());
     }
 }
 
-fn known_greatest(arguments: &[Vec<Cell>], row: &mut [Cell])
-    requires { AreWide (length row.old) arguments.now }
-    ensures { Becomes row.old row.new
-        (λ c. greatest_cell (known_cells (arguments_at c arguments.now))) }
+fn write_greatest_non_null_arguments(arguments: &[Vec<Cell>], row: &mut [Cell])
+    requires { AreRowsOfWidth (length row.old) arguments.now }
+    ensures { RowHoldsCellAtEachColumn row.old row.new
+        (λ c. greatest_cell (non_null_cells (argument_cells_at_column c arguments.now))) }
 {
-    rows::fill(row, Cell::null());
+    rows::fill_row_with_cell(row, Cell::null());
     for other in arguments {
-        rows::known_larger(row, other.as_slice());
+        rows::replace_by_larger_ignoring_null(row, other.as_slice());
     }
 }
 
-fn last(arguments: &[Vec<Cell>], row: &mut [Cell])
-    requires { AreWide (length row.old) arguments.now }
-    ensures { Becomes row.old row.new (λ c. last_argument (arguments_at c arguments.now)) }
+fn copy_last_argument(arguments: &[Vec<Cell>], row: &mut [Cell])
+    requires { AreRowsOfWidth (length row.old) arguments.now }
+    ensures { RowHoldsCellAtEachColumn row.old row.new
+        (λ c. last_argument_cell (argument_cells_at_column c arguments.now)) }
 {
     match arguments {
         [.., x] => row.copy_from_slice(x.as_slice()),
-        [] => rows::fill(row, Cell::null()),
+        [] => rows::fill_row_with_cell(row, Cell::null()),
     }
 }
 
 fn copy_first_argument(arguments: &[Vec<Cell>], row: &mut [Cell])
-    requires { AreWide (length row.old) arguments.now }
-    ensures { Becomes row.old row.new (λ c. first_known (arguments_at c arguments.now)) }
+    requires { AreRowsOfWidth (length row.old) arguments.now }
+    ensures { RowHoldsCellAtEachColumn row.old row.new
+        (λ c. first_argument_cell (argument_cells_at_column c arguments.now)) }
 {
     match arguments {
         [x, ..] => row.copy_from_slice(x.as_slice()),
-        [] => rows::fill(row, Cell::null()),
+        [] => rows::fill_row_with_cell(row, Cell::null()),
     }
 }
 
-fn row_nullness(arguments: &[Vec<Cell>], row: &mut [Cell])
-    requires { AreWide (length row.old) arguments.now }
-    ensures { Becomes row.old row.new
-        (λ c. truth (is_null (first_known (arguments_at c arguments.now)))) }
+fn write_null_flags(arguments: &[Vec<Cell>], row: &mut [Cell])
+    requires { AreRowsOfWidth (length row.old) arguments.now }
+    ensures { RowHoldsCellAtEachColumn row.old row.new
+        (λ c. cell_of_truth_value (is_null (first_argument_cell
+        (argument_cells_at_column c arguments.now)))) }
 {
     copy_first_argument(arguments, row);
-    rows::row_nullness(row);
+    rows::write_null_flags(row);
 }
 
-fn size(arguments: &[Vec<Cell>], row: &mut [Cell])
-    requires { AreWide (length row.old) arguments.now }
-    ensures { Becomes row.old row.new
-        (λ c. size_of (first_known (arguments_at c arguments.now))) }
+fn write_absolute_values(arguments: &[Vec<Cell>], row: &mut [Cell])
+    requires { AreRowsOfWidth (length row.old) arguments.now }
+    ensures { RowHoldsCellAtEachColumn row.old row.new
+        (λ c. absolute_value_of_cell (first_argument_cell
+        (argument_cells_at_column c arguments.now))) }
 {
     copy_first_argument(arguments, row);
-    rows::size(row);
+    rows::write_absolute_values(row);
 }
 
 /// Computes the values of a function along a strip from the values of its arguments.
-pub fn call_values(
+pub fn write_call_values(
     alloc: Global,
     function: Function,
     region: Region,
@@ -135,28 +142,28 @@ pub fn call_values(
 ) -> Result<(), Memory>
     requires at_row { number < region.rows }
     requires width { from + length row.old ≤ region.cols }
-    requires widths { AreWide (length row.old) arguments.now }
-    ensures { OnOk result (Becomes row.old row.new
+    requires widths { AreRowsOfWidth (length row.old) arguments.now }
+    ensures { OnOk result (RowHoldsCellAtEachColumn row.old row.new
         (λ c. call_result function (grid_position region number (from + c))
-        (arguments_at c arguments.now))) }
+        (argument_cells_at_column c arguments.now))) }
 {
     let (count, width) = (region.rows(), region.cols());
     match function {
-        Function::If => choose_call(arguments, row),
-        Function::IsNull => row_nullness(arguments, row),
-        Function::Null => rows::fill(row, Cell::null()),
-        Function::Abs => size(arguments, row),
+        Function::If => write_if_call_values(arguments, row),
+        Function::IsNull => write_null_flags(arguments, row),
+        Function::Null => rows::fill_row_with_cell(row, Cell::null()),
+        Function::Abs => write_absolute_values(arguments, row),
         Function::Min => least(arguments, row),
-        Function::Max => greatest(arguments, row),
+        Function::Max => write_greatest_of_arguments(arguments, row),
         Function::Mode => modes::mode(alloc, arguments, row)?,
-        Function::Row => rows::fill(row, cell_operators::number(number + 1)),
+        Function::Row => rows::fill_row_with_cell(row, cell_operators::number(number + 1)),
         Function::Column => rows::number(row, from),
-        Function::RowCount => rows::fill(row, cell_operators::number(count)),
-        Function::ColumnCount => rows::fill(row, cell_operators::number(width)),
-        Function::Eval => last(arguments, row),
-        Function::KnownMin => known_least(arguments, row),
-        Function::KnownMax => known_greatest(arguments, row),
-        Function::KnownMode => modes::known_mode(alloc, arguments, row)?,
+        Function::RowCount => rows::fill_row_with_cell(row, cell_operators::number(count)),
+        Function::ColumnCount => rows::fill_row_with_cell(row, cell_operators::number(width)),
+        Function::Eval => copy_last_argument(arguments, row),
+        Function::KnownMin => write_least_non_null_arguments(arguments, row),
+        Function::KnownMax => write_greatest_non_null_arguments(arguments, row),
+        Function::KnownMode => modes::write_modes_ignoring_null(alloc, arguments, row)?,
     }
     Ok(())
 }

@@ -2,26 +2,26 @@
 
 ghost use Rattle.std.specs.Prelude.{◌≡◌, ◌<◌, ◌≤◌, ◌+◌, ◌^◌, ℕ, length, All, IfOk, IfSome, true};
 ghost use Rattle.cell_calc.specs.RowValues.{at};
-ghost use Rattle.cell_calc.specs.CommonStretches.{AreStretches, AreShort, centre_row, total, spread, start_cells};
-ghost use Rattle.cell_calc.specs.parts.Columns.{IsAlike, HasWidth};
+ghost use Rattle.cell_calc.specs.CommonStretches.{AreCommonSpanWidths, AreWindowsOfFirstSpanCells, centre_row, total_span_width, spread_values_over_spans, span_start_cells};
+ghost use Rattle.cell_calc.specs.parts.Columns.{WindowRowIsUnchangedInColumns, WindowRowHasWidth};
 
 use crate::window::RowWindow;
 use cell_core::cell::Cell;
 use cell_core::memory::Memory;
-use cell_core::runs::fill_run;
+use cell_core::runs::write_run_to_cells;
 use std::alloc::Global;
 
 // Minimum mean length of spans, in columns. With shorter spans, computing a value for each column costs no more.
-const COLUMNS_A_STRETCH: usize = 8;
+const MIN_MEAN_SPAN_COLUMNS: usize = 8;
 
 // Number of spans allowed before their mean length counts.
-const FIRST_STRETCHES: usize = 8;
+const SPANS_BEFORE_MEAN_IS_CHECKED: usize = 8;
 
 // Number of columns that are inspected first.
-const FIRST_COLUMNS: usize = 16;
+const COLUMNS_INSPECTED_FOR_CHANGES: usize = 16;
 
 // Returns the number of cells at the start that equal the first cell.
-fn count_alike(cells: &[Cell]) -> usize
+fn count_cells_equal_to_first(cells: &[Cell]) -> usize
     requires { 0 < length cells.now }
     ensures within { result ≤ length cells.now }
     ensures some { 0 < result }
@@ -36,8 +36,8 @@ fn count_alike(cells: &[Cell]) -> usize
 }
 
 // Returns whether at least half of the first cells of a row differ from the previous cell. If so, spans save little.
-fn begins_with_changes(row: &[Cell]) -> bool {
-    let columns = row.len().min(FIRST_COLUMNS);
+fn row_begins_with_many_changes(row: &[Cell]) -> bool {
+    let columns = row.len().min(COLUMNS_INSPECTED_FOR_CHANGES);
     let mut changes: usize = 0;
     for i in 1..columns {
         if row[i] != row[i - 1] {
@@ -48,9 +48,9 @@ fn begins_with_changes(row: &[Cell]) -> bool {
 }
 
 /// Returns whether the row of any window starts with many changes. Inspects only a few cells.
-pub fn are_changing(windows: &[RowWindow]) -> bool {
+pub fn any_row_begins_with_many_changes(windows: &[RowWindow]) -> bool {
     for window in windows {
-        if begins_with_changes(window.centre_row()) {
+        if row_begins_with_many_changes(window.centre_row()) {
             return true;
         }
     }
@@ -58,8 +58,8 @@ pub fn are_changing(windows: &[RowWindow]) -> bool {
 }
 
 // Returns whether the row of each window has `cols` columns.
-fn are_wide(windows: &[RowWindow], cols: usize) -> bool
-    ensures { result ≡ true → All (HasWidth cols) windows.now }
+fn are_window_rows_of_width(windows: &[RowWindow], cols: usize) -> bool
+    ensures { result ≡ true → All (WindowRowHasWidth cols) windows.now }
 {
     for window in windows {
         if window.centre_row().len() != cols {
@@ -70,17 +70,17 @@ fn are_wide(windows: &[RowWindow], cols: usize) -> bool
 }
 
 // Returns the number of columns, at most `left`, counted from `from`, in which no row changes.
-fn alike_in_all(windows: &[RowWindow], from: usize, left: usize) -> usize
-    requires wide { All (HasWidth (from + left)) windows.now }
+fn count_columns_without_change(windows: &[RowWindow], from: usize, left: usize) -> usize
+    requires wide { All (WindowRowHasWidth (from + left)) windows.now }
     requires some { 0 < left }
     ensures within { result ≤ left }
     ensures some { 0 < result }
-    ensures alike { All (IsAlike from result) windows.now }
+    ensures alike { All (WindowRowIsUnchangedInColumns from result) windows.now }
 {
     let mut least = left;
     for window in windows {
         let row = window.centre_row();
-        least = count_alike(&row[from..from + least]);
+        least = count_cells_equal_to_first(&row[from..from + least]);
     }
     least
 }
@@ -93,25 +93,25 @@ fn alike_in_all(windows: &[RowWindow], from: usize, left: usize) -> usize
 /// # Errors
 ///
 /// [`Memory`] if memory runs out.
-pub fn stretches_of(
+pub fn span_widths_if_few(
     alloc: Global,
     windows: &[RowWindow],
     cols: usize,
 ) -> Result<Option<Vec<u32>>, Memory>
     requires { cols ≤ 65535 }
     ensures { IfOk result
-        (λ found. IfSome found (λ widths. AreStretches cols windows.now widths.items)) }
+        (λ found. IfSome found (λ widths. AreCommonSpanWidths cols windows.now widths.items)) }
 {
-    if !are_wide(windows, cols) {
+    if !are_window_rows_of_width(windows, cols) {
         return Ok(None);
     }
     let mut widths = Vec::new(alloc);
     let mut from = 0;
     'stretches: while from < cols {
-        if widths.len() > FIRST_STRETCHES + from / COLUMNS_A_STRETCH {
+        if widths.len() > SPANS_BEFORE_MEAN_IS_CHECKED + from / MIN_MEAN_SPAN_COLUMNS {
             return Ok(None);
         }
-        let width = alike_in_all(windows, from, cols - from);
+        let width = count_columns_without_change(windows, from, cols - from);
         widths.push(width as u32)?;
         from += width;
     }
@@ -119,7 +119,7 @@ pub fn stretches_of(
 }
 
 // Returns the cell of a row at a column, or null past its end.
-fn cell_in(row: &[Cell], col: usize) -> Cell
+fn cell_or_null_past_end(row: &[Cell], col: usize) -> Cell
     ensures { result ≡ at row.now col }
 {
     match row.get(col) {
@@ -129,14 +129,14 @@ fn cell_in(row: &[Cell], col: usize) -> Cell
 }
 
 // Returns the first cell of each span of a row.
-fn cells_at_starts(alloc: Global, row: &[Cell], widths: &[u32]) -> Result<Vec<Cell>, Memory>
-    requires { total widths.now ≤ 65535 }
-    ensures { IfOk result (λ cells. cells.items ≡ start_cells row.now widths.now) }
+fn first_cells_of_spans(alloc: Global, row: &[Cell], widths: &[u32]) -> Result<Vec<Cell>, Memory>
+    requires { total_span_width widths.now ≤ 65535 }
+    ensures { IfOk result (λ cells. cells.items ≡ span_start_cells row.now widths.now) }
 {
     let mut cells = Vec::with_capacity(alloc, widths.len())?;
     let mut from: usize = 0;
     for width in widths {
-        cells.push(cell_in(row, from))?;
+        cells.push(cell_or_null_past_end(row, from))?;
         from += *width as usize;
     }
     Ok(cells)
@@ -147,32 +147,32 @@ fn cells_at_starts(alloc: Global, row: &[Cell], widths: &[u32]) -> Result<Vec<Ce
 /// # Errors
 ///
 /// [`Memory`] if memory runs out.
-pub fn short_windows(
+pub fn windows_of_first_span_cells(
     alloc: Global,
     windows: &[RowWindow],
     widths: &[u32],
 ) -> Result<Vec<RowWindow>, Memory>
-    requires all { total widths.now ≤ 65535 }
+    requires all { total_span_width widths.now ≤ 65535 }
     requires few { length widths.now ≤ 65535 }
-    ensures { IfOk result (λ short. AreShort widths.now windows.now short.items) }
+    ensures { IfOk result (λ short. AreWindowsOfFirstSpanCells widths.now windows.now short.items) }
 {
     let mut short = Vec::with_capacity(alloc, windows.len())?;
     for window in windows {
-        let cells = cells_at_starts(alloc, window.centre_row(), widths)?;
+        let cells = first_cells_of_spans(alloc, window.centre_row(), widths)?;
         short.push(RowWindow::of_row(alloc, cells)?)?;
     }
     Ok(short)
 }
 
 /// Writes the value of each span to its columns.
-pub fn spread(values: &[Cell], widths: &[u32], cells: &mut [Cell])
+pub fn spread_values_over_spans(values: &[Cell], widths: &[u32], cells: &mut [Cell])
     requires values { length values.now ≡ length widths.now }
-    requires width { length cells.old ≡ total widths.now }
-    ensures { cells.new ≡ spread values.now widths.now }
+    requires width { length cells.old ≡ total_span_width widths.now }
+    ensures { cells.new ≡ spread_values_over_spans values.now widths.now }
 {
     let mut at = 0;
     for i in 0..widths.len() {
-        fill_run(cells, at, (values[i], widths[i]));
+        write_run_to_cells(cells, at, (values[i], widths[i]));
         at += widths[i] as usize;
     }
 }

@@ -2,14 +2,14 @@
 
 ghost use Rattle.std.specs.Prelude.{◌≡◌, ◌<◌, ◌++◌, [], ◌∷◌, length, slice_get, IfOk, OnOk};
 ghost use Rattle.cell_calc_language.specs.Applied.{operator_value};
-ghost use Rattle.cell_calc_language.specs.CellOperators.{chosen_cell};
-ghost use Rattle.cell_calc.specs.parts.Operands.{IsStrip, IsOperandReady, AtColumns, operand_at, HasCells};
-ghost use Rattle.cell_calc.specs.WindowsOver.{row_below};
-ghost use Rattle.cell_calc.specs.parts.InReach.{IsInReach};
-ghost use Rattle.cell_calc.specs.RowValues.{at, Becomes};
+ghost use Rattle.cell_calc_language.specs.CellOperators.{cell_chosen_by_condition};
+ghost use Rattle.cell_calc.specs.parts.Operands.{IsStripInsideRegion, CanReadOperand, HoldsAtEachStripColumn, operand_cell_in_strip_column, RowHasCellsAlongStrip};
+ghost use Rattle.cell_calc.specs.WindowsOver.{row_below_window_centre};
+ghost use Rattle.cell_calc.specs.parts.InReach.{SomeWindowReachesOffset};
+ghost use Rattle.cell_calc.specs.RowValues.{at, RowHoldsCellAtEachColumn};
 
 use crate::rows;
-use crate::strip::{Operand, Strip};
+use crate::strip::{Operand, RowStrip};
 use crate::window::RowWindow;
 use cell_calc_grammar::operator::Operator;
 use cell_calc_language::cell_operators;
@@ -27,7 +27,7 @@ pub(crate) fn pop_operand(operands: &mut Vec<Operand>) -> Operand
 
 /// Returns a row of `width` cells with unspecified contents: a free row if there is one, otherwise a new one.
 #[inline(never)]
-pub(crate) fn spare_row(
+pub(crate) fn reuse_or_allocate_row(
     alloc: Global,
     width: usize,
     free: &mut Vec<Vec<Cell>>,
@@ -44,9 +44,9 @@ pub(crate) fn spare_row(
 }
 
 // Returns the row `down` rows below the centre of the window at index `place`.
-fn window_row<'a>(windows: &'a [RowWindow], place: usize, down: i32) -> &'a [Cell]
-    requires { IsInReach down (slice_get windows.now place) }
-    ensures { result.now ≡ row_below down (slice_get windows.now place) }
+fn row_below_centre_of_window<'a>(windows: &'a [RowWindow], place: usize, down: i32) -> &'a [Cell]
+    requires { SomeWindowReachesOffset down (slice_get windows.now place) }
+    ensures { result.now ≡ row_below_window_centre down (slice_get windows.now place) }
 {
     windows[place].row(down)
 }
@@ -55,86 +55,87 @@ fn window_row<'a>(windows: &'a [RowWindow], place: usize, down: i32) -> &'a [Cel
 ///
 /// It is inlined because most operands of operators are rows, which are only passed on.
 #[inline(always)]
-pub(crate) fn row_of(
+pub(crate) fn writable_row_of_operand(
     alloc: Global,
     operand: Operand,
-    strip: &Strip,
+    strip: &RowStrip,
     windows: &[RowWindow],
     free: &mut Vec<Vec<Cell>>,
 ) -> Result<Vec<Cell>, Memory>
-    requires strip { IsStrip strip.now }
-    requires ready { IsOperandReady windows.now strip.now operand }
-    ensures { IfOk result (HasCells strip.now
-        (λ c. operand_at windows.now strip.now c operand)) }
+    requires strip { IsStripInsideRegion strip.now }
+    requires ready { CanReadOperand windows.now strip.now operand }
+    ensures { IfOk result (RowHasCellsAlongStrip strip.now
+        (λ c. operand_cell_in_strip_column windows.now strip.now c operand)) }
 {
     let (from, width) = (strip.from, strip.width);
     match operand {
         Operand::Row(row) => Ok(row),
         Operand::Number(n) => {
-            let mut row = spare_row(alloc, width, free)?;
-            rows::fill(row.as_mut_slice(), cell_operators::number(n));
+            let mut row = reuse_or_allocate_row(alloc, width, free)?;
+            rows::fill_row_with_cell(row.as_mut_slice(), cell_operators::number(n));
             Ok(row)
         }
         Operand::Map { place, down, right } => {
-            let mut row = spare_row(alloc, width, free)?;
-            let source = window_row(windows, place, down);
-            rows::shift(source, from, right, row.as_mut_slice());
+            let mut row = reuse_or_allocate_row(alloc, width, free)?;
+            let source = row_below_centre_of_window(windows, place, down);
+            rows::copy_shifted_cells(source, from, right, row.as_mut_slice());
             Ok(row)
         }
     }
 }
 
 /// Returns the values of an operator in a row that may be overwritten.
-pub(crate) fn binary_value(
+pub(crate) fn row_of_operator_values(
     alloc: Global,
     operator: Operator,
     left: Operand,
     right: Operand,
-    strip: &Strip,
+    strip: &RowStrip,
     windows: &[RowWindow],
     free: &mut Vec<Vec<Cell>>,
 ) -> Result<Vec<Cell>, Memory>
-    requires strip { IsStrip strip.now }
-    requires left { IsOperandReady windows.now strip.now left }
-    requires right { IsOperandReady windows.now strip.now right }
-    ensures { IfOk result (HasCells strip.now
-        (λ c. operator_value operator (operand_at windows.now strip.now c left)
-        (operand_at windows.now strip.now c right))) }
+    requires strip { IsStripInsideRegion strip.now }
+    requires left { CanReadOperand windows.now strip.now left }
+    requires right { CanReadOperand windows.now strip.now right }
+    ensures { IfOk result (RowHasCellsAlongStrip strip.now
+        (λ c. operator_value operator (operand_cell_in_strip_column windows.now strip.now c left)
+        (operand_cell_in_strip_column windows.now strip.now c right))) }
 {
-    let mut row = row_of(alloc, left, strip, windows, free)?;
-    apply_to_operands(operator, right, strip, windows, row.as_mut_slice(), free)?;
+    let mut row = writable_row_of_operand(alloc, left, strip, windows, free)?;
+    apply_operator_to_row_and_operand(operator, right, strip, windows, row.as_mut_slice(), free)?;
     Ok(row)
 }
 
 // Applies an operator to a row, whose cells are the left operands. A right operand that is a number or part of a map's
 // row needs no row of its own; the row of any other right operand becomes free.
-fn apply_to_operands(
+fn apply_operator_to_row_and_operand(
     operator: Operator,
     right: Operand,
-    strip: &Strip,
+    strip: &RowStrip,
     windows: &[RowWindow],
     row: &mut [Cell],
     free: &mut Vec<Vec<Cell>>,
 ) -> Result<(), Memory>
-    requires strip { IsStrip strip.now }
-    requires right { IsOperandReady windows.now strip.now right }
+    requires strip { IsStripInsideRegion strip.now }
+    requires right { CanReadOperand windows.now strip.now right }
     requires width { length row.old ≡ strip.now.width }
-    ensures { OnOk result (AtColumns strip.now (λ c. at row.new c
-        ≡ operator_value operator (at row.old c) (operand_at windows.now strip.now c right))) }
+    ensures { OnOk result (HoldsAtEachStripColumn strip.now (λ c. at row.new c
+        ≡ operator_value operator (at row.old c)
+        (operand_cell_in_strip_column windows.now strip.now c right))) }
 {
     let from = strip.from;
     match right {
         Operand::Number(n) => {
-            rows::apply_one(operator, row, cell_operators::number(n));
+            rows::apply_operator_with_cell(operator, row, cell_operators::number(n));
             Ok(())
         }
         Operand::Map { place, down, right } => {
-            let source = window_row(windows, place, down);
-            rows::apply_shifted(operator, row, source, right, from);
+            let source = row_below_centre_of_window(windows, place, down);
+            rows::apply_operator_to_shifted_row(operator, row, source, right, from);
             Ok(())
         }
         Operand::Row(others) => {
-            rows::apply_operator(operator, row, others.as_slice());
+            rows::apply_operator_to_rows(operator, row, others.as_slice());
             free.push(others)?;
             Ok(())
         }
@@ -143,70 +144,73 @@ fn apply_to_operands(
 
 /// Returns the values of `if` with three arguments. If the first choice is a number or part of a map's row, it needs no
 /// row of its own.
-pub(crate) fn choice_value(
+pub(crate) fn row_of_three_argument_if(
     alloc: Global,
     condition: Operand,
     yes: Operand,
     no: Operand,
-    strip: &Strip,
+    strip: &RowStrip,
     windows: &[RowWindow],
     free: &mut Vec<Vec<Cell>>,
 ) -> Result<Vec<Cell>, Memory>
-    requires strip { IsStrip strip.now }
-    requires condition { IsOperandReady windows.now strip.now condition }
-    requires yes { IsOperandReady windows.now strip.now yes }
-    requires no { IsOperandReady windows.now strip.now no }
-    ensures { IfOk result (HasCells strip.now
-        (λ c. chosen_cell (operand_at windows.now strip.now c condition)
-        (operand_at windows.now strip.now c yes) (operand_at windows.now strip.now c no))) }
+    requires strip { IsStripInsideRegion strip.now }
+    requires condition { CanReadOperand windows.now strip.now condition }
+    requires yes { CanReadOperand windows.now strip.now yes }
+    requires no { CanReadOperand windows.now strip.now no }
+    ensures { IfOk result (RowHasCellsAlongStrip strip.now
+        (λ c. cell_chosen_by_condition (operand_cell_in_strip_column windows.now strip.now c
+        condition)
+        (operand_cell_in_strip_column windows.now strip.now c yes)
+        (operand_cell_in_strip_column windows.now strip.now c no))) }
 {
-    let mut row = row_of(alloc, no, strip, windows, free)?;
-    let conditions = row_of(alloc, condition, strip, windows, free)?;
+    let mut row = writable_row_of_operand(alloc, no, strip, windows, free)?;
+    let conditions = writable_row_of_operand(alloc, condition, strip, windows, free)?;
     let others = conditions.as_slice();
-    choose_operands(alloc, yes, strip, windows, others, row.as_mut_slice(), free)?;
+    copy_operand_where_true(alloc, yes, strip, windows, others, row.as_mut_slice(), free)?;
     free.push(conditions)?;
     Ok(row)
 }
 
 // Copies the cells of an operand into a row where the conditions hold.
-fn choose_operands(
+fn copy_operand_where_true(
     alloc: Global,
     yes: Operand,
-    strip: &Strip,
+    strip: &RowStrip,
     windows: &[RowWindow],
     conditions: &[Cell],
     row: &mut [Cell],
     free: &mut Vec<Vec<Cell>>,
 ) -> Result<(), Memory>
-    requires strip { IsStrip strip.now }
-    requires yes { IsOperandReady windows.now strip.now yes }
+    requires strip { IsStripInsideRegion strip.now }
+    requires yes { CanReadOperand windows.now strip.now yes }
     requires width { length row.old ≡ strip.now.width }
     requires conditions { length conditions.now ≡ strip.now.width }
-    ensures { OnOk result (AtColumns strip.now (λ c. at row.new c
-        ≡ chosen_cell (at conditions.now c) (operand_at windows.now strip.now c yes) (at row.old c))) }
+    ensures { OnOk result (HoldsAtEachStripColumn strip.now (λ c. at row.new c
+        ≡ cell_chosen_by_condition (at conditions.now c)
+        (operand_cell_in_strip_column windows.now strip.now c yes) (at row.old c))) }
 {
     let (from, width) = (strip.from, strip.width);
     match yes {
         Operand::Number(n) => {
-            rows::choose_one(row, conditions, cell_operators::number(n));
+            rows::replace_with_cell_where_true(row, conditions, cell_operators::number(n));
             Ok(())
         }
         Operand::Map { place, down, right } => {
-            let source = window_row(windows, place, down);
-            if let Some(part) = rows::inside(source, from, right, width) {
-                rows::choose(row, conditions, part);
+            let source = row_below_centre_of_window(windows, place, down);
+            if let Some(part) = rows::shifted_strip_inside_row(source, from, right, width) {
+                rows::replace_cells_where_true(row, conditions, part);
                 return Ok(());
             }
             let over_the_edge = Operand::Map { place, down, right };
-            let others = row_of(alloc, over_the_edge, strip, windows, free)?;
-            choose_row(others, conditions, row, free)
+            let others = writable_row_of_operand(alloc, over_the_edge, strip, windows, free)?;
+            copy_row_where_true(others, conditions, row, free)
         }
-        Operand::Row(others) => choose_row(others, conditions, row, free),
+        Operand::Row(others) => copy_row_where_true(others, conditions, row, free),
     }
 }
 
 // Copies the cells of another row into a row where the conditions hold. The other row becomes free.
-fn choose_row(
+fn copy_row_where_true(
     others: Vec<Cell>,
     conditions: &[Cell],
     row: &mut [Cell],
@@ -214,10 +218,10 @@ fn choose_row(
 ) -> Result<(), Memory>
     requires width { length others.items ≡ length row.old }
     requires conditions { length conditions.now ≡ length row.old }
-    ensures { Becomes row.old row.new
-        (λ c. chosen_cell (at conditions.now c) (at others.items c) (at row.old c)) }
+    ensures { RowHoldsCellAtEachColumn row.old row.new
+        (λ c. cell_chosen_by_condition (at conditions.now c) (at others.items c) (at row.old c)) }
 {
-    rows::choose(row, conditions, others.as_slice());
+    rows::replace_cells_where_true(row, conditions, others.as_slice());
     free.push(others)?;
     Ok(())
 }

@@ -1,19 +1,19 @@
 //! Applies operators and functions to rows of cells.
 
 ghost use Rattle.std.specs.Prelude.{◌≡◌, ◌≤◌, ◌<◌, ◌≤ℤ◌, ◌<ℤ◌, ℕ, pos, length, None, Some, IfSome, ◌+ℤ◌, ◌+◌};
-ghost use Rattle.cell_calc_language.specs.CellOperators.{chosen_cell, truth, is_null, lesser, greater};
-ghost use Rattle.cell_calc_language.specs.Applied.{operator_value, size_of, negated_cell, inverted_cell};
-ghost use Rattle.cell_calc_language.specs.Offsets.{item_at};
-ghost use Rattle.cell_calc_language.specs.Joins.{known_lesser, known_greater};
-ghost use Rattle.cell_calc.specs.RowValues.{at, Becomes};
+ghost use Rattle.cell_calc_language.specs.CellOperators.{cell_chosen_by_condition, cell_of_truth_value, is_null, lesser, greater_than_as_cell};
+ghost use Rattle.cell_calc_language.specs.Applied.{operator_value, absolute_value_of_cell, negated_cell, logical_negation_of_cell};
+ghost use Rattle.cell_calc_language.specs.Offsets.{item_at_integer_or_default};
+ghost use Rattle.cell_calc_language.specs.Joins.{known_lesser, greater_ignoring_null};
+ghost use Rattle.cell_calc.specs.RowValues.{at, RowHoldsCellAtEachColumn};
 
 use cell_calc_grammar::operator::Operator;
 use cell_calc_language::cell_operators;
 use cell_core::cell::Cell;
 
 /// Writes a cell to every column of a row.
-pub fn fill(row: &mut [Cell], cell: Cell)
-    ensures { Becomes row.old row.new (λ c. cell) }
+pub fn fill_row_with_cell(row: &mut [Cell], cell: Cell)
+    ensures { RowHoldsCellAtEachColumn row.old row.new (λ c. cell) }
 {
     for i in 0..row.len() {
         row[i] = cell;
@@ -33,7 +33,7 @@ pub(crate) fn each<F: Fn(Cell) -> Cell>(row: &mut [Cell], f: F)
 /// Combines each cell of a row with the cell of another row in the same column, in place.
 ///
 /// Callers pass named functions, because a closure would be proved anew at each use.
-pub(crate) fn combine<F: Fn(Cell, Cell) -> Cell>(row: &mut [Cell], other: &[Cell], f: F)
+pub(crate) fn combine_rows<F: Fn(Cell, Cell) -> Cell>(row: &mut [Cell], other: &[Cell], f: F)
     requires callable { F.IsAlwaysCallable f }
     requires width { length other.now ≡ length row.old }
     ensures { (c : ℕ) → c < length row.old
@@ -45,7 +45,7 @@ pub(crate) fn combine<F: Fn(Cell, Cell) -> Cell>(row: &mut [Cell], other: &[Cell
 }
 
 /// Combines each cell of a row with the same other cell, in place.
-pub(crate) fn combine_one<F: Fn(Cell, Cell) -> Cell>(row: &mut [Cell], other: Cell, f: F)
+pub(crate) fn combine_row_with_cell<F: Fn(Cell, Cell) -> Cell>(row: &mut [Cell], other: Cell, f: F)
     requires callable { F.IsAlwaysCallable f }
     ensures { (c : ℕ) → c < length row.old → F.post f (at row.old c) other (at row.new c) }
 {
@@ -55,32 +55,32 @@ pub(crate) fn combine_one<F: Fn(Cell, Cell) -> Cell>(row: &mut [Cell], other: Ce
 }
 
 /// Replaces each cell with the cell of another row if its condition holds, and with null if its condition is null.
-pub fn choose(row: &mut [Cell], conditions: &[Cell], yes: &[Cell])
+pub fn replace_cells_where_true(row: &mut [Cell], conditions: &[Cell], yes: &[Cell])
     requires width_conditions { length conditions.now ≡ length row.old }
     requires width_yes { length yes.now ≡ length row.old }
-    ensures { Becomes row.old row.new
-        (λ c. chosen_cell (at conditions.now c) (at yes.now c) (at row.old c)) }
+    ensures { RowHoldsCellAtEachColumn row.old row.new
+        (λ c. cell_chosen_by_condition (at conditions.now c) (at yes.now c) (at row.old c)) }
 {
     for i in 0..row.len() {
-        row[i] = cell_operators::chosen_cell(conditions[i], yes[i], row[i]);
+        row[i] = cell_operators::cell_chosen_by_condition(conditions[i], yes[i], row[i]);
     }
 }
 
-/// Like `choose`, with a single cell in place of the other row.
-pub fn choose_one(row: &mut [Cell], conditions: &[Cell], yes: Cell)
+/// Like `replace_cells_where_true`, with a single cell in place of the other row.
+pub fn replace_with_cell_where_true(row: &mut [Cell], conditions: &[Cell], yes: Cell)
     requires width { length conditions.now ≡ length row.old }
-    ensures { Becomes row.old row.new
-        (λ c. chosen_cell (at conditions.now c) yes (at row.old c)) }
+    ensures { RowHoldsCellAtEachColumn row.old row.new
+        (λ c. cell_chosen_by_condition (at conditions.now c) yes (at row.old c)) }
 {
     for i in 0..row.len() {
-        row[i] = cell_operators::chosen_cell(conditions[i], yes, row[i]);
+        row[i] = cell_operators::cell_chosen_by_condition(conditions[i], yes, row[i]);
     }
 }
 
 /// Writes the column numbers, counted from 1, of a strip that begins at column `from`, counted from 0.
 pub(crate) fn number(row: &mut [Cell], from: usize)
     requires { from + length row.old ≤ 65535 }
-    ensures { Becomes row.old row.new (λ c. Some (pos (from + c + 1))) }
+    ensures { RowHoldsCellAtEachColumn row.old row.new (λ c. Some (pos (from + c + 1))) }
 {
     for i in 0..row.len() {
         row[i] = cell_operators::number((from + i) as u32 + 1);
@@ -88,9 +88,9 @@ pub(crate) fn number(row: &mut [Cell], from: usize)
 }
 
 /// Copies cells of a row, shifted to the left by `skip` columns.
-fn from_right(source: &[Cell], skip: usize, row: &mut [Cell])
+fn copy_cells_shifted_left(source: &[Cell], skip: usize, row: &mut [Cell])
     requires { (c : ℕ) → c < length row.old → at row.old c ≡ None }
-    ensures { Becomes row.old row.new (λ c. at source.now (c + skip)) }
+    ensures { RowHoldsCellAtEachColumn row.old row.new (λ c. at source.now (c + skip)) }
 {
     if skip < source.len() {
         let count = (source.len() - skip).min(row.len());
@@ -101,7 +101,7 @@ fn from_right(source: &[Cell], skip: usize, row: &mut [Cell])
 }
 
 /// Copies cells of a row, shifted to the right by `skip` columns.
-fn from_left(source: &[Cell], skip: usize, row: &mut [Cell])
+fn copy_cells_shifted_right(source: &[Cell], skip: usize, row: &mut [Cell])
     requires { (c : ℕ) → c < length row.old → at row.old c ≡ None }
     ensures before { (c : ℕ) → c < skip → c < length row.old → at row.new c ≡ None }
     ensures each { (c : ℕ) → c + skip < length row.old → at row.new (c + skip) ≡ at source.now c }
@@ -123,11 +123,16 @@ fn shifted_column(from: usize, right: i32) -> i64
 }
 
 /// Returns the part of a row that is `right` columns to the right of a strip, if all of it is inside the row.
-pub fn inside<'a>(source: &'a [Cell], from: usize, right: i32, width: usize) -> Option<&'a [Cell]>
+pub fn shifted_strip_inside_row<'a>(
+    source: &'a [Cell],
+    from: usize,
+    right: i32,
+    width: usize,
+) -> Option<&'a [Cell]>
     requires { from ≤ 65535 }
     ensures width { IfSome result (λ part. length part.now ≡ width) }
     ensures each { IfSome result (λ part. (c : ℕ) → c < width
-        → at part.now c ≡ item_at None source.now (pos (from + c) +ℤ right)) }
+        → at part.now c ≡ item_at_integer_or_default None source.now (pos (from + c) +ℤ right)) }
 {
     let skip = shifted_column(from, right);
     if skip < 0 {
@@ -142,162 +147,181 @@ pub fn inside<'a>(source: &'a [Cell], from: usize, right: i32, width: usize) -> 
 
 /// Copies the cells of a row that are `right` columns to the right of a strip beginning at `from`. Cells outside the
 /// row are null.
-pub fn shift(source: &[Cell], from: usize, right: i32, row: &mut [Cell])
+pub fn copy_shifted_cells(source: &[Cell], from: usize, right: i32, row: &mut [Cell])
     requires { from ≤ 65535 }
-    ensures { Becomes row.old row.new
-        (λ c. item_at None source.now (pos (from + c) +ℤ right)) }
+    ensures { RowHoldsCellAtEachColumn row.old row.new
+        (λ c. item_at_integer_or_default None source.now (pos (from + c) +ℤ right)) }
 {
-    match inside(source, from, right, row.len()) {
+    match shifted_strip_inside_row(source, from, right, row.len()) {
         Some(part) => row.copy_from_slice(part),
-        None => shift_over_the_edge(source, from, right, row),
+        None => copy_shifted_cells_or_null(source, from, right, row),
     }
 }
 
-// Like `shift`, for strips that are partly or fully outside the row.
-fn shift_over_the_edge(source: &[Cell], from: usize, right: i32, row: &mut [Cell])
+// Like `copy_shifted_cells`, for strips that are partly or fully outside the row.
+fn copy_shifted_cells_or_null(source: &[Cell], from: usize, right: i32, row: &mut [Cell])
     requires { from ≤ 65535 }
-    ensures { Becomes row.old row.new
-        (λ c. item_at None source.now (pos (from + c) +ℤ right)) }
+    ensures { RowHoldsCellAtEachColumn row.old row.new
+        (λ c. item_at_integer_or_default None source.now (pos (from + c) +ℤ right)) }
 {
-    fill(row, Cell::null());
+    fill_row_with_cell(row, Cell::null());
     let skip = shifted_column(from, right);
     if skip >= 0 {
-        from_right(source, skip as usize, row);
+        copy_cells_shifted_left(source, skip as usize, row);
     } else {
-        from_left(source, -skip as usize, row);
+        copy_cells_shifted_right(source, -skip as usize, row);
     }
 }
 
 /// Applies `isnull` to each cell of a row, in place.
-pub fn row_nullness(row: &mut [Cell])
-    ensures { Becomes row.old row.new (λ c. truth (is_null (at row.old c))) }
+pub fn write_null_flags(row: &mut [Cell])
+    ensures { RowHoldsCellAtEachColumn row.old row.new
+        (λ c. cell_of_truth_value (is_null (at row.old c))) }
 {
-    each(row, cell_operators::nullness);
+    each(row, cell_operators::null_flag_of_cell);
 }
 
 /// Applies `abs` to each cell of a row, in place.
-pub fn size(row: &mut [Cell])
-    ensures { Becomes row.old row.new (λ c. size_of (at row.old c)) }
+pub fn write_absolute_values(row: &mut [Cell])
+    ensures { RowHoldsCellAtEachColumn row.old row.new
+        (λ c. absolute_value_of_cell (at row.old c)) }
 {
-    each(row, cell_operators::size);
+    each(row, cell_operators::cell_absolute_value);
 }
 
 /// Applies unary `-` to each cell of a row, in place.
-pub fn negate(row: &mut [Cell])
-    ensures { Becomes row.old row.new (λ c. negated_cell (at row.old c)) }
+pub fn negate_row_cells(row: &mut [Cell])
+    ensures { RowHoldsCellAtEachColumn row.old row.new (λ c. negated_cell (at row.old c)) }
 {
     each(row, cell_operators::negated_cell);
 }
 
 /// Applies `!` to each cell of a row, in place.
-pub fn invert(row: &mut [Cell])
-    ensures { Becomes row.old row.new (λ c. inverted_cell (at row.old c)) }
+pub fn apply_not_to_row_cells(row: &mut [Cell])
+    ensures { RowHoldsCellAtEachColumn row.old row.new
+        (λ c. logical_negation_of_cell (at row.old c)) }
 {
-    each(row, cell_operators::inverted_cell);
+    each(row, cell_operators::logical_negation_of_cell);
 }
 
 /// Applies `if(a)` to each cell of a row, in place: 0 becomes 0, null stays null, and other numbers become 1.
-pub fn one_or_zero(row: &mut [Cell])
-    ensures { Becomes row.old row.new
-        (λ c. chosen_cell (at row.old c) (Some (pos 1)) (Some (pos 0))) }
+pub fn replace_nonzero_cells_by_one(row: &mut [Cell])
+    ensures { RowHoldsCellAtEachColumn row.old row.new
+        (λ c. cell_chosen_by_condition (at row.old c) (Some (pos 1)) (Some (pos 0))) }
 {
-    let (yes, no) = (cell_operators::truth(true), cell_operators::truth(false));
+    let (yes, no) = (
+        cell_operators::cell_of_truth_value(true),
+        cell_operators::cell_of_truth_value(false),
+    );
     for i in 0..row.len() {
-        row[i] = cell_operators::chosen_cell(row[i], yes, no);
+        row[i] = cell_operators::cell_chosen_by_condition(row[i], yes, no);
     }
 }
 
 pub(crate) fn lesser(row: &mut [Cell], other: &[Cell])
     requires width { length other.now ≡ length row.old }
-    ensures { Becomes row.old row.new (λ c. lesser (at row.old c) (at other.now c)) }
+    ensures { RowHoldsCellAtEachColumn row.old row.new
+        (λ c. lesser (at row.old c) (at other.now c)) }
 {
-    combine(row, other, cell_operators::lesser);
+    combine_rows(row, other, cell_operators::lesser);
 }
 
-pub(crate) fn larger(row: &mut [Cell], other: &[Cell])
+pub(crate) fn replace_by_larger_cells(row: &mut [Cell], other: &[Cell])
     requires width { length other.now ≡ length row.old }
-    ensures { Becomes row.old row.new (λ c. greater (at row.old c) (at other.now c)) }
+    ensures { RowHoldsCellAtEachColumn row.old row.new (λ c. greater_than_as_cell (at row.old c)
+        (at other.now c)) }
 {
-    combine(row, other, cell_operators::larger);
+    combine_rows(row, other, cell_operators::larger);
 }
 
 pub(crate) fn known_lesser(row: &mut [Cell], other: &[Cell])
     requires width { length other.now ≡ length row.old }
-    ensures { Becomes row.old row.new (λ c. known_lesser (at row.old c) (at other.now c)) }
+    ensures { RowHoldsCellAtEachColumn row.old row.new (λ c. known_lesser (at row.old c)
+        (at other.now c)) }
 {
-    combine(row, other, cell_operators::known_lesser);
+    combine_rows(row, other, cell_operators::known_lesser);
 }
 
-pub(crate) fn known_larger(row: &mut [Cell], other: &[Cell])
+pub(crate) fn replace_by_larger_ignoring_null(row: &mut [Cell], other: &[Cell])
     requires width { length other.now ≡ length row.old }
-    ensures { Becomes row.old row.new (λ c. known_greater (at row.old c) (at other.now c)) }
+    ensures { RowHoldsCellAtEachColumn row.old row.new (λ c. greater_ignoring_null (at row.old c)
+        (at other.now c)) }
 {
-    combine(row, other, cell_operators::known_larger);
+    combine_rows(row, other, cell_operators::known_larger);
 }
 
-pub(crate) fn choose_or_zero(row: &mut [Cell], other: &[Cell])
+pub(crate) fn choose_other_cells_or_zero(row: &mut [Cell], other: &[Cell])
     requires width { length other.now ≡ length row.old }
-    ensures { Becomes row.old row.new
-        (λ c. chosen_cell (at row.old c) (at other.now c) (Some (pos 0))) }
+    ensures { RowHoldsCellAtEachColumn row.old row.new
+        (λ c. cell_chosen_by_condition (at row.old c) (at other.now c) (Some (pos 0))) }
 {
-    let no = cell_operators::truth(false);
+    let no = cell_operators::cell_of_truth_value(false);
     for i in 0..row.len() {
-        row[i] = cell_operators::chosen_cell(row[i], other[i], no);
+        row[i] = cell_operators::cell_chosen_by_condition(row[i], other[i], no);
     }
 }
 
 /// Applies an operator to a row in place. The row holds the left operands, and `other` the right ones.
-pub fn apply_operator(operator: Operator, row: &mut [Cell], other: &[Cell])
+pub fn apply_operator_to_rows(operator: Operator, row: &mut [Cell], other: &[Cell])
     requires width { length other.now ≡ length row.old }
-    ensures { Becomes row.old row.new
+    ensures { RowHoldsCellAtEachColumn row.old row.new
         (λ c. operator_value operator (at row.old c) (at other.now c)) }
 {
     match operator {
-        Operator::Times => combine(row, other, cell_operators::product),
-        Operator::Divide => combine(row, other, cell_operators::quotient),
-        Operator::Modulo => combine(row, other, cell_operators::remainder),
-        Operator::Plus => combine(row, other, cell_operators::sum),
-        Operator::Minus => combine(row, other, cell_operators::difference),
-        Operator::Less => combine(row, other, cell_operators::less),
-        Operator::LessEqual => combine(row, other, cell_operators::less_equal),
-        Operator::Greater => combine(row, other, cell_operators::greater),
-        Operator::GreaterEqual => combine(row, other, cell_operators::greater_equal),
-        Operator::Equal => combine(row, other, cell_operators::equal),
-        Operator::NotEqual => combine(row, other, cell_operators::not_equal),
-        Operator::And => combine(row, other, cell_operators::and),
-        Operator::Or => combine(row, other, cell_operators::or),
-        Operator::KnownAnd => combine(row, other, cell_operators::known_and),
-        Operator::KnownOr => combine(row, other, cell_operators::known_or),
+        Operator::Times => combine_rows(row, other, cell_operators::product_of_two_cells),
+        Operator::Divide => combine_rows(row, other, cell_operators::quotient_of_two_cells),
+        Operator::Modulo => combine_rows(row, other, cell_operators::remainder_of_two_cells),
+        Operator::Plus => combine_rows(row, other, cell_operators::sum),
+        Operator::Minus => combine_rows(row, other, cell_operators::difference),
+        Operator::Less => combine_rows(row, other, cell_operators::less_than_as_cell),
+        Operator::LessEqual => combine_rows(row, other, cell_operators::less_or_equal_as_cell),
+        Operator::Greater => combine_rows(row, other, cell_operators::greater_than_as_cell),
+        Operator::GreaterEqual => combine_rows(
+            row,
+            other,
+            cell_operators::greater_or_equal_as_cell,
+        ),
+        Operator::Equal => combine_rows(row, other, cell_operators::equal_as_cell),
+        Operator::NotEqual => combine_rows(row, other, cell_operators::not_equal_as_cell),
+        Operator::And => combine_rows(row, other, cell_operators::and_of_two_cells),
+        Operator::Or => combine_rows(row, other, cell_operators::or_of_two_cells),
+        Operator::KnownAnd => combine_rows(row, other, cell_operators::and_despite_null),
+        Operator::KnownOr => combine_rows(row, other, cell_operators::or_despite_null),
     }
 }
 
 /// Applies an operator to a row in place. The row holds the left operands; the right operand is always `b`.
-pub fn apply_one(operator: Operator, row: &mut [Cell], b: Cell)
-    ensures { Becomes row.old row.new (λ c. operator_value operator (at row.old c) b) }
+pub fn apply_operator_with_cell(operator: Operator, row: &mut [Cell], b: Cell)
+    ensures { RowHoldsCellAtEachColumn row.old row.new
+        (λ c. operator_value operator (at row.old c) b) }
 {
     match operator {
-        Operator::Times => combine_one(row, b, cell_operators::product),
-        Operator::Divide => combine_one(row, b, cell_operators::quotient),
-        Operator::Modulo => combine_one(row, b, cell_operators::remainder),
-        Operator::Plus => combine_one(row, b, cell_operators::sum),
-        Operator::Minus => combine_one(row, b, cell_operators::difference),
-        Operator::Less => combine_one(row, b, cell_operators::less),
-        Operator::LessEqual => combine_one(row, b, cell_operators::less_equal),
-        Operator::Greater => combine_one(row, b, cell_operators::greater),
-        Operator::GreaterEqual => combine_one(row, b, cell_operators::greater_equal),
-        Operator::Equal => combine_one(row, b, cell_operators::equal),
-        Operator::NotEqual => combine_one(row, b, cell_operators::not_equal),
-        Operator::And => combine_one(row, b, cell_operators::and),
-        Operator::Or => combine_one(row, b, cell_operators::or),
-        Operator::KnownAnd => combine_one(row, b, cell_operators::known_and),
-        Operator::KnownOr => combine_one(row, b, cell_operators::known_or),
+        Operator::Times => combine_row_with_cell(row, b, cell_operators::product_of_two_cells),
+        Operator::Divide => combine_row_with_cell(row, b, cell_operators::quotient_of_two_cells),
+        Operator::Modulo => combine_row_with_cell(row, b, cell_operators::remainder_of_two_cells),
+        Operator::Plus => combine_row_with_cell(row, b, cell_operators::sum),
+        Operator::Minus => combine_row_with_cell(row, b, cell_operators::difference),
+        Operator::Less => combine_row_with_cell(row, b, cell_operators::less_than_as_cell),
+        Operator::LessEqual => combine_row_with_cell(row, b, cell_operators::less_or_equal_as_cell),
+        Operator::Greater => combine_row_with_cell(row, b, cell_operators::greater_than_as_cell),
+        Operator::GreaterEqual => combine_row_with_cell(
+            row,
+            b,
+            cell_operators::greater_or_equal_as_cell,
+        ),
+        Operator::Equal => combine_row_with_cell(row, b, cell_operators::equal_as_cell),
+        Operator::NotEqual => combine_row_with_cell(row, b, cell_operators::not_equal_as_cell),
+        Operator::And => combine_row_with_cell(row, b, cell_operators::and_of_two_cells),
+        Operator::Or => combine_row_with_cell(row, b, cell_operators::or_of_two_cells),
+        Operator::KnownAnd => combine_row_with_cell(row, b, cell_operators::and_despite_null),
+        Operator::KnownOr => combine_row_with_cell(row, b, cell_operators::or_despite_null),
     }
 }
 
 // How a row overlaps a strip: the first common cell of the row, the first common column of the strip, and the number of
 // common cells.
 #[derive(Clone, Copy)]
-struct Overlap {
+struct RowStripOverlap {
     first: usize,
     before: usize,
     count: usize,
@@ -305,7 +329,7 @@ struct Overlap {
 
 // Returns the overlap of a row of `cells` cells, moved `right` columns to the left, with a strip of `width` columns
 // that begins at `from`.
-fn overlap_of(cells: usize, right: i32, from: usize, width: usize) -> Overlap
+fn overlap_of_row_and_strip(cells: usize, right: i32, from: usize, width: usize) -> RowStripOverlap
     requires { from ≤ 65535 }
     ensures strip { result.before + result.count ≤ width }
     ensures row { result.first + result.count ≤ cells }
@@ -318,7 +342,7 @@ fn overlap_of(cells: usize, right: i32, from: usize, width: usize) -> Overlap
     if skip < 0 {
         let before = (-skip as usize).min(width);
         let count = cells.min(width - before);
-        Overlap {
+        RowStripOverlap {
             first: 0,
             before,
             count,
@@ -326,7 +350,7 @@ fn overlap_of(cells: usize, right: i32, from: usize, width: usize) -> Overlap
     } else {
         let first = (skip as usize).min(cells);
         let count = (cells - first).min(width);
-        Overlap {
+        RowStripOverlap {
             first,
             before: 0,
             count,
@@ -336,17 +360,23 @@ fn overlap_of(cells: usize, right: i32, from: usize, width: usize) -> Overlap
 
 /// Applies an operator along a strip that begins at `from`, in place. The strip holds the left operands. The right
 /// operands are the cells of `source` that are `right` columns to the right; they are null outside the row.
-pub fn apply_shifted(operator: Operator, row: &mut [Cell], source: &[Cell], right: i32, from: usize)
+pub fn apply_operator_to_shifted_row(
+    operator: Operator,
+    row: &mut [Cell],
+    source: &[Cell],
+    right: i32,
+    from: usize,
+)
     requires { from ≤ 65535 }
-    ensures { Becomes row.old row.new
+    ensures { RowHoldsCellAtEachColumn row.old row.new
         (λ c. operator_value operator (at row.old c)
-        (item_at None source.now (pos (from + c) +ℤ right))) }
+        (item_at_integer_or_default None source.now (pos (from + c) +ℤ right))) }
 {
-    let overlap = overlap_of(source.len(), right, from, row.len());
+    let overlap = overlap_of_row_and_strip(source.len(), right, from, row.len());
     let part = &source[overlap.first..overlap.first + overlap.count];
     let (left, others) = row.split_at_mut(overlap.before);
     let (middle, after) = others.split_at_mut(overlap.count);
-    apply_one(operator, left, Cell::null());
-    apply_operator(operator, middle, part);
-    apply_one(operator, after, Cell::null());
+    apply_operator_with_cell(operator, left, Cell::null());
+    apply_operator_to_rows(operator, middle, part);
+    apply_operator_with_cell(operator, after, Cell::null());
 }

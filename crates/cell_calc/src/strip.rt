@@ -5,7 +5,7 @@ use cell_core::region::Region;
 
 /// `width` columns of a row, starting at column `from`.
 #[derive(Clone, Copy)]
-pub(crate) struct Strip {
+pub(crate) struct RowStrip {
     pub(crate) region: Region,
     pub(crate) row: u32,
     pub(crate) from: usize,
@@ -23,7 +23,7 @@ pub(crate) enum Operand {
 
 /// Free rows, which may be overwritten, and the arguments of a call.
 #[derive(Drop)]
-pub(crate) struct Spare {
+pub(crate) struct SpareRows {
     pub(crate) free: Vec<Vec<Cell>>,
     pub(crate) arguments: Vec<Vec<Cell>>,
 }

@@ -2,10 +2,10 @@
 
 ghost use Rattle.std.specs.Prelude.{◌≡◌, ◌≤◌, ◌<◌, ◌+◌, ◌+ℤ◌, ℤ, pos, length, None, Some, IfOk, IfSome, IfNone, ◌<ℤ◌};
 ghost use Rattle.cell_core.specs.Grid.{Grid};
-ghost use Rattle.cell_calc_language.specs.Offsets.{row_of, cell_at_offset, item_at};
-ghost use Rattle.cell_calc.specs.Window.{IsWindowOf, Reaches};
+ghost use Rattle.cell_calc_language.specs.Offsets.{row_of_map_or_empty, cell_of_map_or_null, item_at_integer_or_default};
+ghost use Rattle.cell_calc.specs.Window.{WindowHoldsMapRows, WindowReachesOffset};
 ghost use Rattle.cell_calc.specs.CommonStretches.{centre_row};
-ghost use Rattle.cell_calc.specs.WindowsOver.{row_below};
+ghost use Rattle.cell_calc.specs.WindowsOver.{row_below_window_centre};
 
 use crate::window_rows::WindowRows;
 use cell_core::cell::Cell;
@@ -26,12 +26,12 @@ pub struct RowWindow {
 
 impl Model for RowWindow {
     ghost use Rattle.std.specs.Prelude.{length, min, ◌≡◌, ◌≤◌, ◌<◌, ◌+◌};
-    ghost use Rattle.cell_calc.specs.Window.{Window};
-    ghost use Rattle.cell_calc.specs.parts.WindowRows.{window_code};
+    ghost use Rattle.cell_calc.specs.Window.{RowWindowValue};
+    ghost use Rattle.cell_calc.specs.parts.WindowRows.{window_encoding};
 
-    ghost Value = { Window };
+    ghost Value = { RowWindowValue };
 
-    ghost coded = { window_code };
+    ghost coded = { window_encoding };
 
     ghost view = { λ w. record { above = w.above; below = w.below; centre = w.centre; rows = w.rows; cols = w.held.cols; held = w.held.rows } };
 
@@ -52,7 +52,7 @@ impl RowWindow {
     pub fn new(alloc: Global, map: &CellMap, above: u32, below: u32) -> Result<RowWindow, Memory>
         requires above { above ≤ 255 }
         requires below { below ≤ 255 }
-        ensures window { IfOk result (λ w. IsWindowOf w map.now) }
+        ensures window { IfOk result (λ w. WindowHoldsMapRows w map.now) }
         ensures reach { IfOk result (λ w. (w.above ≡ above) × (w.below ≡ below)) }
         ensures centre { IfOk result (λ w. w.centre ≡ 0) }
     {
@@ -90,9 +90,9 @@ impl RowWindow {
 
     /// Moves the centre down by one row of the same map. Does not allocate.
     pub fn advance(&mut self, map: &CellMap)
-        requires window { IsWindowOf self.old map.now }
+        requires window { WindowHoldsMapRows self.old map.now }
         requires left { self.old.centre + 1 < self.old.rows }
-        ensures window { IsWindowOf self.new map.now }
+        ensures window { WindowHoldsMapRows self.new map.now }
         ensures reach { (self.new.above ≡ self.old.above) × (self.new.below ≡ self.old.below) }
         ensures centre { self.new.centre ≡ self.old.centre + 1 }
     {
@@ -105,11 +105,11 @@ impl RowWindow {
 
     /// Returns the map's cell `dr` rows below the centre in column `c`, or null outside the region.
     pub fn cell(&self, dr: i32, c: i64) -> Cell
-        requires { Reaches self.now dr }
-        ensures { (m : Grid) → IsWindowOf self.now m
-            → result ≡ cell_at_offset m (pos self.now.centre +ℤ dr) c }
+        requires { WindowReachesOffset self.now dr }
+        ensures { (m : Grid) → WindowHoldsMapRows self.now m
+            → result ≡ cell_of_map_or_null m (pos self.now.centre +ℤ dr) c }
     {
-        cell_at(self.row(dr), c)
+        cell_or_null_outside_row(self.row(dr), c)
     }
 
     /// Returns a window over a single row of cells.
@@ -140,13 +140,13 @@ impl RowWindow {
 
     /// Returns the cells of the row `down` rows below the centre, or an empty slice outside the map.
     pub fn row(&self, down: i32) -> &[Cell]
-        requires { Reaches self.now down }
-        ensures held { result.now ≡ row_below down (Some self.now) }
-        ensures map { (m : Grid) → IsWindowOf self.now m
-            → result.now ≡ row_of m (pos self.now.centre +ℤ down) }
+        requires { WindowReachesOffset self.now down }
+        ensures held { result.now ≡ row_below_window_centre down (Some self.now) }
+        ensures map { (m : Grid) → WindowHoldsMapRows self.now m
+            → result.now ≡ row_of_map_or_empty m (pos self.now.centre +ℤ down) }
     {
         let first = self.centre.saturating_sub(self.above);
-        match row_place(self.centre, first, down) {
+        match place_of_row_below_centre(self.centre, first, down) {
             Some(i) => self.held.row(i),
             None => &[],
         }
@@ -154,7 +154,7 @@ impl RowWindow {
 }
 
 // Returns the index of the row `down` rows below the centre, counted from row `first`.
-fn row_place(centre: u32, first: u32, down: i32) -> Option<usize>
+fn place_of_row_below_centre(centre: u32, first: u32, down: i32) -> Option<usize>
     ensures some { IfSome result (λ i. pos (first + i) ≡ pos centre +ℤ down) }
     ensures none { IfNone result ((pos centre +ℤ down) <ℤ pos first) }
 {
@@ -166,8 +166,8 @@ fn row_place(centre: u32, first: u32, down: i32) -> Option<usize>
     Some((wanted - least) as usize)
 }
 
-fn cell_at(cells: &[Cell], c: i64) -> Cell
-    ensures { result ≡ item_at None cells.now c }
+fn cell_or_null_outside_row(cells: &[Cell], c: i64) -> Cell
+    ensures { result ≡ item_at_integer_or_default None cells.now c }
 {
     if c < 0 {
         return Cell::null();

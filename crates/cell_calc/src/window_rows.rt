@@ -21,11 +21,11 @@ pub(crate) struct WindowRows {
 
 impl Model for WindowRows {
     ghost use Rattle.std.specs.Prelude.{map, length, All, ◌≡◌, ◌≤◌, ◌<◌, ◌+◌};
-    ghost use Rattle.cell_calc.specs.parts.WindowRows.{WindowKeeps, kept_code};
+    ghost use Rattle.cell_calc.specs.parts.WindowRows.{WindowRowsValue, window_rows_encoding};
 
-    ghost Value = { WindowKeeps };
+    ghost Value = { WindowRowsValue };
 
-    ghost coded = { kept_code };
+    ghost coded = { window_rows_encoding };
 
     ghost view = { λ h. record { cols = h.cols; rows = map (λ row. row.items) h.rows.items; free = length h.waiting.items } };
 
@@ -45,7 +45,7 @@ impl WindowRows {
         let rows = HeapCircularBuffer::with_capacity(alloc, count)?;
         let mut waiting = HeapCircularBuffer::with_capacity(alloc, count)?;
         for _ in 0..count {
-            put_row_last(
+            append_row_to_ring(
                 &mut waiting,
                 Vec::from_elem(alloc, Cell::null(), cols as usize)?,
             );
@@ -66,7 +66,7 @@ impl WindowRows {
         let cols = row.len() as u32;
         let mut rows = HeapCircularBuffer::with_capacity(alloc, 1)?;
         let waiting = HeapCircularBuffer::with_capacity(alloc, 1)?;
-        put_row_last(&mut rows, row);
+        append_row_to_ring(&mut rows, row);
         Ok(WindowRows {
             cols,
             rows,
@@ -93,7 +93,7 @@ impl WindowRows {
     {
         if above <= centre {
             if let Some(row) = self.rows.pop_front() {
-                put_row_last(&mut self.waiting, row);
+                append_row_to_ring(&mut self.waiting, row);
             }
         }
     }
@@ -108,14 +108,17 @@ impl WindowRows {
     {
         if row < map.region().rows() as u64 {
             if let Some(cells) = self.waiting.pop_front() {
-                put_row_last(&mut self.rows, row_copy(map, row as u32, cells));
+                append_row_to_ring(
+                    &mut self.rows,
+                    cells_filled_from_map_row(map, row as u32, cells),
+                );
             }
         }
     }
 }
 
 // Appends a row to a ring that has room.
-fn put_row_last(ring: &mut HeapCircularBuffer<Vec<Cell>>, row: Vec<Cell>)
+fn append_row_to_ring(ring: &mut HeapCircularBuffer<Vec<Cell>>, row: Vec<Cell>)
     requires { length ring.old.items < ring.old.capacity }
     ensures { ring.new ≡ buffer (ring.old.items ++ row ∷ []) ring.old.capacity }
 {
@@ -123,7 +126,7 @@ fn put_row_last(ring: &mut HeapCircularBuffer<Vec<Cell>>, row: Vec<Cell>)
 }
 
 // Copies a row of a map into `cells`, and returns `cells`.
-fn row_copy(map: &CellMap, row: u32, mut cells: Vec<Cell>) -> Vec<Cell>
+fn cells_filled_from_map_row(map: &CellMap, row: u32, mut cells: Vec<Cell>) -> Vec<Cell>
     requires row_in_range { row < map.now.region.rows }
     requires width { length cells.items ≡ map.now.region.cols }
     ensures { result.items ≡ row_at map.now row }

@@ -7,31 +7,37 @@ use Rattle.std.proofs.lemmas.Int.{ints}
 use Rattle.std.proofs.lemmas.List.{map-append, take_at, length-take-le, length-replicate, get_or_append_left}
 use Rattle.std.proofs.lemmas.List.{get_or-append_right, get_or_at, get_or-map, get_or-append-add}
 use Rattle.cell_core.specs.Grid.{CellValue}
-use Rattle.cell_core.specs.Runs.{RunValue, written_out}
-use Rattle.cell_core_values.specs.SmallCells.{byte_cell, cells_of_bytes}
+use Rattle.cell_core.specs.Runs.{RunValue, cells_of_runs}
+use Rattle.cell_core_values.specs.SmallCells.{cell_of_stored_byte, cells_of_bytes}
 use Rattle.cell_calc.specs.RowValues.{at}
-use Rattle.cell_calc_categories.specs.declared.span.CategorySpan.{CategorySpan}
-use Rattle.cell_calc_categories.specs.parts.CategorySpans.{IsSpan, IsInSpan, IsAt, IsSize}
-use Rattle.cell_calc_categories.specs.parts.ValueTables.{IsValueTable, IsByteTable}
+use Rattle.cell_calc_categories.specs.declared.span.CategoryInterval.{CategoryInterval}
+use Rattle.cell_calc_categories.specs.parts.CategorySpans.{IsValidCategoryInterval, IsCellInCategoryInterval}
+use Rattle.cell_calc_categories.specs.parts.CategorySpans.{IsTablePlaceOfCell}
+use Rattle.cell_calc_categories.specs.parts.CategorySpans.{IsTableSizeOfInterval}
+use Rattle.cell_calc_categories.specs.parts.ValueTables.{IsTableOfFunctionValues, AreValueBytesOfByteCells}
 
 -- the index of a cell of the span lies within the table
-pub in_table : (s : CategorySpan) (p n : ℕ) (x : CellValue) → IsSize s n → IsInSpan s x → IsAt s p x → p < n
+pub in_table : (s : CategoryInterval) (p n : ℕ) (x : CellValue) → IsTableSizeOfInterval s n
+    → IsCellInCategoryInterval s x
+    → IsTablePlaceOfCell s p x → p < n
 in_table s p n None size within place = omega (arith, ints, size, place)
 in_table s p n (Some v) size within place = omega (arith, ints, size, place, within.0, within.1)
 
 -- two cells at the same index of a span are equal
-pub one_cell : (s : CategorySpan) (p : ℕ) (x y : CellValue) → IsInSpan s x → IsInSpan s y → IsAt s p x
-    → IsAt s p y → x ≡ y
+pub one_cell : (s : CategoryInterval) (p : ℕ) (x y : CellValue) → IsCellInCategoryInterval s x
+    → IsCellInCategoryInterval s y → IsTablePlaceOfCell s p x
+    → IsTablePlaceOfCell s p y → x ≡ y
 one_cell s p None None wx wy ax ay = refl
 one_cell s p None (Some v) wx wy ax ay = absurd (let no : ⊥ = omega (arith, ints, ax, ay, wy.1) in no)
 one_cell s p (Some v) None wx wy ax ay = absurd (let no : ⊥ = omega (arith, ints, ax, ay, wx.1) in no)
 one_cell s p (Some v) (Some w) wx wy ax ay = ap (λ z. Some z) (omega (arith, ints, ax, ay))
 
 -- each byte stands for a cell within the span
-pub byte_within : (s : CategorySpan) → IsSpan s → (b : ℕ) → b < 256 → IsInSpan s (byte_cell b)
+pub byte_within : (s : CategoryInterval) → IsValidCategoryInterval s → (b : ℕ) → b < 256
+    → IsCellInCategoryInterval s (cell_of_stored_byte b)
 byte_within s is b lt = by_case (b == 255) refl
   where
-    by_case : (t : Bool) → (b == 255) ≡ t → IsInSpan s (if t then None else Some (pos b))
+    by_case : (t : Bool) → (b == 255) ≡ t → IsCellInCategoryInterval s (if t then None else Some (pos b))
     by_case true e = tt
     by_case false e =
         let below : b < 255 = grind arith in
@@ -39,7 +45,7 @@ byte_within s is b lt = by_case (b == 255) refl
 
 -- a byte table gives the function's value at each looked-up byte
 pub bytes_of_each : (f : CellValue → CellValue) (table values bytes : List ℕ) → length values ≡ length bytes
-    → IsByteTable f table
+    → AreValueBytesOfByteCells f table
     → ((i : ℕ) → get_or bytes i 0 < 256)
     → ((c : ℕ) → c < length bytes → get_or values c 0 ≡ get_or table (get_or bytes c 0) 0)
     → cells_of_bytes values ≡ map f (cells_of_bytes bytes)
@@ -47,9 +53,10 @@ bytes_of_each f table [] [] e is few each = refl
 bytes_of_each f table [] (b ∷ bs) e is few each = absurd (let no : ⊥ = omega (arith, e) in no)
 bytes_of_each f table (v ∷ vs) [] e is few each = absurd (let no : ⊥ = omega (arith, e) in no)
 bytes_of_each f table (v ∷ vs) (b ∷ bs) e is few each =
-    let head : byte_cell v ≡ f (byte_cell b) = ap byte_cell (each zero (omega arith)) ∙ is b (few zero) in
+    let head : cell_of_stored_byte v ≡ f (cell_of_stored_byte b) = ap cell_of_stored_byte (each zero (omega arith))
+    ∙ is b (few zero) in
     ap (λ w. w ∷ cells_of_bytes vs) head
-    ∙ ap (λ l. f (byte_cell b) ∷ l) (bytes_of_each f table vs bs (omega (arith, e)) is (λ i. few (suc i))
+    ∙ ap (λ l. f (cell_of_stored_byte b) ∷ l) (bytes_of_each f table vs bs (omega (arith, e)) is (λ i. few (suc i))
     (λ c lt. each (suc c) (omega (arith, lt))))
 
 -- if all items and an appended item have a property, all items of the longer list have it
@@ -67,12 +74,14 @@ pub one_pushed : (P : ℕ → CellValue → Type 0) (old : List CellValue) (x : 
 one_pushed = item_pushed None
 
 -- appending the values of more cells extends a table
-pub table_more : (f : CellValue → CellValue) (s : CategorySpan) (old new cells : List CellValue)
+pub table_more : (f : CellValue → CellValue) (s : CategoryInterval) (old new cells : List CellValue)
     (from width : ℕ) → new ≡ old ++ map f cells
     → length old ≡ from → length cells ≡ width
-    → ((x : CellValue) (p : ℕ) → p < from → IsInSpan s x → IsAt s p x → at old p ≡ f x)
-    → ((i : ℕ) → i < width → IsAt s (from + i) (at cells i)) → ((i : ℕ) → i < width → IsInSpan s (at cells i))
-    → (x : CellValue) (p : ℕ) → p < from + width → IsInSpan s x → IsAt s p x → at new p ≡ f x
+    → ((x : CellValue) (p : ℕ) → p < from → IsCellInCategoryInterval s x → IsTablePlaceOfCell s p x → at old p ≡ f x)
+    → ((i : ℕ) → i < width → IsTablePlaceOfCell s (from + i) (at cells i))
+    → ((i : ℕ) → i < width → IsCellInCategoryInterval s (at cells i))
+    → (x : CellValue) (p : ℕ) → p < from + width → IsCellInCategoryInterval s x → IsTablePlaceOfCell s p x
+    → at new p ≡ f x
 table_more f s old new cells from width is count wide before places withins x p lt within place = by_case
     (nat_lt p from) refl
   where
@@ -87,35 +96,36 @@ table_more f s old new cells from width is count wide before places withins x p 
         let there : from + (p - from) ≡ p = omega arith in
         let lt' : p - from < width = omega (arith, lt, above) in
         let here : p - from < length cells = omega (arith, lt', wide) in
-        let found : IsAt s p (at cells (p - from)) = subst (λ q. IsAt s q (at cells (p - from))) there (places
+        let found : IsTablePlaceOfCell s p (at cells (p - from)) = subst
+        (λ q. IsTablePlaceOfCell s q (at cells (p - from))) there (places
         (p - from) lt') in
         rw is (get_or-append_right old (map f cells) from p None count above)
         ∙ get_or-map f cells (p - from) None None here
         ∙ ap f (one_cell s p (at cells (p - from)) x (withins (p - from) lt') within found place)
 
 -- the cell of the first stretch is within the span
-pub first_within : (s : CategorySpan) (cell : CellValue) (n : ℕ) (old rest : List RunValue)
+pub first_within : (s : CategoryInterval) (cell : CellValue) (n : ℕ) (old rest : List RunValue)
     → old ≡ (cell, n) ∷ rest → 0 < n
-    → All (IsInSpan s) (written_out old) → IsInSpan s cell
+    → All (IsCellInCategoryInterval s) (cells_of_runs old) → IsCellInCategoryInterval s cell
 first_within s cell zero old rest next some all = absurd (let no : ⊥ = omega (arith, some) in no)
 first_within s cell (suc n) old rest next some all =
     (rw next at all) zero None (omega arith)
 
 -- the cells of the stretches after the first are within the span
-pub rest_within : (s : CategorySpan) (cell : CellValue) (n : ℕ) (old rest : List RunValue) → old ≡ (cell, n) ∷ rest
-    → All (IsInSpan s) (written_out old) → All (IsInSpan s) (written_out rest)
+pub rest_within : (s : CategoryInterval) (cell : CellValue) (n : ℕ) (old rest : List RunValue) → old ≡ (cell, n) ∷ rest
+    → All (IsCellInCategoryInterval s) (cells_of_runs old) → All (IsCellInCategoryInterval s) (cells_of_runs rest)
 rest_within s cell n old rest next all = λ i d lt.
     let first : List CellValue = replicate n cell in
-    let whole : written_out old ≡ first ++ written_out rest = ap (λ l. written_out l) next in
-    let there : length first + i < length (written_out old) = omega (
+    let whole : cells_of_runs old ≡ first ++ cells_of_runs rest = ap (λ l. cells_of_runs l) next in
+    let there : length first + i < length (cells_of_runs old) = omega (
       arith,
       ap
           (λ l. length l) whole,
-      length-append first (written_out rest),
+      length-append first (cells_of_runs rest),
       lt,
     ) in
-    subst (IsInSpan s) (ap (λ l. get_or l (length first + i) d) whole
-    ∙ get_or-append-add first (written_out rest) i d)
+    subst (IsCellInCategoryInterval s) (ap (λ l. get_or l (length first + i) d) whole
+    ∙ get_or-append-add first (cells_of_runs rest) i d)
     (all (length first + i) d there)
 
 map-replicate : (f : CellValue → CellValue) (n : ℕ) (x : CellValue) → map f (replicate n x) ≡ replicate n (f x)
@@ -125,10 +135,10 @@ map-replicate f (suc n) x = ap (λ l. f x ∷ l) (map-replicate f n x)
 -- a row extended by one more stretch
 module _ (row new : List CellValue) (from n : ℕ) (cell x : CellValue) (old rest : List RunValue) (next : old ≡
     (cell, n) ∷ rest)
-    (within : from + length (written_out old) ≡ length row) where
-  count : length (written_out old) ≡ n + length (written_out rest)
-  count = ap (λ l. length (written_out l)) next ∙ length-append (replicate n cell) (written_out rest)
-      ∙ ap (λ k. k + length (written_out rest)) (length-replicate n cell)
+    (within : from + length (cells_of_runs old) ≡ length row) where
+  count : length (cells_of_runs old) ≡ n + length (cells_of_runs rest)
+  count = ap (λ l. length (cells_of_runs l)) next ∙ length-append (replicate n cell) (cells_of_runs rest)
+      ∙ ap (λ k. k + length (cells_of_runs rest)) (length-replicate n cell)
 
   pub room : from + n ≤ length row
   room = omega (arith, within, count)
@@ -142,7 +152,7 @@ module _ (row new : List CellValue) (from n : ℕ) (cell x : CellValue) (old res
       length-replicate n x,
     )
 
-    pub width_more : from + n + length (written_out rest) ≡ length new
+    pub width_more : from + n + length (cells_of_runs rest) ≡ length new
     width_more =
         let wide : length new ≡ (from + n) + length (drop (from + n) row) =
         ap (λ l. length l) filled ∙ length-append (take from row ++ replicate n x) (drop (from + n) row)
@@ -150,15 +160,15 @@ module _ (row new : List CellValue) (from n : ℕ) (cell x : CellValue) (old res
         omega (arith, wide, within, count, length-drop (from + n) row)
 
     pub stretch_more : (f : CellValue → CellValue) (all : List CellValue) → x ≡ f cell
-        → take from row ++ map f (written_out old) ≡ all
-        → take (from + n) new ++ map f (written_out rest) ≡ all
+        → take from row ++ map f (cells_of_runs old) ≡ all
+        → take (from + n) new ++ map f (cells_of_runs rest) ≡ all
     stretch_more f all applied whole =
-        let run : map f (written_out old) ≡ replicate n x ++ map f (written_out rest) =
-        ap (λ l. map f (written_out l)) next ∙ map-append f (replicate n cell) (written_out rest)
-        ∙ ap (λ l. l ++ map f (written_out rest)) (map-replicate f n cell ∙ ap (replicate n) (sym applied)) in
+        let run : map f (cells_of_runs old) ≡ replicate n x ++ map f (cells_of_runs rest) =
+        ap (λ l. map f (cells_of_runs l)) next ∙ map-append f (replicate n cell) (cells_of_runs rest)
+        ∙ ap (λ l. l ++ map f (cells_of_runs rest)) (map-replicate f n cell ∙ ap (replicate n) (sym applied)) in
         let first : take (from + n) new ≡ take from row ++ replicate n x =
         ap (take (from + n)) filled ∙ take_at (take from row ++ replicate n x) (drop (from + n) row)
         (from + n) done in
-        ap (λ l. l ++ map f (written_out rest)) first ∙ append_assoc (take from row) (replicate n x) (map f
-        (written_out rest))
+        ap (λ l. l ++ map f (cells_of_runs rest)) first ∙ append_assoc (take from row) (replicate n x) (map f
+        (cells_of_runs rest))
         ∙ ap (λ l. take from row ++ l) (sym run) ∙ whole

@@ -7,8 +7,8 @@ use Rattle.std.specs.List.{list_all, prefix_len, starts_with}
 use Rattle.std.specs.Option.{is_some, option_map, option_map_or}
 use Rattle.std.specs.Prelude.{find, map, not, nat_eq, bytes_eq}
 use Rattle.cell_core_values.specs.Name.{is_name_byte}
-use Rattle.cell_calc_grammar.specs.TokenSpelling.{is_piece, IsLongestToken}
-use Rattle.cell_calc_grammar.specs.Tokens.{triple_signs, double_signs, single_signs, signs, sign_of, mark_length, piece_length}
+use Rattle.cell_calc_grammar.specs.TokenSpelling.{is_word_or_sign, IsLongestToken}
+use Rattle.cell_calc_grammar.specs.Tokens.{three_byte_signs, two_byte_signs, one_byte_signs, all_signs_with_spellings, sign_of_bytes, sign_length_at_start, first_token_length}
 use Rattle.cell_calc_grammar.specs.declared.token.Sign.{Sign}
 
 pub both_true : (a b : Bool) → (a && b) ≡ true → (a ≡ true) × (b ≡ true)
@@ -74,8 +74,8 @@ found-all P (x ∷ xs) bytes s all h = go (bytes_eq x.0 bytes) refl h (found-all
     go false is at later = later at
 
 -- a test that all spellings of signs pass also passes for a spelling that was found
-pub sign-passes : (q : List ℕ → Bool) (bytes : List ℕ) (s : Sign) → list_all q (map (λ x. x.0) signs) ≡ true → sign_of bytes ≡ Some s → q bytes ≡ true
-sign-passes q bytes s all is = found-all (λ x. q x ≡ true) signs bytes s (list_all-AllOf q (map (λ x. x.0) signs) all) is
+pub sign-passes : (q : List ℕ → Bool) (bytes : List ℕ) (s : Sign) → list_all q (map (λ x. x.0) all_signs_with_spellings) ≡ true → sign_of_bytes bytes ≡ Some s → q bytes ≡ true
+sign-passes q bytes s all is = found-all (λ x. q x ≡ true) all_signs_with_spellings bytes s (list_all-AllOf q (map (λ x. x.0) all_signs_with_spellings) all) is
 
 -- a spelling at the start of a text is no longer than the text
 starts_with-length : (text s : List ℕ) → starts_with nat_eq text s ≡ true → length s ≤ length text
@@ -100,35 +100,38 @@ find-length text [] some h = (omega arith, some)
 find-length text (s ∷ all) some h =
     found-length text s (find (starts_with nat_eq text) all) (starts_with nat_eq text s) refl h.0 (find-length text all some h.1)
 
-mark_length-within : (text : List ℕ) → 0 < length text → (0 < mark_length text) × (mark_length text ≤ length text)
-unfolding mark_length
-mark_length-within text some = find-length text (map (λ s. s.0) (triple_signs ++ double_signs)) some
+sign_length_at_start-within : (text : List ℕ) → 0 < length text → (0 < sign_length_at_start text)
+    × (sign_length_at_start text ≤ length text)
+unfolding sign_length_at_start
+sign_length_at_start-within text some = find-length text (map (λ s. s.0) (three_byte_signs ++ two_byte_signs)) some
     (omega arith, (omega arith, (omega arith, (omega arith, (omega arith, (omega arith, (omega arith, (omega arith, tt))))))))
 
-pub piece_length-within : (text : List ℕ) → 0 < length text → (0 < piece_length text) × (piece_length text ≤ length text)
-unfolding piece_length
-piece_length-within text some =
-    let mark = mark_length-within text some in
+pub first_token_length-within : (text : List ℕ) → 0 < length text → (0 < first_token_length text) × (first_token_length text ≤ length text)
+unfolding first_token_length
+first_token_length-within text some =
+    let mark = sign_length_at_start-within text some in
     let run = prefix_len-le-length is_name_byte text in
     grind (arith, nat_tests)
 
-piece_length-run : (text : List ℕ) → 0 < prefix_len is_name_byte text → piece_length text ≡ prefix_len is_name_byte text
-unfolding piece_length
-piece_length-run text h = grind (arith, nat_tests)
+first_token_length-run : (text : List ℕ) → 0 < prefix_len is_name_byte text
+    → first_token_length text ≡ prefix_len is_name_byte text
+unfolding first_token_length
+first_token_length-run text h = grind (arith, nat_tests)
 
-piece_length-mark : (text : List ℕ) → prefix_len is_name_byte text ≡ 0 → piece_length text ≡ mark_length text
-unfolding piece_length
-piece_length-mark text h = grind (arith, nat_tests)
+first_token_length-mark : (text : List ℕ) → prefix_len is_name_byte text ≡ 0
+    → first_token_length text ≡ sign_length_at_start text
+unfolding first_token_length
+first_token_length-mark text h = grind (arith, nat_tests)
 
 -- a sign at the start of a text is no longer than the text's first mark
-sign-mark_length : (text bytes : List ℕ) (s : Sign) → 0 < length text → sign_of bytes ≡ Some s → starts_with nat_eq text bytes ≡ true → length bytes ≤ mark_length text
-unfolding mark_length
-sign-mark_length text bytes s some is starts =
-    let within = mark_length-within text some in
-    let P : List ℕ → Type 0 = λ y. starts_with nat_eq text y ≡ true → length y ≤ mark_length text in
-    let long : AllOf P (map (λ x. x.0) (triple_signs ++ double_signs)) = longest-found (starts_with nat_eq text) (map (λ x. x.0) (triple_signs ++ double_signs)) refl in
-    let short : AllOf P (map (λ x. x.0) single_signs) = AllOf-no_longer (starts_with nat_eq text) 1 (mark_length text) (map (λ x. x.0) single_signs) (omega (arith, within.0)) refl in
-    found-all P signs bytes s (AllOf-append P (map (λ x. x.0) (triple_signs ++ double_signs)) (map (λ x. x.0) single_signs) long short) is starts
+sign-sign_length_at_start : (text bytes : List ℕ) (s : Sign) → 0 < length text → sign_of_bytes bytes ≡ Some s → starts_with nat_eq text bytes ≡ true → length bytes ≤ sign_length_at_start text
+unfolding sign_length_at_start
+sign-sign_length_at_start text bytes s some is starts =
+    let within = sign_length_at_start-within text some in
+    let P : List ℕ → Type 0 = λ y. starts_with nat_eq text y ≡ true → length y ≤ sign_length_at_start text in
+    let long : AllOf P (map (λ x. x.0) (three_byte_signs ++ two_byte_signs)) = longest-found (starts_with nat_eq text) (map (λ x. x.0) (three_byte_signs ++ two_byte_signs)) refl in
+    let short : AllOf P (map (λ x. x.0) one_byte_signs) = AllOf-no_longer (starts_with nat_eq text) 1 (sign_length_at_start text) (map (λ x. x.0) one_byte_signs) (omega (arith, within.0)) refl in
+    found-all P all_signs_with_spellings bytes s (AllOf-append P (map (λ x. x.0) (three_byte_signs ++ two_byte_signs)) (map (λ x. x.0) one_byte_signs) long short) is starts
 
 run-append : (bytes rest : List ℕ) → list_all is_name_byte bytes ≡ true → prefix_len is_name_byte (bytes ++ rest) ≡ length bytes + prefix_len is_name_byte rest
 run-append [] rest h = omega arith
@@ -143,7 +146,7 @@ abbrev pub begins_mark : List ℕ → Bool
 begins_mark [] = false
 begins_mark (b ∷ bs) = not (is_name_byte b)
 
-pub sign-begins_mark : (bytes : List ℕ) (s : Sign) → sign_of bytes ≡ Some s → begins_mark bytes ≡ true
+pub sign-begins_mark : (bytes : List ℕ) (s : Sign) → sign_of_bytes bytes ≡ Some s → begins_mark bytes ≡ true
 sign-begins_mark bytes s is = sign-passes begins_mark bytes s refl is
 
 mark-run : (bytes rest : List ℕ) → begins_mark bytes ≡ true → (prefix_len is_name_byte (bytes ++ rest) ≡ 0) × (0 < length bytes)
@@ -156,24 +159,24 @@ mark-run (b ∷ bs) rest h =
 begins-with : (bytes rest : List ℕ) → starts_with nat_eq (bytes ++ rest) bytes ≡ true
 begins-with bytes rest = (starts_is Decides-eqb (bytes ++ rest) bytes (starts_with nat_eq (bytes ++ rest) bytes) refl).1 rest refl
 
-sign-piece_length : (bytes rest : List ℕ) (s : Sign) → sign_of bytes ≡ Some s → length bytes ≤ piece_length (bytes ++ rest)
-sign-piece_length bytes rest s is =
+sign-first_token_length : (bytes rest : List ℕ) (s : Sign) → sign_of_bytes bytes ≡ Some s → length bytes ≤ first_token_length (bytes ++ rest)
+sign-first_token_length bytes rest s is =
     let none = mark-run bytes rest (sign-begins_mark bytes s is) in
     let some : 0 < length (bytes ++ rest) = omega (arith, none.1, length-append bytes rest) in
-    rw (piece_length-mark (bytes ++ rest) none.0) (sign-mark_length (bytes ++ rest) bytes s some is (begins-with bytes rest))
+    rw (first_token_length-mark (bytes ++ rest) none.0) (sign-sign_length_at_start (bytes ++ rest) bytes s some is (begins-with bytes rest))
 
-word-piece_length : (bytes rest : List ℕ) → 0 < length bytes → list_all is_name_byte bytes ≡ true → piece_length (bytes ++ rest) ≡ length bytes + prefix_len is_name_byte rest
-word-piece_length bytes rest some word =
+word-first_token_length : (bytes rest : List ℕ) → 0 < length bytes → list_all is_name_byte bytes ≡ true → first_token_length (bytes ++ rest) ≡ length bytes + prefix_len is_name_byte rest
+word-first_token_length bytes rest some word =
     let run = run-append bytes rest word in
-    piece_length-run (bytes ++ rest) (omega (arith, run, some)) ∙ run
+    first_token_length-run (bytes ++ rest) (omega (arith, run, some)) ∙ run
 
 -- a word or a sign at the start of a text is no longer than the text's first piece
-piece-least : (bytes rest : List ℕ) → 0 < length bytes → is_piece bytes ≡ true → length bytes ≤ piece_length (bytes ++ rest)
-piece-least bytes rest some is = go (list_all is_name_byte bytes) (sign_of bytes) refl refl is
+piece-least : (bytes rest : List ℕ) → 0 < length bytes → is_word_or_sign bytes ≡ true → length bytes ≤ first_token_length (bytes ++ rest)
+piece-least bytes rest some is = go (list_all is_name_byte bytes) (sign_of_bytes bytes) refl refl is
   where
-    go : (v : Bool) (o : Option Sign) → list_all is_name_byte bytes ≡ v → sign_of bytes ≡ o → (v || is_some o) ≡ true → length bytes ≤ piece_length (bytes ++ rest)
-    go true o word e h = omega (arith, word-piece_length bytes rest some word)
-    go false (Some s) word e h = sign-piece_length bytes rest s e
+    go : (v : Bool) (o : Option Sign) → list_all is_name_byte bytes ≡ v → sign_of_bytes bytes ≡ o → (v || is_some o) ≡ true → length bytes ≤ first_token_length (bytes ++ rest)
+    go true o word e h = omega (arith, word-first_token_length bytes rest some word)
+    go false (Some s) word e h = sign-first_token_length bytes rest s e
     go false None word e h = absurd (let n : ⊥ = cc in n)
 
 false_of : (b : Bool) → (b ≡ true → ⊥) → b ≡ false
@@ -181,15 +184,16 @@ false_of true h = absurd (h refl)
 false_of false h = refl
 
 -- the first piece of a text is the longest token at its start
-pub piece-longest : (bytes text : List ℕ) → piece_length (bytes ++ text) ≡ length bytes → IsLongestToken bytes text
-piece-longest bytes text cut = λ more rest e some. false_of (is_piece (bytes ++ more)) (λ is. too_long more rest e some is)
+pub piece-longest : (bytes text : List ℕ) → first_token_length (bytes ++ text) ≡ length bytes
+    → IsLongestToken bytes text
+piece-longest bytes text cut = λ more rest e some. false_of (is_word_or_sign (bytes ++ more)) (λ is. too_long more rest e some is)
   where
-    too_long : (more rest : List ℕ) → text ≡ more ++ rest → 0 < length more → is_piece (bytes ++ more) ≡ true → ⊥
+    too_long : (more rest : List ℕ) → text ≡ more ++ rest → 0 < length more → is_word_or_sign (bytes ++ more) ≡ true → ⊥
     too_long more rest e some is =
         let size : length (bytes ++ more) ≡ length bytes + length more = length-append bytes more in
         let least = piece-least (bytes ++ more) rest (omega (arith, size, some)) is in
         let same : (bytes ++ more) ++ rest ≡ bytes ++ text = append_assoc bytes more rest ∙ ap (λ l. bytes ++ l) (sym e) in
-        let at : piece_length ((bytes ++ more) ++ rest) ≡ length bytes = ap piece_length same ∙ cut in
+        let at : first_token_length ((bytes ++ more) ++ rest) ≡ length bytes = ap first_token_length same ∙ cut in
         omega (arith, least, at, size, some)
 
 list_all-append : (xs ys : List ℕ) → list_all is_name_byte xs ≡ true → list_all is_name_byte ys ≡ true → list_all is_name_byte (xs ++ ys) ≡ true
@@ -208,8 +212,8 @@ word-ends bytes (b ∷ bs) word longest = go (is_name_byte b) refl
     go true e =
         let one : list_all is_name_byte (b ∷ []) ≡ true = rw e refl in
         let whole : list_all is_name_byte (bytes ++ b ∷ []) ≡ true = list_all-append bytes (b ∷ []) word one in
-        let no : is_piece (bytes ++ b ∷ []) ≡ false = longest (b ∷ []) bs refl (omega arith) in
-        let yes : is_piece (bytes ++ b ∷ []) ≡ true = rw whole refl in
+        let no : is_word_or_sign (bytes ++ b ∷ []) ≡ false = longest (b ∷ []) bs refl (omega arith) in
+        let yes : is_word_or_sign (bytes ++ b ∷ []) ≡ true = rw whole refl in
         absurd (let n : ⊥ = cc in n)
 
 -- of two cuts of one list, the longer start continues the shorter one
@@ -230,37 +234,39 @@ no_sign true b h g = cc
 no_sign false b h g = cc
 
 -- a spelling of a sign at the start of the text is no longer than the longest token
-found-under : (bytes text : List ℕ) (xs : List (List ℕ)) → 0 < length bytes → IsLongestToken bytes text → list_all (λ x. is_some (sign_of x)) xs ≡ true
+found-under : (bytes text : List ℕ) (xs : List (List ℕ)) → 0 < length bytes → IsLongestToken bytes text → list_all (λ x. is_some (sign_of_bytes x)) xs ≡ true
     → option_map_or length (find (starts_with nat_eq (bytes ++ text)) xs) 1 ≤ length bytes
 found-under bytes text [] some longest all = some
 found-under bytes text (x ∷ xs) some longest all =
-    let each = both_true (is_some (sign_of x)) (list_all (λ y. is_some (sign_of y)) xs) all in
+    let each = both_true (is_some (sign_of_bytes x)) (list_all (λ y. is_some (sign_of_bytes y)) xs) all in
     go (starts_with nat_eq (bytes ++ text) x) refl each.0 (found-under bytes text xs some longest each.1)
   where
-    too_long : bytes ++ text ≡ x ++ drop (length x) (bytes ++ text) → is_some (sign_of x) ≡ true → length bytes < length x → ⊥
+    too_long : bytes ++ text ≡ x ++ drop (length x) (bytes ++ text) → is_some (sign_of_bytes x) ≡ true → length bytes < length x → ⊥
     too_long e is l =
         let cut = longer-front bytes text x (drop (length x) (bytes ++ text)) e l in
-        let no : is_piece (bytes ++ cut.0) ≡ false = longest cut.0 (drop (length x) (bytes ++ text)) cut.2 cut.3 in
-        let sign : is_some (sign_of (bytes ++ cut.0)) ≡ true = subst (λ y. is_some (sign_of y) ≡ true) cut.1 is in
-        no_sign (list_all is_name_byte (bytes ++ cut.0)) (is_some (sign_of (bytes ++ cut.0))) no sign
+        let no : is_word_or_sign (bytes ++ cut.0) ≡ false = longest cut.0 (drop (length x) (bytes
+        ++ text)) cut.2 cut.3 in
+        let sign : is_some (sign_of_bytes (bytes ++ cut.0)) ≡ true = subst (λ y. is_some (sign_of_bytes y)
+        ≡ true) cut.1 is in
+        no_sign (list_all is_name_byte (bytes ++ cut.0)) (is_some (sign_of_bytes (bytes ++ cut.0))) no sign
 
-    go : (v : Bool) → starts_with nat_eq (bytes ++ text) x ≡ v → is_some (sign_of x) ≡ true → option_map_or length (find (starts_with nat_eq (bytes ++ text)) xs) 1 ≤ length bytes
+    go : (v : Bool) → starts_with nat_eq (bytes ++ text) x ≡ v → is_some (sign_of_bytes x) ≡ true → option_map_or length (find (starts_with nat_eq (bytes ++ text)) xs) 1 ≤ length bytes
         → option_map_or length (cond v (Some x) (find (starts_with nat_eq (bytes ++ text)) xs)) 1 ≤ length bytes
     go false starts is others = others
     go true starts is others =
         let e = (starts_is Decides-eqb (bytes ++ text) x (starts_with nat_eq (bytes ++ text) x) refl).0 starts in
         not_under (length bytes) (length x) (too_long e is)
 
-mark-under : (bytes text : List ℕ) → 0 < length bytes → IsLongestToken bytes text → mark_length (bytes ++ text) ≤ length bytes
-unfolding mark_length
-mark-under bytes text some longest = found-under bytes text (map (λ s. s.0) (triple_signs ++ double_signs)) some longest refl
+mark-under : (bytes text : List ℕ) → 0 < length bytes → IsLongestToken bytes text → sign_length_at_start (bytes ++ text) ≤ length bytes
+unfolding sign_length_at_start
+mark-under bytes text some longest = found-under bytes text (map (λ s. s.0) (three_byte_signs ++ two_byte_signs)) some longest refl
 
-pub word-longest : (bytes text : List ℕ) → 0 < length bytes → list_all is_name_byte bytes ≡ true → IsLongestToken bytes text → piece_length (bytes ++ text) ≡ length bytes
-word-longest bytes text some word longest = word-piece_length bytes text some word ∙ omega (arith, word-ends bytes text word longest)
+pub word-longest : (bytes text : List ℕ) → 0 < length bytes → list_all is_name_byte bytes ≡ true → IsLongestToken bytes text → first_token_length (bytes ++ text) ≡ length bytes
+word-longest bytes text some word longest = word-first_token_length bytes text some word ∙ omega (arith, word-ends bytes text word longest)
 
-pub sign-longest : (bytes text : List ℕ) (s : Sign) → sign_of bytes ≡ Some s → IsLongestToken bytes text → piece_length (bytes ++ text) ≡ length bytes
+pub sign-longest : (bytes text : List ℕ) (s : Sign) → sign_of_bytes bytes ≡ Some s → IsLongestToken bytes text → first_token_length (bytes ++ text) ≡ length bytes
 sign-longest bytes text s is longest =
     let none = mark-run bytes text (sign-begins_mark bytes s is) in
-    let least = sign-piece_length bytes text s is in
+    let least = sign-first_token_length bytes text s is in
     let under = mark-under bytes text none.1 longest in
-    omega (arith, least, under, piece_length-mark (bytes ++ text) none.0)
+    omega (arith, least, under, first_token_length-mark (bytes ++ text) none.0)

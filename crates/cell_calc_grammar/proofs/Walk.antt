@@ -2,17 +2,17 @@
 use Rattle.std.proofs.Common.{◌≡◌, ℕ, ℤ, List, [], ◌∷◌, ◌++◌, Option, Some, None, Bool, true, false, refl, sym, ap, ◌∙◌, subst, ◌⊎◌, inl, inr}
 use Rattle.std.proofs.lemmas.List.{map-append}
 use Rattle.cell_calc_grammar.specs.declared.operator.Operator.{Operator}
-use Rattle.cell_calc_grammar.specs.declared.token.Placed.{Placed}
+use Rattle.cell_calc_grammar.specs.declared.token.TokenAtColumn.{TokenAtColumn}
 use Rattle.cell_calc_grammar.specs.declared.token.Sign.TheVariants.{Plus, Minus, Exclamation, Question, Colon, OpenParenthesis, CloseParenthesis, OpenBracket, CloseBracket, Comma, Assign}
 use Rattle.cell_calc_grammar.specs.declared.token.Token.{Token}
 use Rattle.cell_calc_grammar.specs.declared.token.Token.TheVariants as token
 use Rattle.cell_calc_grammar.specs.Grammar as grammar
-use Rattle.cell_calc_grammar.specs.Grammar.{IsOffset, AreOffsets, Stands, IsExpression, AreCalled, AreArguments, below, joined, choice}
-use Rattle.cell_calc_grammar.specs.Operator.{operator_of}
-use Rattle.cell_calc_grammar.specs.TokensRead.{IsAlone}
-use Rattle.cell_calc_grammar.specs.Shape.{shape_of, shape}
-use Rattle.cell_calc_grammar.specs.Term.{Term, Terms}
-use Rattle.cell_calc_grammar.specs.Token.{sign_at}
+use Rattle.cell_calc_grammar.specs.Grammar.{TokensDenoteOffset, TokensDenoteRowAndColumnOffsets, Stands, IsExpression, AreCalled, AreArguments, below, joined, choice}
+use Rattle.cell_calc_grammar.specs.Operator.{operator_of_token}
+use Rattle.cell_calc_grammar.specs.TokensRead.{TokenShowsMapWithoutOffsets}
+use Rattle.cell_calc_grammar.specs.Shape.{token_without_value, tokens_without_values}
+use Rattle.cell_calc_grammar.specs.Term.{Term, ArgumentTerms}
+use Rattle.cell_calc_grammar.specs.Token.{sign_token_at_column}
 
 -- an open part around the place
 pub data Frame : Type 0 where
@@ -59,7 +59,7 @@ joins_step st t None = asks_step st t
 
 -- the place after a token that follows an operand
 abbrev pub after_step : List Frame → Token → Option Place
-after_step st t = joins_step st t (operator_of t)
+after_step st t = joins_step st t (operator_of_token t)
 
 -- the place after the next token
 abbrev pub step : Place → Token → Option Place
@@ -97,65 +97,72 @@ pub walk_none : (ts : List Token) → walk None ts ≡ None
 walk_none [] = refl
 walk_none (t ∷ ts) = walk_none ts
 
-pub shape_append : (ts us : List Placed) → shape (ts ++ us) ≡ shape ts ++ shape us
-shape_append ts us = map-append (λ s. shape_of s.token) ts us
+pub shape_append : (ts us : List TokenAtColumn) → tokens_without_values (ts ++ us) ≡ tokens_without_values ts
+    ++ tokens_without_values us
+shape_append ts us = map-append (λ s. token_without_value s.token) ts us
 
 -- the place after two lists of tokens is reached by one list and then the other
-pub walk_both : (p : Option Place) (ts us : List Placed) → walk p (shape (ts ++ us)) ≡ walk (walk p (shape ts)) (shape us)
-walk_both p ts us = ap (walk p) (shape_append ts us) ∙ walk_append p (shape ts) (shape us)
+pub walk_both : (p : Option Place) (ts us : List TokenAtColumn) → walk p (tokens_without_values (ts ++ us)) ≡ walk (walk p (tokens_without_values ts)) (tokens_without_values us)
+walk_both p ts us = ap (walk p) (shape_append ts us) ∙ walk_append p (tokens_without_values ts)
+    (tokens_without_values us)
 
 -- an operand has ended at the place
 abbrev pub Lands : List Frame → Option Place → Type 0
 Lands st p = (p ≡ Some (After st)) ⊎ (p ≡ Some (Named st))
 
-pub named_alone : (st : List Frame) (t : Token) → IsAlone (Some t) → step (Named st) t ≡ after_step st t
+pub named_alone : (st : List Frame) (t : Token) → TokenShowsMapWithoutOffsets (Some t)
+    → step (Named st) t ≡ after_step st t
 named_alone st (token.Sign OpenParenthesis) n = absurd (n.0 refl)
 named_alone st (token.Sign OpenBracket) n = absurd (n.1 refl)
 named_alone st _ n = refl
 
 -- after an operand, a token that opens nothing leads on
-pub landed : (st : List Frame) (p : Option Place) (t : Token) → Lands st p → IsAlone (Some t) → step_on p t ≡ after_step st t
+pub landed : (st : List Frame) (p : Option Place) (t : Token) → Lands st p → TokenShowsMapWithoutOffsets (Some t) → step_on p t ≡ after_step st t
 landed st p t (inl e) n = ap (λ q. step_on q t) e
 landed st p t (inr e) n = ap (λ q. step_on q t) e ∙ named_alone st t n
 
 -- wherever an operand may begin, the tokens form an operand or more
-abbrev pub Makes : List Placed → Type 0
-Makes ts = (st : List Frame) → Lands st (walk (Some (Operand st)) (shape ts))
+abbrev pub Makes : List TokenAtColumn → Type 0
+Makes ts = (st : List Frame) → Lands st (walk (Some (Operand st)) (tokens_without_values ts))
 
-pub offset_makes : {ts : List Placed} {z : ℤ} (second : Bool) (st : List Frame) → IsOffset ts z → walk (Some (Offset second st)) (shape ts) ≡ Some (Between second st)
-offset_makes second st (grammar.IsOffset.plain h) = refl
+pub offset_makes : {ts : List TokenAtColumn} {z : ℤ} (second : Bool) (st : List Frame) → TokensDenoteOffset ts z → walk (Some (Offset second st)) (tokens_without_values ts) ≡ Some (Between second st)
+offset_makes second st (grammar.TokensDenoteOffset.plain h) = refl
 offset_makes second st _ = refl
 
 -- the first offset and the comma lead to the second offset
-pub comma_makes : {ts : List Placed} {z : ℤ} (st : List Frame) (c : ℕ) (us : List Placed) → IsOffset ts z
-    → walk (Some (Offset false st)) (shape (ts ++ sign_at Comma c ∷ us)) ≡ walk (Some (Offset true st)) (shape us)
+pub comma_makes : {ts : List TokenAtColumn} {z : ℤ} (st : List Frame) (c : ℕ) (us : List TokenAtColumn)
+    → TokensDenoteOffset ts z
+    → walk (Some (Offset false st)) (tokens_without_values (ts ++ sign_token_at_column Comma c ∷ us))
+    ≡ walk (Some (Offset true st)) (tokens_without_values us)
 comma_makes {ts = ts} st c us h =
-    walk_both (Some (Offset false st)) ts (sign_at Comma c ∷ us)
-    ∙ ap (λ p. walk p (shape (sign_at Comma c ∷ us))) (offset_makes false st h)
+    walk_both (Some (Offset false st)) ts (sign_token_at_column Comma c ∷ us)
+    ∙ ap (λ p. walk p (tokens_without_values (sign_token_at_column Comma c ∷ us))) (offset_makes false st h)
 
-pub offsets_make : {ts : List Placed} {down right : ℤ} (st : List Frame) → AreOffsets ts down right
-    → walk (Some (Offset false st)) (shape ts) ≡ Some (After st)
+pub offsets_make : {ts : List TokenAtColumn} {down right : ℤ} (st : List Frame)
+    → TokensDenoteRowAndColumnOffsets ts down right
+    → walk (Some (Offset false st)) (tokens_without_values ts) ≡ Some (After st)
 offsets_make st (grammar.offsets {ts = ts} {us = us} c d h g) =
-    comma_makes st c (us ++ sign_at CloseBracket d ∷ []) h
-    ∙ walk_both (Some (Offset true st)) us (sign_at CloseBracket d ∷ [])
-    ∙ ap (λ p. walk p (shape (sign_at CloseBracket d ∷ []))) (offset_makes true st g)
+    comma_makes st c (us ++ sign_token_at_column CloseBracket d ∷ []) h
+    ∙ walk_both (Some (Offset true st)) us (sign_token_at_column CloseBracket d ∷ [])
+    ∙ ap (λ p. walk p (tokens_without_values (sign_token_at_column CloseBracket d ∷ []))) (offset_makes true st g)
 
 -- after tokens that form an operand, another token continues
-pub then_walk : (st : List Frame) (p : Option Place) (ts us : List Placed) (s : Placed) (q : Option Place) → Lands st (walk p (shape ts)) → IsAlone (Some (shape_of s.token)) → after_step st (shape_of s.token) ≡ q
-    → walk p (shape (ts ++ s ∷ us)) ≡ walk q (shape us)
+pub then_walk : (st : List Frame) (p : Option Place) (ts us : List TokenAtColumn) (s : TokenAtColumn) (q : Option Place) → Lands st (walk p (tokens_without_values ts)) → TokenShowsMapWithoutOffsets (Some (token_without_value s.token)) → after_step st (token_without_value s.token) ≡ q
+    → walk p (tokens_without_values (ts ++ s ∷ us)) ≡ walk q (tokens_without_values us)
 then_walk st p ts us s q l n e =
-    walk_both p ts (s ∷ us) ∙ ap (λ x. walk x (shape us)) (landed st (walk p (shape ts)) (shape_of s.token) l n ∙ e)
+    walk_both p ts (s ∷ us) ∙ ap (λ x. walk x (tokens_without_values us))
+    (landed st (walk p (tokens_without_values ts)) (token_without_value s.token) l n ∙ e)
 
 -- the shape of a token is the same operator as the token
-pub operator_shape : (t : Token) → operator_of (shape_of t) ≡ operator_of t
+pub operator_shape : (t : Token) → operator_of_token (token_without_value t) ≡ operator_of_token t
 operator_shape (token.Number n) = refl
 operator_shape _ = refl
 
-pub operator_after : (st : List Frame) (t : Token) (op : Operator) → operator_of t ≡ Some op → after_step st (shape_of t) ≡ Some (Operand st)
-operator_after st t op e = ap (joins_step st (shape_of t)) (operator_shape t ∙ e)
+pub operator_after : (st : List Frame) (t : Token) (op : Operator) → operator_of_token t ≡ Some op → after_step st (token_without_value t) ≡ Some (Operand st)
+operator_after st t op e = ap (joins_step st (token_without_value t)) (operator_shape t ∙ e)
 
 -- an operator opens no part
-pub operator_alone : (t : Token) (op : Operator) → operator_of t ≡ Some op → IsAlone (Some t)
+pub operator_alone : (t : Token) (op : Operator) → operator_of_token t ≡ Some op → TokenShowsMapWithoutOffsets (Some t)
 operator_alone (token.Sign OpenParenthesis) op e = absurd (let h : ⊥ = cc in h)
 operator_alone (token.Sign OpenBracket) op e = absurd (let h : ⊥ = cc in h)
 operator_alone _ op e = (λ h. cc, λ h. cc)
@@ -169,7 +176,7 @@ opened_walk st (token.Sign CloseParenthesis ∷ ts) e =
 opened_walk st (t ∷ ts) e = e
 
 mutual
-  pub stands_makes : {k : ℕ} {ts : List Placed} {a : Term} → Stands k ts a → Makes ts
+  pub stands_makes : {k : ℕ} {ts : List TokenAtColumn} {a : Term} → Stands k ts a → Makes ts
   stands_makes grammar.number st = inl refl
   stands_makes grammar.map st = inr refl
   stands_makes (grammar.moved h) st = inl (offsets_make st h)
@@ -177,24 +184,24 @@ mutual
   stands_makes (grammar.negated s) st = stands_makes s st
   stands_makes (grammar.not s) st = stands_makes s st
   stands_makes (grammar.inside {c = c} {ts = ts} d s) st =
-      inl (then_walk (Parenthesis ∷ st) (Some (Operand (Parenthesis ∷ st))) ts [] (sign_at CloseParenthesis d) (Some (After st)) (expression_makes s (Parenthesis ∷ st)) (λ e. cc, λ e. cc) refl)
+      inl (then_walk (Parenthesis ∷ st) (Some (Operand (Parenthesis ∷ st))) ts [] (sign_token_at_column CloseParenthesis d) (Some (After st)) (expression_makes s (Parenthesis ∷ st)) (λ e. cc, λ e. cc) refl)
   stands_makes (below s) st = stands_makes s st
   stands_makes (joined {ts = ts} {us = us} s op e l sa sb) st =
-      subst (Lands st) (sym (then_walk st (Some (Operand st)) ts us s (Some (Operand st)) (stands_makes sa st) (operator_alone (shape_of s.token) op (operator_shape s.token ∙ e)) (operator_after st s.token op e))) (stands_makes sb st)
+      subst (Lands st) (sym (then_walk st (Some (Operand st)) ts us s (Some (Operand st)) (stands_makes sa st) (operator_alone (token_without_value s.token) op (operator_shape s.token ∙ e)) (operator_after st s.token op e))) (stands_makes sb st)
 
-  pub expression_makes : {ts : List Placed} {a : Term} → IsExpression ts a → Makes ts
+  pub expression_makes : {ts : List TokenAtColumn} {a : Term} → IsExpression ts a → Makes ts
   expression_makes (grammar.IsExpression.plain s) st = stands_makes s st
   expression_makes (choice {ts = ts} {us = us} {vs = vs} c d s t u) st =
-      let first = then_walk st (Some (Operand st)) ts (us ++ sign_at Colon d ∷ vs) (sign_at Question c) (Some (Operand (Choosing ∷ st))) (stands_makes s st) (λ e. cc, λ e. cc) refl in
-      let second = then_walk (Choosing ∷ st) (Some (Operand (Choosing ∷ st))) us vs (sign_at Colon d) (Some (Operand st)) (expression_makes t (Choosing ∷ st)) (λ e. cc, λ e. cc) refl in
+      let first = then_walk st (Some (Operand st)) ts (us ++ sign_token_at_column Colon d ∷ vs) (sign_token_at_column Question c) (Some (Operand (Choosing ∷ st))) (stands_makes s st) (λ e. cc, λ e. cc) refl in
+      let second = then_walk (Choosing ∷ st) (Some (Operand (Choosing ∷ st))) us vs (sign_token_at_column Colon d) (Some (Operand st)) (expression_makes t (Choosing ∷ st)) (λ e. cc, λ e. cc) refl in
       subst (Lands st) (sym (first ∙ second)) (expression_makes u st)
 
-  pub called_walks : {ts : List Placed} {xs : Terms} → AreCalled ts xs → (st : List Frame) → walk (Some (Opened st)) (shape ts) ≡ Some (After st)
+  pub called_walks : {ts : List TokenAtColumn} {xs : ArgumentTerms} → AreCalled ts xs → (st : List Frame) → walk (Some (Opened st)) (tokens_without_values ts) ≡ Some (After st)
   called_walks grammar.none st = refl
-  called_walks (grammar.some {ts = ts} s) st = opened_walk st (shape ts) (arguments_walk s st)
+  called_walks (grammar.some {ts = ts} s) st = opened_walk st (tokens_without_values ts) (arguments_walk s st)
 
-  pub arguments_walk : {ts : List Placed} {xs : Terms} → AreArguments ts xs → (st : List Frame) → walk (Some (Operand (Argument ∷ st))) (shape ts) ≡ Some (After st)
+  pub arguments_walk : {ts : List TokenAtColumn} {xs : ArgumentTerms} → AreArguments ts xs → (st : List Frame) → walk (Some (Operand (Argument ∷ st))) (tokens_without_values ts) ≡ Some (After st)
   arguments_walk (grammar.last {ts = ts} c s) st =
-      then_walk (Argument ∷ st) (Some (Operand (Argument ∷ st))) ts [] (sign_at CloseParenthesis c) (Some (After st)) (expression_makes s (Argument ∷ st)) (λ e. cc, λ e. cc) refl
+      then_walk (Argument ∷ st) (Some (Operand (Argument ∷ st))) ts [] (sign_token_at_column CloseParenthesis c) (Some (After st)) (expression_makes s (Argument ∷ st)) (λ e. cc, λ e. cc) refl
   arguments_walk (grammar.another {ts = ts} {us = us} c s q) st =
-      then_walk (Argument ∷ st) (Some (Operand (Argument ∷ st))) ts us (sign_at Comma c) (Some (Operand (Argument ∷ st))) (expression_makes s (Argument ∷ st)) (λ e. cc, λ e. cc) refl ∙ arguments_walk q st
+      then_walk (Argument ∷ st) (Some (Operand (Argument ∷ st))) ts us (sign_token_at_column Comma c) (Some (Operand (Argument ∷ st))) (expression_makes s (Argument ∷ st)) (λ e. cc, λ e. cc) refl ∙ arguments_walk q st

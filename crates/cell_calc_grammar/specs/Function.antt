@@ -4,8 +4,8 @@ use Rattle.cell_calc_grammar.specs.declared.function.Function.{Function}
 use Rattle.cell_calc_grammar.specs.declared.function.Function.TheVariants.{If, IsNull, Null, Abs, Min, Max, Mode, Row, Column, RowCount, ColumnCount, Eval, KnownMin, KnownMax, KnownMode}
 
 -- the names of the functions
-abbrev pub names : List (List ℕ × Function)
-names =
+abbrev pub function_names : List (List ℕ × Function)
+function_names =
     (codes "if", If)
     ∷ (codes "isnull", IsNull)
     ∷ (codes "null", Null)
@@ -24,28 +24,28 @@ names =
     ∷ []
 
 -- the function with this name in a list
-abbrev pub named_among : List (List ℕ × Function) → List ℕ → Option Function
-named_among [] name = None
-named_among (f ∷ fs) name = cond (bytes_eq name f.0) (Some f.1) (named_among fs name)
+abbrev pub function_named_among : List (List ℕ × Function) → List ℕ → Option Function
+function_named_among [] name = None
+function_named_among (f ∷ fs) name = cond (bytes_eq name f.0) (Some f.1) (function_named_among fs name)
 
 -- the function with this name
-abbrev pub function_of : List ℕ → Option Function
-function_of name = named_among names name
+abbrev pub function_with_name : List ℕ → Option Function
+function_with_name name = function_named_among function_names name
 
 -- the function accepts n arguments
-abbrev pub accepts : Function → ℕ → Bool
-accepts If n = nat_le 1 n && nat_le n 3
-accepts IsNull n = n == 1
-accepts Null n = n == 0
-accepts Abs n = n == 1
-accepts Min n = nat_le 2 n
-accepts Max n = nat_le 2 n
-accepts Mode n = nat_le 2 n
-accepts Row n = n == 0
-accepts Column n = n == 0
-accepts RowCount n = n == 0
-accepts ColumnCount n = n == 0
-accepts Eval n = nat_le 1 n
-accepts KnownMin n = nat_le 2 n
-accepts KnownMax n = nat_le 2 n
-accepts KnownMode n = nat_le 2 n
+abbrev pub accepts_argument_count : Function → ℕ → Bool
+accepts_argument_count If n = nat_le 1 n && nat_le n 3
+accepts_argument_count IsNull n = n == 1
+accepts_argument_count Null n = n == 0
+accepts_argument_count Abs n = n == 1
+accepts_argument_count Min n = nat_le 2 n
+accepts_argument_count Max n = nat_le 2 n
+accepts_argument_count Mode n = nat_le 2 n
+accepts_argument_count Row n = n == 0
+accepts_argument_count Column n = n == 0
+accepts_argument_count RowCount n = n == 0
+accepts_argument_count ColumnCount n = n == 0
+accepts_argument_count Eval n = nat_le 1 n
+accepts_argument_count KnownMin n = nat_le 2 n
+accepts_argument_count KnownMax n = nat_le 2 n
+accepts_argument_count KnownMode n = nat_le 2 n

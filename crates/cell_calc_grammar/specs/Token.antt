@@ -1,33 +1,33 @@
 -- Tokens at their columns (profile: columns count bytes from 1).
 use Rattle.std.specs.Prelude.{◌≤◌, ℕ, List, [], ◌∷◌, Option, Some, None}
-use Rattle.cell_calc_grammar.specs.declared.token.Placed.{Placed}
+use Rattle.cell_calc_grammar.specs.declared.token.TokenAtColumn.{TokenAtColumn}
 use Rattle.cell_calc_grammar.specs.declared.token.Sign.{Sign}
 use Rattle.cell_calc_grammar.specs.declared.token.Token.{Token}
 use Rattle.cell_calc_grammar.specs.declared.token.Token.TheVariants as token
 
 -- a number at a column
-abbrev pub token_number_at : (number column : ℕ) → Placed
-token_number_at n c = record { token = token.Number n; column = c }
+abbrev pub number_token_at_column : (number column : ℕ) → TokenAtColumn
+number_token_at_column n c = record { token = token.Number n; column = c }
 
 -- a name at a column
-abbrev pub name_at : (name : List ℕ) (column : ℕ) → Placed
-name_at n c = record { token = token.Name n; column = c }
+abbrev pub name_token_at_column : (name : List ℕ) (column : ℕ) → TokenAtColumn
+name_token_at_column n c = record { token = token.Name n; column = c }
 
 -- a sign at a column
-abbrev pub sign_at : (sign : Sign) (column : ℕ) → Placed
-sign_at s c = record { token = token.Sign s; column = c }
+abbrev pub sign_token_at_column : (sign : Sign) (column : ℕ) → TokenAtColumn
+sign_token_at_column s c = record { token = token.Sign s; column = c }
 
 -- the first token
-abbrev pub head : List Placed → Option Token
-head [] = None
-head (s ∷ ts) = Some s.token
+abbrev pub head_token : List TokenAtColumn → Option Token
+head_token [] = None
+head_token (s ∷ ts) = Some s.token
 
 -- a number token is a category
-abbrev pub IsCategory : Token → Type 0
-IsCategory (token.Number n) = n ≤ 2147483647
-IsCategory _ = Unit {0}
+abbrev pub NumberTokenIsCategory : Token → Type 0
+NumberTokenIsCategory (token.Number n) = n ≤ 2147483647
+NumberTokenIsCategory _ = Unit {0}
 
 -- all number tokens are categories
-abbrev pub AreCategories : List Placed → Type 0
-AreCategories [] = Unit {0}
-AreCategories (s ∷ ts) = IsCategory s.token × AreCategories ts
+abbrev pub NumberTokensAreCategories : List TokenAtColumn → Type 0
+NumberTokensAreCategories [] = Unit {0}
+NumberTokensAreCategories (s ∷ ts) = NumberTokenIsCategory s.token × NumberTokensAreCategories ts

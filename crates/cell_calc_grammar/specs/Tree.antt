@@ -19,9 +19,9 @@ mutual
     Then : (a : Tree L) (xs : Trees L) → Trees L
 
 -- the number of arguments
-abbrev pub count : {L : Type 0} → Trees L → ℕ
-count NoTrees = zero
-count (Then a xs) = suc (count xs)
+abbrev pub argument_count : {L : Type 0} → Trees L → ℕ
+argument_count NoTrees = zero
+argument_count (Then a xs) = suc (argument_count xs)
 
 abbrev mutual
   -- the values for the maps of an expression, joined in the order of the text

@@ -1,7 +1,7 @@
 //! The functions of expressions.
 
 ghost use Rattle.std.specs.Prelude.{◌≡◌};
-ghost use Rattle.cell_calc_grammar.specs.Function.{function_of, accepts};
+ghost use Rattle.cell_calc_grammar.specs.Function.{function_with_name, accepts_argument_count};
 
 /// A function of expressions (r.mapcalc manual, "Functions").
 #[derive(Clone, Copy, Debug, PartialEq, Eq)]
@@ -27,7 +27,7 @@ pub enum Function {
 }
 
 // All functions with their names.
-const NAMES: [(&[u8], Function); 15] = [
+const FUNCTION_NAMES: [(&[u8], Function); 15] = [
     (b"if", Function::If),
     (b"isnull", Function::IsNull),
     (b"null", Function::Null),
@@ -46,10 +46,10 @@ const NAMES: [(&[u8], Function); 15] = [
 ];
 
 /// Returns the function with this name, if there is one.
-pub fn function_of(name: &[u8]) -> Option<Function>
-    ensures { result ≡ function_of name.now }
+pub fn function_with_name(name: &[u8]) -> Option<Function>
+    ensures { result ≡ function_with_name name.now }
 {
-    for (text, function) in &NAMES {
+    for (text, function) in &FUNCTION_NAMES {
         if name == *text {
             return Some(*function);
         }
@@ -58,8 +58,8 @@ pub fn function_of(name: &[u8]) -> Option<Function>
 }
 
 /// Returns whether a function accepts `count` arguments.
-pub fn accepts(function: Function, count: usize) -> bool
-    ensures { result ≡ accepts function count }
+pub fn accepts_argument_count(function: Function, count: usize) -> bool
+    ensures { result ≡ accepts_argument_count function count }
 {
     match function {
         Function::If => 1 <= count && count <= 3,

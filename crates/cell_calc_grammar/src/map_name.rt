@@ -4,7 +4,7 @@ use cell_core_values::name::Name;
 
 /// The name of a map, and the column at which it begins.
 #[derive(Drop)]
-pub struct MapName {
+pub struct MapNameAtColumn {
     pub name: Name,
     pub column: u32,
 }

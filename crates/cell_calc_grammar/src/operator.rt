@@ -1,7 +1,7 @@
 //! Operators between two operands.
 
 ghost use Rattle.std.specs.Prelude.{◌≡◌};
-ghost use Rattle.cell_calc_grammar.specs.Operator.{operator_of, level_of};
+ghost use Rattle.cell_calc_grammar.specs.Operator.{operator_of_token, right_operand_level};
 
 use crate::token::{Sign, Token};
 
@@ -28,8 +28,8 @@ pub enum Operator {
 }
 
 /// Returns the operator that a token stands for between two operands.
-pub fn operator_of(token: &Token) -> Option<Operator>
-    ensures { result ≡ operator_of token.now }
+pub fn operator_of_token(token: &Token) -> Option<Operator>
+    ensures { result ≡ operator_of_token token.now }
 {
     let Token::Sign(sign) = token else {
         return None;
@@ -55,12 +55,12 @@ pub fn operator_of(token: &Token) -> Option<Operator>
 }
 
 /// The highest level, at which any operator may occur between operands.
-pub const TOP_LEVEL: u32 = 6;
+pub const TOP_OPERATOR_LEVEL: u32 = 6;
 
 /// Returns the level of an operator's right operand, which is one below the operator's own level. Operators of level 0
 /// bind most tightly.
-pub fn level_of(operator: Operator) -> u32
-    ensures { result ≡ level_of operator }
+pub fn right_operand_level(operator: Operator) -> u32
+    ensures { result ≡ right_operand_level operator }
 {
     match operator {
         Operator::Times | Operator::Divide | Operator::Modulo => 0,

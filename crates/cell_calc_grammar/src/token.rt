@@ -41,7 +41,7 @@ pub enum Token {
 
 /// A token and the column of its first byte, from 1.
 #[derive(Drop)]
-pub struct Placed {
+pub struct TokenAtColumn {
     pub token: Token,
     pub column: u32,
 }

@@ -7,14 +7,15 @@ use Rattle.std.proofs.lemmas.List.Elements.{All-take, All-drop, All-same, All-he
 use Rattle.cell_core.specs.Grid.{Grid}
 use Rattle.cell_calc_grammar.specs.declared.step.Step.{Step}
 use Rattle.cell_calc_grammar.specs.declared.step.Step.TheVariants as step
-use Rattle.cell_calc_language.specs.Compact.{ArePicked}
-use Rattle.cell_calc_language.specs.Formula.{Formula, Number, Map, Negated, Not, Binary, Call, Formulas, NoTrees, Then, count}
-use Rattle.cell_calc_language.specs.Applied.{GridPosition, operator_value, call_result, negated_cell, inverted_cell}
-use Rattle.cell_calc_language.specs.Offsets.{cell_in}
+use Rattle.cell_calc_language.specs.Compact.{AreMapsAtPlaces}
+use Rattle.cell_calc_language.specs.Formula.{Formula, Number, Map, Negated, Not, Binary, Call, ArgumentFormulas, NoTrees, Then, argument_count}
+use Rattle.cell_calc_language.specs.Applied.{PositionAndGridSize, operator_value, call_result, negated_cell}
+use Rattle.cell_calc_language.specs.Applied.{logical_negation_of_cell}
+use Rattle.cell_calc_language.specs.Offsets.{cell_of_optional_map}
 use Rattle.cell_calc_language.specs.Value.{value, argument_values}
-use Rattle.cell_calc_grammar.specs.Postfix.{postfix, postfix_all, step_over}
+use Rattle.cell_calc_grammar.specs.Postfix.{postfix, postfix_all, step_with_leaf_replaced}
 use Rattle.cell_calc_grammar.specs.Tree.{with_leaves, with_leaves_all}
-use Rattle.cell_calc_language.specs.parts.TreeSteps.{index_in, IsListed}
+use Rattle.cell_calc_language.specs.parts.TreeSteps.{position_among_places, StepReadsListedPlace}
 use Rattle.cell_calc_language.proofs.Index.{index_there}
 
 -- a property of the steps of a list holds of the steps of each of its two parts
@@ -26,65 +27,73 @@ back P xs ys all = All-same P ys (drop (length xs) (xs ++ ys)) (sym (drop-append
 
 mutual
   -- an expression over the listed places has the same values over the maps that they select
-  pub value-moved : (places : List ℕ) (maps picked : List Grid) → ArePicked places maps picked → (s : GridPosition) (f : Formula)
-      → All (IsListed places) (postfix f) → value (with_leaves (index_in places) f) picked s ≡ value f maps s
+  pub value-moved : (places : List ℕ) (maps picked : List Grid) → AreMapsAtPlaces places maps picked → (s : PositionAndGridSize) (f : Formula)
+      → All (StepReadsListedPlace places) (postfix f) → value (with_leaves (position_among_places places) f) picked s
+      ≡ value f maps s
   value-moved places maps picked are s (Number n) all = refl
   value-moved places maps picked are s (Map i down right) all =
-      ap (λ m. cell_in m (pos s.row +ℤ down) (pos s.col +ℤ right))
-      (are (index_in places i) i (index_there places i (All-head (IsListed places) (step.Map i down right) [] all)))
+      ap (λ m. cell_of_optional_map m (pos s.row +ℤ down) (pos s.col +ℤ right))
+      (are (position_among_places places i) i (index_there places i (All-head (StepReadsListedPlace places)
+      (step.Map i down right) [] all)))
   value-moved places maps picked are s (Negated a) all =
-      ap (λ v. negated_cell v) (value-moved places maps picked are s a (front (IsListed places) (postfix a) (step.Negated ∷ []) all))
+      ap (λ v. negated_cell v) (value-moved places maps picked are s a (front (StepReadsListedPlace places) (postfix a) (step.Negated ∷ []) all))
   value-moved places maps picked are s (Not a) all =
-      ap (λ v. inverted_cell v) (value-moved places maps picked are s a (front (IsListed places) (postfix a) (step.Not ∷ []) all))
+      ap (λ v. logical_negation_of_cell v) (value-moved places maps picked are s a (front (StepReadsListedPlace places) (postfix a) (step.Not ∷ []) all))
   value-moved places maps picked are s (Binary op a b) all =
-      let first = value-moved places maps picked are s a (front (IsListed places) (postfix a) (postfix b ++ step.Binary op ∷ []) all) in
+      let first = value-moved places maps picked are s a (front (StepReadsListedPlace places) (postfix a) (postfix b ++ step.Binary op ∷ []) all) in
       let second =
       value-moved places maps picked are s b
-      (front (IsListed places) (postfix b) (step.Binary op ∷ []) (back (IsListed places) (postfix a) (postfix b ++ step.Binary op ∷ []) all)) in
-      ap (λ v. operator_value op v (value (with_leaves (index_in places) b) picked s)) first ∙ ap (λ v. operator_value op (value a maps s) v) second
+      (front (StepReadsListedPlace places) (postfix b) (step.Binary op ∷ []) (back (StepReadsListedPlace places) (postfix a) (postfix b ++ step.Binary op ∷ []) all)) in
+      ap (λ v. operator_value op v (value (with_leaves (position_among_places places) b) picked s)) first ∙ ap (λ v. operator_value op (value a maps s) v) second
   value-moved places maps picked are s (Call f xs) all =
-      ap (λ vs. call_result f s vs) (values-moved places maps picked are s xs (front (IsListed places) (postfix_all xs) (step.Call f (count xs) ∷ []) all))
+      ap (λ vs. call_result f s vs) (values-moved places maps picked are s xs (front (StepReadsListedPlace places) (postfix_all xs) (step.Call f (argument_count xs) ∷ []) all))
 
-  values-moved : (places : List ℕ) (maps picked : List Grid) → ArePicked places maps picked
-      → (s : GridPosition) (xs : Formulas)
-      → All (IsListed places) (postfix_all xs) → argument_values (with_leaves_all (index_in places) xs) picked s ≡ argument_values xs maps s
+  values-moved : (places : List ℕ) (maps picked : List Grid) → AreMapsAtPlaces places maps picked
+      → (s : PositionAndGridSize) (xs : ArgumentFormulas)
+      → All (StepReadsListedPlace places) (postfix_all xs) → argument_values (with_leaves_all (position_among_places places) xs) picked s ≡ argument_values xs maps s
   values-moved places maps picked are s NoTrees all = refl
   values-moved places maps picked are s (Then a xs) all =
-      let first = value-moved places maps picked are s a (front (IsListed places) (postfix a) (postfix_all xs) all) in
-      let others = values-moved places maps picked are s xs (back (IsListed places) (postfix a) (postfix_all xs) all) in
-      ap (λ v. v ∷ argument_values (with_leaves_all (index_in places) xs) picked s) first ∙ ap (λ vs. value a maps s ∷ vs) others
+      let first = value-moved places maps picked are s a (front (StepReadsListedPlace places) (postfix a)
+      (postfix_all xs) all) in
+      let others = values-moved places maps picked are s xs (back (StepReadsListedPlace places) (postfix a)
+      (postfix_all xs) all) in
+      ap (λ v. v ∷ argument_values (with_leaves_all (position_among_places places) xs) picked s) first ∙ ap (λ vs. value a maps s ∷ vs) others
 
 -- steps over listed places are unchanged when more places are appended
-pub same-moved : (places more : List ℕ) → ((i : ℕ) → index_in places i < length places → index_in more i ≡ index_in places i)
-    → (steps : List (Step ℕ)) → All (IsListed places) steps → map (step_over (index_in more)) steps ≡ map (step_over (index_in places)) steps
+pub same-moved : (places more : List ℕ) → ((i : ℕ) → position_among_places places i < length places → position_among_places more i ≡ position_among_places places i)
+    → (steps : List (Step ℕ)) → All (StepReadsListedPlace places) steps → map (step_with_leaf_replaced (position_among_places more)) steps ≡ map (step_with_leaf_replaced (position_among_places places)) steps
 same-moved places more kept [] all = refl
 same-moved places more kept (s ∷ steps) all =
-    let others = same-moved places more kept steps (back (IsListed places) (s ∷ []) steps all) in
-    ap (λ l. step_over (index_in more) s ∷ l) others ∙ ap (λ t. t ∷ map (step_over (index_in places)) steps) (one s (All-head (IsListed places) s steps all))
+    let others = same-moved places more kept steps (back (StepReadsListedPlace places) (s ∷ []) steps all) in
+    ap (λ l. step_with_leaf_replaced (position_among_places more) s ∷ l) others ∙ ap (λ t. t ∷ map (step_with_leaf_replaced (position_among_places places)) steps) (one s (All-head (StepReadsListedPlace places) s steps all))
   where
-    one : (s : Step ℕ) → IsListed places s → step_over (index_in more) s ≡ step_over (index_in places) s
+    one : (s : Step ℕ) → StepReadsListedPlace places s → step_with_leaf_replaced (position_among_places more) s
+        ≡ step_with_leaf_replaced (position_among_places places) s
     one (step.Map i down right) h = ap (λ k. step.Map k down right) (kept i h)
     one _ h = refl
 
 -- one more step extends the steps over listed places
 pub moved_more : (places more : List ℕ) (steps : List (Step ℕ)) (i : ℕ) (d : Step ℕ) (others : List (Step ℕ)) (other : Step ℕ) → i < length steps
-    → ((i : ℕ) → index_in places i < length places → index_in more i ≡ index_in places i) → All (IsListed places) (take i steps)
-    → others ≡ map (step_over (index_in places)) (take i steps) → other ≡ step_over (index_in more) (get_or steps i d)
-    → others ++ other ∷ [] ≡ map (step_over (index_in more)) (take (i + 1) steps)
+    → ((i : ℕ) → position_among_places places i < length places → position_among_places more i ≡ position_among_places places i) → All (StepReadsListedPlace places) (take i steps)
+    → others ≡ map (step_with_leaf_replaced (position_among_places places)) (take i steps)
+    → other ≡ step_with_leaf_replaced (position_among_places more) (get_or steps i d)
+    → others ++ other ∷ [] ≡ map (step_with_leaf_replaced (position_among_places more)) (take (i + 1) steps)
 moved_more places more steps i d others other lt kept listed is here =
     ap (λ l. l ++ other ∷ []) (is ∙ sym (same-moved places more kept (take i steps) listed))
-    ∙ ap (λ s. map (step_over (index_in more)) (take i steps) ++ s ∷ []) here
-    ∙ sym (map_more (step_over (index_in more)) steps i d lt)
+    ∙ ap (λ s. map (step_with_leaf_replaced (position_among_places more)) (take i steps) ++ s ∷ []) here
+    ∙ sym (map_more (step_with_leaf_replaced (position_among_places more)) steps i d lt)
 
 -- a step over a listed place is still over a listed place when others are appended
-pub still_listed : (places more : List ℕ) → ((i : ℕ) → index_in places i < length places → index_in more i ≡ index_in places i)
-    → length places ≤ length more → (s : Step ℕ) → IsListed places s → IsListed more s
+pub still_listed : (places more : List ℕ) → ((i : ℕ) → position_among_places places i < length places → position_among_places more i ≡ position_among_places places i)
+    → length places ≤ length more → (s : Step ℕ) → StepReadsListedPlace places s → StepReadsListedPlace more s
 still_listed places more kept longer (step.Map i down right) h = rw (kept i h) (omega (arith, longer, h))
 still_listed places more kept longer _ h = tt
 
 pub listed_more : (places more : List ℕ) (steps : List (Step ℕ)) (i : ℕ) (d : Step ℕ) → i < length steps
-    → ((i : ℕ) → index_in places i < length places → index_in more i ≡ index_in places i) → length places ≤ length more
-    → All (IsListed places) (take i steps) → IsListed more (get_or steps i d) → All (IsListed more) (take (i + 1) steps)
+    → ((i : ℕ) → position_among_places places i < length places
+    → position_among_places more i ≡ position_among_places places i) → length places ≤ length more
+    → All (StepReadsListedPlace places) (take i steps) → StepReadsListedPlace more (get_or steps i d)
+    → All (StepReadsListedPlace more) (take (i + 1) steps)
 listed_more places more steps i d lt kept longer listed here =
-    All-more (IsListed more) steps i d lt
-    (All-weaker (IsListed places) (IsListed more) (λ s h. still_listed places more kept longer s h) (take i steps) listed) here
+    All-more (StepReadsListedPlace more) steps i d lt
+    (All-weaker (StepReadsListedPlace places) (StepReadsListedPlace more) (λ s h. still_listed places more kept longer s h) (take i steps) listed) here

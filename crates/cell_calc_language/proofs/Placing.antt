@@ -9,10 +9,11 @@ use Rattle.cell_calc_grammar.proofs.PostfixLemmas.{count-over, are_of_tree}
 use Rattle.cell_calc_grammar.specs.Tree.{Tree, Number, Map, Negated, Not, Binary, Call, Trees, NoTrees, Then, with_leaves, with_leaves_all}
 use Rattle.cell_calc_grammar.specs.Term.{Term}
 use Rattle.cell_calc_language.specs.Grammatical.{IsGrammatical, AreGrammatical}
-use Rattle.cell_calc_language.specs.Binding.{with_places, place_in}
+use Rattle.cell_calc_language.specs.Binding.{formula_of_term, place_of_map_name}
 use Rattle.cell_calc_language.specs.Formula.{Formula}
-use Rattle.cell_calc_language.specs.Reach.{top_of, top_of_all, IsProper}
-use Rattle.cell_calc_language.specs.parts.TreeSteps.{AreBound}
+use Rattle.cell_calc_language.specs.Reach.{map_place_limit_of_formula, map_place_limit_of_formulas}
+use Rattle.cell_calc_language.specs.Reach.{FormulaIsWithinLimits}
+use Rattle.cell_calc_language.specs.parts.TreeSteps.{AreStepsOfAllowedExpression}
 
 mutual
   grammatical-over : {L M : Type 0} (to : L → M) (f : Tree L) → IsGrammatical f → IsGrammatical (with_leaves to f)
@@ -28,7 +29,7 @@ mutual
   grammatical-over_all to (Then a xs) h = (grammatical-over to a h.0, grammatical-over_all to xs h.1)
 
 mutual
-  top-over : {L : Type 0} (to : L → ℕ) (most : ℕ) → ((l : L) → to l + 1 ≤ most) → (f : Tree L) → top_of (with_leaves to f) ≤ most
+  top-over : {L : Type 0} (to : L → ℕ) (most : ℕ) → ((l : L) → to l + 1 ≤ most) → (f : Tree L) → map_place_limit_of_formula (with_leaves to f) ≤ most
   top-over to most few (Number n) = omega arith
   top-over to most few (Map l down right) = few l
   top-over to most few (Negated a) = top-over to most few a
@@ -36,16 +37,17 @@ mutual
   top-over to most few (Binary op a b) = omega (arith, top-over to most few a, top-over to most few b)
   top-over to most few (Call f xs) = top-over_all to most few xs
 
-  top-over_all : {L : Type 0} (to : L → ℕ) (most : ℕ) → ((l : L) → to l + 1 ≤ most) → (xs : Trees L) → top_of_all (with_leaves_all to xs) ≤ most
+  top-over_all : {L : Type 0} (to : L → ℕ) (most : ℕ) → ((l : L) → to l + 1 ≤ most) → (xs : Trees L) → map_place_limit_of_formulas (with_leaves_all to xs) ≤ most
   top-over_all to most few NoTrees = omega arith
   top-over_all to most few (Then a xs) = omega (arith, top-over to most few a, top-over_all to most few xs)
 
 -- an expression over few places is allowed by the language
-pub proper-over : {L : Type 0} (to : L → ℕ) (most : ℕ) → most < 2 ^ 64 → ((l : L) → to l + 1 ≤ most) → (f : Tree L) → IsGrammatical f → IsProper (with_leaves to f)
+pub proper-over : {L : Type 0} (to : L → ℕ) (most : ℕ) → most < 2 ^ 64 → ((l : L) → to l + 1 ≤ most) → (f : Tree L) → IsGrammatical f → FormulaIsWithinLimits (with_leaves to f)
 proper-over to most small few f h = (grammatical-over to f h, omega (arith, small, top-over to most few f))
 
 -- the steps of an allowed expression are bound
-pub bound_by : (steps : List (Step ℕ)) (f : Formula) → steps ≡ postfix f → IsProper f → AreBound steps
+pub bound_by : (steps : List (Step ℕ)) (f : Formula) → steps ≡ postfix f → FormulaIsWithinLimits f
+    → AreStepsOfAllowedExpression steps
 bound_by steps f is proper = let b = are_of_tree f steps is in record { postfix = b.1; proper = rw (b.0) proper }
 
 -- the place that is found for a leaf is within the list, or 0 if there is none
@@ -58,5 +60,5 @@ found_within is i (x ∷ xs) = by_case (is x) (found_within is (i + 1) xs)
     by_case true h = omega arith
     by_case false h = omega (arith, h)
 
-pub proper-placed : (names : List (List ℕ)) → length names < 2 ^ 64 → (e : Term) → IsGrammatical e → IsProper (with_places names e)
-proper-placed names few e h = proper-over (place_in names) (max 1 (0 + length names)) (omega (arith, few)) (λ m. found_within _ 0 names) e h
+pub proper-placed : (names : List (List ℕ)) → length names < 2 ^ 64 → (e : Term) → IsGrammatical e → FormulaIsWithinLimits (formula_of_term names e)
+proper-placed names few e h = proper-over (place_of_map_name names) (max 1 (0 + length names)) (omega (arith, few)) (λ m. found_within _ 0 names) e h

@@ -39,8 +39,8 @@ zero_and_null = refl
 null_or_five : computed (Binary operator.KnownOr null (Number 5)) ≡ Some (pos 1)
 null_or_five = refl
 
-known_least : computed (Call function.KnownMin (Then null (Then (Number 2) NoTrees))) ≡ Some (pos 2)
-known_least = refl
+write_least_non_null_arguments : computed (Call function.KnownMin (Then null (Then (Number 2) NoTrees))) ≡ Some (pos 2)
+write_least_non_null_arguments = refl
 
 known_mode_of_none : computed (Call function.KnownMode (Then null (Then null NoTrees))) ≡ None
 known_mode_of_none = refl

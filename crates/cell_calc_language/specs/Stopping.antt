@@ -5,37 +5,40 @@ use Rattle.cell_calc_grammar.specs.declared.calc_fault.CalcFault.{CalcFault}
 use Rattle.cell_calc_grammar.specs.declared.calc_fault.CalcKind.TheVariants as kind
 use Rattle.cell_calc_language.specs.declared.token_parsing.ParseStop.{ParseStop}
 use Rattle.cell_calc_language.specs.declared.token_parsing.ParseStop.TheVariants.{Memory, At}
-use Rattle.cell_calc_grammar.specs.declared.token.Placed.{Placed}
+use Rattle.cell_calc_grammar.specs.declared.token.TokenAtColumn.{TokenAtColumn}
 use Rattle.cell_calc_grammar.specs.declared.token.Sign.{Sign}
 use Rattle.cell_calc_grammar.specs.declared.token.Sign.TheVariants.{OpenParenthesis}
 use Rattle.cell_calc_grammar.specs.declared.token.Token.TheVariants as token
-use Rattle.cell_calc_language.specs.GrammarFault.{column_of}
-use Rattle.cell_calc_grammar.specs.TokensRead.{State, Stops, GrammarReads, PartOfExpression, tail}
-use Rattle.cell_calc_grammar.specs.Token.{head}
+use Rattle.cell_calc_language.specs.GrammarFault.{first_token_column_or_end}
+use Rattle.cell_calc_grammar.specs.TokensRead.{ParserState, Stops, ParserStateReadsAs, ExpressionPartReading}
+use Rattle.cell_calc_grammar.specs.TokensRead.{tokens_after_first}
+use Rattle.cell_calc_grammar.specs.Token.{head_token}
 
 -- the parser stops at the position where reading stops, unless memory runs out
-abbrev pub ParserStopsAt : State → ParseStop → Type 0
-ParserStopsAt s Memory = Unit {0}
-ParserStopsAt s (At kind rest) = GrammarReads s (Stops kind rest.now)
+abbrev pub ParserStopsWhereReadingStops : ParserState → ParseStop → Type 0
+ParserStopsWhereReadingStops s Memory = Unit {0}
+ParserStopsWhereReadingStops s (At kind rest) = ParserStateReadsAs s (Stops kind rest.now)
 
 -- reading the part stops with the error of this stop
-abbrev pub IsPartStop : {A : Type 0} → PartOfExpression A → ParseStop → Type 0
-IsPartStop p Memory = ⊥
-IsPartStop p (At kind rest) = p ≡ Err (kind, rest.now)
+abbrev pub PartReadingStopsWithFault : {A : Type 0} → ExpressionPartReading A → ParseStop → Type 0
+PartReadingStopsWithFault p Memory = ⊥
+PartReadingStopsWithFault p (At kind rest) = p ≡ Err (kind, rest.now)
 
 -- the code returns the part as it is read, or stops where reading stops
-abbrev pub IsPartRead : {A : Type 0} → PartOfExpression A → Result (A × Bor (List Placed)) ParseStop → Type 0
-IsPartRead p r = MatchResult r (λ x. p ≡ Ok (x.0, x.1.now)) (λ e. IsPartStop p e)
+abbrev pub ResultAgreesWithPartReading : {A : Type 0} → ExpressionPartReading A
+    → Result (A × Bor (List TokenAtColumn)) ParseStop → Type 0
+ResultAgreesWithPartReading p r = MatchResult r (λ x. p ≡ Ok (x.0, x.1.now)) (λ e. PartReadingStopsWithFault p e)
 
 -- the first token is the sign, and `rest` follows it
-abbrev pub FollowsSign : Sign → List Placed → List Placed → Type 0
-FollowsSign sign ts rest = (head ts ≡ Some (token.Sign sign)) × (tail ts ≡ rest)
+abbrev pub RestFollowsSign : Sign → List TokenAtColumn → List TokenAtColumn → Type 0
+RestFollowsSign sign ts rest = (head_token ts ≡ Some (token.Sign sign)) × (tokens_after_first ts ≡ rest)
 
 -- the first tokens are the name and an opening parenthesis, and `rest` follows them
-abbrev pub IsCallOf : List ℕ → List Placed → List Placed → Type 0
-IsCallOf name ts rest = (head ts ≡ Some (token.Name name)) × FollowsSign OpenParenthesis (tail ts) rest
+abbrev pub RestFollowsCallOpening : List ℕ → List TokenAtColumn → List TokenAtColumn → Type 0
+RestFollowsCallOpening name ts rest = (head_token ts ≡ Some (token.Name name))
+    × RestFollowsSign OpenParenthesis (tokens_after_first ts) rest
 
 -- the error that a stop reports
-abbrev pub fault_of_stop : (end : ℕ) → ParseStop → CalcFault
-fault_of_stop end Memory = record { kind = kind.Memory; column = 0 }
-fault_of_stop end (At kind rest) = record { kind = kind; column = column_of end rest.now }
+abbrev pub fault_of_parser_stop : (end : ℕ) → ParseStop → CalcFault
+fault_of_parser_stop end Memory = record { kind = kind.Memory; column = 0 }
+fault_of_parser_stop end (At kind rest) = record { kind = kind; column = first_token_column_or_end end rest.now }

@@ -2,12 +2,12 @@
 
 ghost use Rattle.std.specs.Prelude.{◌≡◌, ◌≤◌, List, length, IfOk, IfErr};
 ghost use Rattle.cell_calc_language.specs.declared.assignment.Assignment.{Assignment};
-ghost use Rattle.cell_calc_grammar.specs.declared.token.Placed.{Placed};
-ghost use Rattle.cell_calc_language.specs.Assignment.{IsAssignment, IsAssignmentText};
-ghost use Rattle.cell_calc_language.specs.GrammarFault.{IsTextFault};
+ghost use Rattle.cell_calc_grammar.specs.declared.token.TokenAtColumn.{TokenAtColumn};
+ghost use Rattle.cell_calc_language.specs.Assignment.{AreTokensOfAssignment, IsAssignmentText};
+ghost use Rattle.cell_calc_language.specs.GrammarFault.{IsFaultOfAssignmentText};
 
 use crate::expr::Expr;
-use crate::token_parsing::assignment;
+use crate::token_parsing::assignment_of_tokens;
 use cell_calc_grammar::calc_fault::CalcFault;
 use cell_calc_grammar::tokens::tokens;
 use cell_core_values::name::Name;
@@ -32,14 +32,15 @@ pub fn parse(alloc: Global, text: &[u8]) -> Result<Assignment, CalcFault>
     requires { length text.now ≤ 65535 }
     ensures ok { IfOk result (λ a. IsAssignmentText text.now a) }
     ensures only { IfOk result (λ a. (b : Assignment) → IsAssignmentText text.now b → b ≡ a) }
-    ensures fault { IfErr result (λ fault. IsTextFault text.now fault) }
+    ensures fault { IfErr result (λ fault. IsFaultOfAssignmentText text.now fault) }
 {
     let found = tokens(alloc, text)?;
-    assignment(alloc, text.len() as u32 + 1, &found)
+    assignment_of_tokens(alloc, text.len() as u32 + 1, &found)
 }
 
 /// A list of tokens stands for at most one assignment.
-pub fn one_assignment()
-    ensures { (ts : List Placed) (a b : Assignment) → IsAssignment ts a → IsAssignment ts b
+pub fn tokens_denote_one_assignment()
+    ensures { (ts : List TokenAtColumn) (a b : Assignment) → AreTokensOfAssignment ts a
+        → AreTokensOfAssignment ts b
         → a ≡ b }
 {}

@@ -1,21 +1,21 @@
 //! Replaces map names with indices into a list of maps.
 
 ghost use Rattle.std.specs.Prelude.{◌≡◌, map, None, IfOk, IfErr, IfSome, IsErrOf, OnOk};
-ghost use Rattle.cell_calc_language.specs.Binding.{place_in, with_places, IsBindingFault};
-ghost use Rattle.cell_calc_grammar.specs.Postfix.{step_over};
+ghost use Rattle.cell_calc_language.specs.Binding.{place_of_map_name, formula_of_term, IsBindingFault};
+ghost use Rattle.cell_calc_grammar.specs.Postfix.{step_with_leaf_replaced};
 ghost use Rattle.cell_calc_language.specs.Unknown.{first_unknown};
 
 use crate::bound::Bound;
 use crate::calc_fault::{CalcFault, CalcKind};
 use crate::expr::Expr;
-use cell_calc_grammar::map_name::MapName;
+use cell_calc_grammar::map_name::MapNameAtColumn;
 use cell_calc_grammar::step::Step;
 use cell_core::memory::Memory;
 use cell_core::name::{Name, Names};
 use std::alloc::Global;
 
-fn place_in(map: &MapName, names: &Names) -> usize
-    ensures { result ≡ place_in names.now map.now }
+fn place_of_map_name(map: &MapNameAtColumn, names: &Names) -> usize
+    ensures { result ≡ place_of_map_name names.now map.now }
 {
     match names.find(map.name.bytes()) {
         Some(i) => i,
@@ -24,13 +24,13 @@ fn place_in(map: &MapName, names: &Names) -> usize
 }
 
 // Returns the step with its map name replaced by the map's index.
-fn step_over_place(step: &Step<MapName>, names: &Names) -> Step<usize>
-    ensures { result ≡ step_over (place_in names.now) step.now }
+fn step_with_map_place(step: &Step<MapNameAtColumn>, names: &Names) -> Step<usize>
+    ensures { result ≡ step_with_leaf_replaced (place_of_map_name names.now) step.now }
 {
     match step {
         Step::Number(n) => Step::Number(*n),
         Step::Map { leaf, down, right } => Step::Map {
-            leaf: place_in(leaf, names),
+            leaf: place_of_map_name(leaf, names),
             down: *down,
             right: *right,
         },
@@ -41,16 +41,17 @@ fn step_over_place(step: &Step<MapName>, names: &Names) -> Step<usize>
     }
 }
 
-fn steps_over_places(
+fn steps_with_map_places(
     alloc: Global,
-    steps: &[Step<MapName>],
+    steps: &[Step<MapNameAtColumn>],
     names: &Names,
 ) -> Result<Vec<Step<usize>>, Memory>
-    ensures { IfOk result (λ found. found.items ≡ map (step_over (place_in names.now)) steps.now) }
+    ensures { IfOk result (λ found. found.items
+        ≡ map (step_with_leaf_replaced (place_of_map_name names.now)) steps.now) }
 {
     let mut found = Vec::with_capacity(alloc, steps.len())?;
     for step in steps {
-        found.push(step_over_place(step, names))?;
+        found.push(step_with_map_place(step, names))?;
     }
     Ok(found)
 }
@@ -62,7 +63,7 @@ fn steps_over_places(
 /// `UnknownMap` with the column of the first name that is not in the list; otherwise `Memory`, with column 0, if memory
 /// runs out.
 pub fn resolve(alloc: Global, expr: &Expr, names: &Names) -> Result<Bound, CalcFault>
-    ensures ok { IfOk result (λ bound. bound ≡ with_places names.now expr.now) }
+    ensures ok { IfOk result (λ bound. bound ≡ formula_of_term names.now expr.now) }
     ensures known { OnOk result (first_unknown names.now expr.now ≡ None) }
     ensures unknown { IfSome (first_unknown names.now expr.now)
         (λ column. IsErrOf result (record { kind = CalcKind.UnknownMap; column = column })) }
@@ -76,7 +77,7 @@ pub fn resolve(alloc: Global, expr: &Expr, names: &Names) -> Result<Bound, CalcF
         });
     }
     let _count = names.len();
-    match steps_over_places(alloc, expr.steps(), names) {
+    match steps_with_map_places(alloc, expr.steps(), names) {
         Ok(steps) => Ok(Bound { steps }),
         Err(_) => Err(CalcFault {
             kind: CalcKind::Memory,

@@ -1,17 +1,17 @@
 //! Applies operators and functions to cells.
 
 ghost use Rattle.std.specs.Prelude.{◌≡◌, pos, ◌+ℤ◌, ◌-ℤ◌, ◌*ℤ◌, ◌≤ℤ◌, ◌≤◌, Some, negsuc, neg_ℤ, int_div, unsigned_abs, false};
-ghost use Rattle.cell_calc_language.specs.CellOperators.{fit, truth, chosen_cell, lesser, greater, is_zero, is_false, is_true, is_null, known_and, known_or, of_one};
-ghost use Rattle.cell_calc_language.specs.Applied.{negated_cell, inverted_cell, size_of, operator_value};
-ghost use Rattle.cell_calc_language.specs.Joins.{known_lesser, known_greater};
+ghost use Rattle.cell_calc_language.specs.CellOperators.{category_or_null, cell_of_truth_value, cell_chosen_by_condition, lesser, greater_than_as_cell, is_zero, is_false, is_true, is_null, and_despite_null, or_despite_null, applied_unless_null};
+ghost use Rattle.cell_calc_language.specs.Applied.{negated_cell, logical_negation_of_cell, absolute_value_of_cell, operator_value};
+ghost use Rattle.cell_calc_language.specs.Joins.{known_lesser, greater_ignoring_null};
 ghost use Rattle.cell_calc_grammar.specs.declared.operator.Operator.TheVariants as operator;
 
 use cell_core::cell::Cell;
 
 /// Returns a number as a category, or null if it is out of range.
 #[inline(always)]
-pub fn fit(number: i32) -> Cell
-    ensures { result ≡ fit number }
+pub fn category_or_null(number: i32) -> Cell
+    ensures { result ≡ category_or_null number }
 {
     match Cell::value(number) {
         Some(cell) => cell,
@@ -26,26 +26,30 @@ pub fn number(number: u32) -> Cell
     requires { number ≤ 2147483647 }
     ensures { result ≡ Some (pos number) }
 {
-    fit(number as i32)
+    category_or_null(number as i32)
 }
 
 /// Returns a number as a category, or null if there is none.
 #[inline(always)]
-fn cell_or_null(number: Option<i32>) -> Cell
-    ensures { result ≡ of_one (λ n. fit n) number }
+fn cell_of_optional_number(number: Option<i32>) -> Cell
+    ensures { result ≡ applied_unless_null (λ n. category_or_null n) number }
 {
     match number {
-        Some(number) => fit(number),
+        Some(number) => category_or_null(number),
         None => Cell::null(),
     }
 }
 
 /// Returns 1 if the condition holds, otherwise 0.
 #[inline(always)]
-pub fn truth(holds: bool) -> Cell
-    ensures { result ≡ truth holds }
+pub fn cell_of_truth_value(holds: bool) -> Cell
+    ensures { result ≡ cell_of_truth_value holds }
 {
-    if holds { fit(1) } else { fit(0) }
+    if holds {
+        category_or_null(1)
+    } else {
+        category_or_null(0)
+    }
 }
 
 #[inline(always)]
@@ -88,52 +92,52 @@ fn is_true(a: Cell) -> bool
 
 // The compiler vectorises this overflow test, but not a checked addition.
 #[inline(always)]
-fn sum_of(x: i32, y: i32) -> Cell
-    ensures { result ≡ fit (x +ℤ y) }
+fn cell_of_sum(x: i32, y: i32) -> Cell
+    ensures { result ≡ category_or_null (x +ℤ y) }
 {
     let sum = x.wrapping_add(y);
     if (sum < x) != (y < 0) {
         Cell::null()
     } else {
-        fit(sum)
+        category_or_null(sum)
     }
 }
 
 #[inline(always)]
-fn difference_of(x: i32, y: i32) -> Cell
-    ensures { result ≡ fit (x -ℤ y) }
+fn cell_of_difference(x: i32, y: i32) -> Cell
+    ensures { result ≡ category_or_null (x -ℤ y) }
 {
     let difference = x.wrapping_sub(y);
     if (x < difference) != (y < 0) {
         Cell::null()
     } else {
-        fit(difference)
+        category_or_null(difference)
     }
 }
 
 #[tactic(auto, using(crate::proofs::Fit::fit_checked))]
 #[inline(always)]
-fn product_of(x: i32, y: i32) -> Cell
-    ensures { result ≡ fit (x *ℤ y) }
+fn cell_of_product(x: i32, y: i32) -> Cell
+    ensures { result ≡ category_or_null (x *ℤ y) }
 {
-    cell_or_null(x.checked_mul(y))
+    cell_of_optional_number(x.checked_mul(y))
 }
 
 #[inline(always)]
-fn quotient_of(x: i32, y: i32) -> Cell
+fn cell_of_quotient(x: i32, y: i32) -> Cell
     requires { is_zero y ≡ false }
-    ensures { result ≡ fit (int_div x y) }
+    ensures { result ≡ category_or_null (int_div x y) }
 {
-    cell_or_null(x.checked_div(y))
+    cell_of_optional_number(x.checked_div(y))
 }
 
 #[inline(always)]
-fn remainder_of(x: i32, y: i32) -> Cell
+fn cell_of_remainder(x: i32, y: i32) -> Cell
     requires category { negsuc 2147483646 ≤ℤ x }
     requires divisor { is_zero y ≡ false }
-    ensures { result ≡ fit (x -ℤ (y *ℤ int_div x y)) }
+    ensures { result ≡ category_or_null (x -ℤ (y *ℤ int_div x y)) }
 {
-    cell_or_null(x.checked_rem(y))
+    cell_of_optional_number(x.checked_rem(y))
 }
 
 /// `a + b`; null if either is null, or if the sum is out of range (profile).
@@ -142,7 +146,7 @@ pub fn sum(a: Cell, b: Cell) -> Cell
     ensures { result ≡ operator_value operator.Plus a b }
 {
     match (a.get(), b.get()) {
-        (Some(x), Some(y)) => sum_of(x, y),
+        (Some(x), Some(y)) => cell_of_sum(x, y),
         _ => Cell::null(),
     }
 }
@@ -153,25 +157,25 @@ pub fn difference(a: Cell, b: Cell) -> Cell
     ensures { result ≡ operator_value operator.Minus a b }
 {
     match (a.get(), b.get()) {
-        (Some(x), Some(y)) => difference_of(x, y),
+        (Some(x), Some(y)) => cell_of_difference(x, y),
         _ => Cell::null(),
     }
 }
 
 /// `a * b`; null if either is null, or if the product is out of range (profile).
 #[inline(always)]
-pub fn product(a: Cell, b: Cell) -> Cell
+pub fn product_of_two_cells(a: Cell, b: Cell) -> Cell
     ensures { result ≡ operator_value operator.Times a b }
 {
     match (a.get(), b.get()) {
-        (Some(x), Some(y)) => product_of(x, y),
+        (Some(x), Some(y)) => cell_of_product(x, y),
         _ => Cell::null(),
     }
 }
 
 /// `a / b`, truncated towards zero; null if either is null, or if `b` is 0 (GRASS manual: r.mapcalc).
 #[inline(always)]
-pub fn quotient(a: Cell, b: Cell) -> Cell
+pub fn quotient_of_two_cells(a: Cell, b: Cell) -> Cell
     ensures { result ≡ operator_value operator.Divide a b }
 {
     match (a.get(), b.get()) {
@@ -179,7 +183,7 @@ pub fn quotient(a: Cell, b: Cell) -> Cell
             if is_zero(y) {
                 Cell::null()
             } else {
-                quotient_of(x, y)
+                cell_of_quotient(x, y)
             }
         }
         _ => Cell::null(),
@@ -188,7 +192,7 @@ pub fn quotient(a: Cell, b: Cell) -> Cell
 
 /// `a % b`, with the sign of `a`; null if either is null, or if `b` is 0 (profile).
 #[inline(always)]
-pub fn remainder(a: Cell, b: Cell) -> Cell
+pub fn remainder_of_two_cells(a: Cell, b: Cell) -> Cell
     ensures { result ≡ operator_value operator.Modulo a b }
 {
     match (a.get(), b.get()) {
@@ -196,7 +200,7 @@ pub fn remainder(a: Cell, b: Cell) -> Cell
             if is_zero(y) {
                 Cell::null()
             } else {
-                remainder_of(x, y)
+                cell_of_remainder(x, y)
             }
         }
         _ => Cell::null(),
@@ -205,88 +209,88 @@ pub fn remainder(a: Cell, b: Cell) -> Cell
 
 /// `a < b` as 1 or 0; null if either is null.
 #[inline(always)]
-pub fn less(a: Cell, b: Cell) -> Cell
+pub fn less_than_as_cell(a: Cell, b: Cell) -> Cell
     ensures { result ≡ operator_value operator.Less a b }
 {
     match (a.get(), b.get()) {
-        (Some(x), Some(y)) => truth(x < y),
+        (Some(x), Some(y)) => cell_of_truth_value(x < y),
         _ => Cell::null(),
     }
 }
 
 /// `a <= b` as 1 or 0; null if either is null.
 #[inline(always)]
-pub fn less_equal(a: Cell, b: Cell) -> Cell
+pub fn less_or_equal_as_cell(a: Cell, b: Cell) -> Cell
     ensures { result ≡ operator_value operator.LessEqual a b }
 {
     match (a.get(), b.get()) {
-        (Some(x), Some(y)) => truth(x <= y),
+        (Some(x), Some(y)) => cell_of_truth_value(x <= y),
         _ => Cell::null(),
     }
 }
 
 /// `a > b` as 1 or 0; null if either is null.
 #[inline(always)]
-pub fn greater(a: Cell, b: Cell) -> Cell
+pub fn greater_than_as_cell(a: Cell, b: Cell) -> Cell
     ensures { result ≡ operator_value operator.Greater a b }
 {
     match (a.get(), b.get()) {
-        (Some(x), Some(y)) => truth(x > y),
+        (Some(x), Some(y)) => cell_of_truth_value(x > y),
         _ => Cell::null(),
     }
 }
 
 /// `a >= b` as 1 or 0; null if either is null.
 #[inline(always)]
-pub fn greater_equal(a: Cell, b: Cell) -> Cell
+pub fn greater_or_equal_as_cell(a: Cell, b: Cell) -> Cell
     ensures { result ≡ operator_value operator.GreaterEqual a b }
 {
     match (a.get(), b.get()) {
-        (Some(x), Some(y)) => truth(x >= y),
+        (Some(x), Some(y)) => cell_of_truth_value(x >= y),
         _ => Cell::null(),
     }
 }
 
 /// `a == b` as 1 or 0; null if either is null.
 #[inline(always)]
-pub fn equal(a: Cell, b: Cell) -> Cell
+pub fn equal_as_cell(a: Cell, b: Cell) -> Cell
     ensures { result ≡ operator_value operator.Equal a b }
 {
     match (a.get(), b.get()) {
-        (Some(x), Some(y)) => truth(x == y),
+        (Some(x), Some(y)) => cell_of_truth_value(x == y),
         _ => Cell::null(),
     }
 }
 
 /// `a != b` as 1 or 0; null if either is null.
 #[inline(always)]
-pub fn not_equal(a: Cell, b: Cell) -> Cell
+pub fn not_equal_as_cell(a: Cell, b: Cell) -> Cell
     ensures { result ≡ operator_value operator.NotEqual a b }
 {
     match (a.get(), b.get()) {
-        (Some(x), Some(y)) => truth(x != y),
+        (Some(x), Some(y)) => cell_of_truth_value(x != y),
         _ => Cell::null(),
     }
 }
 
 /// `a && b` as 1 or 0; null if either is null.
 #[inline(always)]
-pub fn and(a: Cell, b: Cell) -> Cell
+pub fn and_of_two_cells(a: Cell, b: Cell) -> Cell
     ensures { result ≡ operator_value operator.And a b }
 {
     match (a.get(), b.get()) {
-        (Some(x), Some(y)) => truth(!is_zero(x) && !is_zero(y)),
+        (Some(x), Some(y)) => cell_of_truth_value(!is_zero(x) && !is_zero(y)),
         _ => Cell::null(),
     }
 }
 
 /// `a || b` as 1 or 0; null if either is null.
 #[inline(always)]
-pub fn or(a: Cell, b: Cell) -> Cell
+pub fn or_of_two_cells(a: Cell, b: Cell) -> Cell
     ensures { result ≡ operator_value operator.Or a b }
 {
     match (a.get(), b.get()) {
-        (Some(x), Some(y)) => truth(!is_zero(x) || !is_zero(y)),
+        (Some(x), Some(y)) => cell_of_truth_value(!is_zero(x) || !is_zero(y)),
         _ => Cell::null(),
     }
 }
@@ -305,7 +309,7 @@ pub fn lesser(a: Cell, b: Cell) -> Cell
 /// Returns the larger of two cells, or null if either is null.
 #[inline(always)]
 pub fn larger(a: Cell, b: Cell) -> Cell
-    ensures { result ≡ greater a b }
+    ensures { result ≡ greater_than_as_cell a b }
 {
     match (a.get(), b.get()) {
         (Some(x), Some(y)) => { if y < x { a } else { b } }
@@ -315,31 +319,31 @@ pub fn larger(a: Cell, b: Cell) -> Cell
 
 /// `a &&& b`: 0 if either is 0, even if the other is null; otherwise like `a && b` (GRASS manual: r.mapcalc).
 #[inline(always)]
-pub fn known_and(a: Cell, b: Cell) -> Cell
+pub fn and_despite_null(a: Cell, b: Cell) -> Cell
     ensures { result ≡ operator_value operator.KnownAnd a b }
 {
     if is_false(a) || is_false(b) {
-        return fit(0);
+        return category_or_null(0);
     }
     if is_null(a) || is_null(b) {
         return Cell::null();
     }
-    fit(1)
+    category_or_null(1)
 }
 
 /// `a ||| b`: 1 if either is a number other than 0, even if the other is null; otherwise like `a || b` (GRASS manual:
 /// r.mapcalc).
 #[inline(always)]
-pub fn known_or(a: Cell, b: Cell) -> Cell
+pub fn or_despite_null(a: Cell, b: Cell) -> Cell
     ensures { result ≡ operator_value operator.KnownOr a b }
 {
     if is_true(a) || is_true(b) {
-        return fit(1);
+        return category_or_null(1);
     }
     if is_null(a) || is_null(b) {
         return Cell::null();
     }
-    fit(0)
+    category_or_null(0)
 }
 
 /// Returns the smaller of two cells, ignoring null.
@@ -359,7 +363,7 @@ pub fn known_lesser(a: Cell, b: Cell) -> Cell
 /// Returns the larger of two cells, ignoring null.
 #[inline(always)]
 pub fn known_larger(a: Cell, b: Cell) -> Cell
-    ensures { result ≡ known_greater a b }
+    ensures { result ≡ greater_ignoring_null a b }
 {
     if is_null(a) {
         return b;
@@ -377,18 +381,18 @@ pub fn negated_cell(a: Cell) -> Cell
     ensures { result ≡ negated_cell a }
 {
     match a.get() {
-        Some(x) => cell_or_null(x.checked_neg()),
+        Some(x) => cell_of_optional_number(x.checked_neg()),
         None => Cell::null(),
     }
 }
 
 /// `!a`: 1 if `a` is 0, 0 if it is another number, and null if it is null.
 #[inline(always)]
-pub fn inverted_cell(a: Cell) -> Cell
-    ensures { result ≡ inverted_cell a }
+pub fn logical_negation_of_cell(a: Cell) -> Cell
+    ensures { result ≡ logical_negation_of_cell a }
 {
     match a.get() {
-        Some(x) => truth(is_zero(x)),
+        Some(x) => cell_of_truth_value(is_zero(x)),
         None => Cell::null(),
     }
 }
@@ -396,19 +400,19 @@ pub fn inverted_cell(a: Cell) -> Cell
 /// `abs(a)`; null if `a` is null.
 #[tactic(auto, using(crate::proofs::Fit::fit_checked))]
 #[inline(always)]
-pub fn size(a: Cell) -> Cell
-    ensures { result ≡ size_of a }
+pub fn cell_absolute_value(a: Cell) -> Cell
+    ensures { result ≡ absolute_value_of_cell a }
 {
     match a.get() {
-        Some(x) => cell_or_null(x.checked_abs()),
+        Some(x) => cell_of_optional_number(x.checked_abs()),
         None => Cell::null(),
     }
 }
 
 /// `if(condition, yes, no)`: `no` if the condition is 0, `yes` if it is another number, and null if it is null.
 #[inline(always)]
-pub fn chosen_cell(condition: Cell, yes: Cell, no: Cell) -> Cell
-    ensures { result ≡ chosen_cell condition yes no }
+pub fn cell_chosen_by_condition(condition: Cell, yes: Cell, no: Cell) -> Cell
+    ensures { result ≡ cell_chosen_by_condition condition yes no }
 {
     match condition.get() {
         Some(x) => { if is_zero(x) { no } else { yes } }
@@ -418,8 +422,8 @@ pub fn chosen_cell(condition: Cell, yes: Cell, no: Cell) -> Cell
 
 /// `isnull(a)`: 1 if `a` is null, otherwise 0.
 #[inline(always)]
-pub fn nullness(a: Cell) -> Cell
-    ensures { result ≡ truth (is_null a) }
+pub fn null_flag_of_cell(a: Cell) -> Cell
+    ensures { result ≡ cell_of_truth_value (is_null a) }
 {
-    truth(is_null(a))
+    cell_of_truth_value(is_null(a))
 }

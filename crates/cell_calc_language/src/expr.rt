@@ -5,8 +5,8 @@ ghost use Rattle.cell_calc_language.specs.Grammatical.{IsGrammatical};
 ghost use Rattle.cell_calc_grammar.specs.Postfix.{postfix};
 ghost use Rattle.cell_calc_language.specs.Unknown.{first_unknown};
 
-use crate::unknown::first_unplaced;
-use cell_calc_grammar::map_name::MapName;
+use crate::unknown::first_unknown_name_column;
+use cell_calc_grammar::map_name::MapNameAtColumn;
 use cell_calc_grammar::step::Step;
 use cell_core_values::name::Names;
 use std::marker::Model;
@@ -15,26 +15,26 @@ use std::marker::Model;
 /// its number of arguments.
 #[derive(Drop)]
 pub struct Expr {
-    pub(crate) steps: Vec<Step<MapName>>,
+    pub(crate) steps: Vec<Step<MapNameAtColumn>>,
 }
 
 impl Model for Expr {
     ghost use Rattle.std.specs.Prelude.{List};
     ghost use Rattle.std.specs.Coded.{code_by, codes};
     ghost use Rattle.cell_calc_grammar.specs.declared.step.Step.{Step};
-    ghost use Rattle.cell_calc_grammar.specs.declared.map_name.MapName.{MapName};
+    ghost use Rattle.cell_calc_grammar.specs.declared.map_name.MapNameAtColumn.{MapNameAtColumn};
     ghost use Rattle.cell_calc_grammar.proofs.PostfixLemmas.{tree-postfix};
     ghost use Rattle.cell_calc_grammar.specs.Term.{Term};
-    ghost use Rattle.cell_calc_grammar.specs.Postfix.{postfix, tree_of};
-    ghost use Rattle.cell_calc_language.specs.Grammatical.{AreOfExpression};
+    ghost use Rattle.cell_calc_grammar.specs.Postfix.{postfix, tree_of_steps};
+    ghost use Rattle.cell_calc_language.specs.Grammatical.{AreStepsOfExpression};
 
     ghost Value = { Term };
 
-    ghost coded = { code_by (List (Step MapName)) (Prim.hlevel codes) postfix tree_of tree-postfix };
+    ghost coded = { code_by (List (Step MapNameAtColumn)) (Prim.hlevel codes) postfix tree_of_steps tree-postfix };
 
-    ghost view = { λ e. tree_of e.steps.items };
+    ghost view = { λ e. tree_of_steps e.steps.items };
 
-    ghost invariant = { λ e. AreOfExpression e.steps.items };
+    ghost invariant = { λ e. AreStepsOfExpression e.steps.items };
 }
 
 impl Expr {
@@ -42,11 +42,11 @@ impl Expr {
     pub fn first_unknown(&self, names: &Names) -> Option<u32>
         ensures { result ≡ first_unknown names.now self.now }
     {
-        first_unplaced(self.steps(), names)
+        first_unknown_name_column(self.steps(), names)
     }
 
     /// Returns the steps of the expression in postfix order. Does not allocate.
-    pub fn steps(&self) -> &[Step<MapName>]
+    pub fn steps(&self) -> &[Step<MapNameAtColumn>]
         ensures steps { result.now ≡ postfix self.now }
         ensures grammatical { IsGrammatical self.now }
     {

@@ -9,11 +9,11 @@
 //! - `language_law`: tokens stand for one assignment or have one first error
 //! - specs/Value.antt: `value`, the meaning of an expression; specs/Applied.antt: its operators and
 //!   functions
-//! - `cell_operators`: operators and functions as calls: `sum`, `quotient`, `chosen_cell`, ..
+//! - `cell_operators`: operators and functions as calls: `sum`, `quotient`, `cell_chosen_by_condition`, ..
 //! - `binding`: `resolve` replaces map names with indices into a list
 //! - `bound`: `Bound` is an expression over indices; `top` returns one more than the largest index;
 //!   `reach` returns how many rows it reads above and below
-//! - `compacting`: `over_read_maps` returns the expression over only the maps that it reads
+//! - `compacting`: `renumbered_over_read_maps` returns the expression over only the maps that it reads
 //! - private: `expression_reader`, `token_parsing`, `unknown`
 //! - re-exported from `cell_calc_grammar`: `calc_fault`, `function`, `operator`, `token`, `tokens`
 //!

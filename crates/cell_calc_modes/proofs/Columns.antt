@@ -6,18 +6,19 @@ use Rattle.std.specs.Int.{int_min, int_max}
 use Rattle.std.proofs.lemmas.List.{length-map, take_all}
 use Rattle.std.proofs.lemmas.List.Sums.{fold_more}
 use Rattle.cell_core.specs.Grid.{CellValue}
-use Rattle.cell_calc_modes.specs.ColumnCells.{at, column}
-use Rattle.cell_calc_language.specs.CellOperators.{lesser, greater, least, greatest_cell, known_cells, last_argument}
-use Rattle.cell_calc_language.specs.Joins.{known_lesser, known_greater}
+use Rattle.cell_calc_modes.specs.ColumnCells.{at, cells_at_column}
+use Rattle.cell_calc_language.specs.CellOperators.{lesser, greater_than_as_cell, least, greatest_cell, non_null_cells}
+use Rattle.cell_calc_language.specs.CellOperators.{last_argument_cell}
+use Rattle.cell_calc_language.specs.Joins.{known_lesser, greater_ignoring_null}
 
 -- a column has one cell per argument
 pub column_length : {V : Type 0} (f : V → List CellValue) (xs : List V) (k : ℕ)
-    → length (column k (map f xs)) ≡ length xs
+    → length (cells_at_column k (map f xs)) ≡ length xs
 column_length f xs k = length-map (map f xs) (λ row. at row k) ∙ length-map xs f
 
 -- a cell of a column is a cell of its argument's row
 pub column_item : {V : Type 0} (f : V → List CellValue) (xs : List V) (i k : ℕ) (x : V)
-    → i < length xs → x ≡ get_or xs i x → get_or (column k (map f xs)) i None ≡ at (f x) k
+    → i < length xs → x ≡ get_or xs i x → get_or (cells_at_column k (map f xs)) i None ≡ at (f x) k
 column_item f [] i k x lt is = absurd (let no : ⊥ = omega arith in no)
 column_item f (y ∷ xs) zero k x lt is = ap (λ v. at (f v) k) (sym is)
 column_item f (y ∷ xs) (suc i) k x lt is = column_item f xs i k x (omega arith) is
@@ -38,29 +39,29 @@ pub last_before : (n : ℕ) → 1 ≤ n → n - 1 < n
 last_before n some = omega arith
 
 pub last_item : {V : Type 0} (f : V → List CellValue) (xs : List V) (k : ℕ) (x : V) → 1 ≤ length xs
-    → x ≡ get_or xs (length xs - 1) x → last_argument (column k (map f xs)) ≡ at (f x) k
+    → x ≡ get_or xs (length xs - 1) x → last_argument_cell (cells_at_column k (map f xs)) ≡ at (f x) k
 last_item f xs k x some is =
     rw (column_length f xs k) (column_item f xs (length xs - 1) k x (last_before (length xs) some) is)
 
 -- folding one more argument adds its cell
 pub fold_step : {V S : Type 0} (f : V → List CellValue) (g : S → CellValue → S) (a : S) (xs : List V) (i k : ℕ) (x : V)
     (b new : S) (other : List CellValue)
-    → i < length xs → x ≡ get_or xs i x → other ≡ f x → b ≡ fold g a (take i (column k (map f xs)))
+    → i < length xs → x ≡ get_or xs i x → other ≡ f x → b ≡ fold g a (take i (cells_at_column k (map f xs)))
     → new ≡ g b (at other k)
-    → new ≡ fold g a (take (i + 1) (column k (map f xs)))
+    → new ≡ fold g a (take (i + 1) (cells_at_column k (map f xs)))
 fold_step f g a xs i k x b new other lt is slice was each =
-    let cells : List CellValue = column k (map f xs) in
-    let within : i < length (column k (map f xs)) = rw (column_length f xs k) lt in
+    let cells : List CellValue = cells_at_column k (map f xs) in
+    let within : i < length (cells_at_column k (map f xs)) = rw (column_length f xs k) lt in
     each ∙ ap (λ o. g b (at o k)) slice ∙ ap (λ v. g v (at (f x) k)) was
-    ∙ ap (λ v. g (fold g a (take i (column k (map f xs)))) v) (sym (column_item f xs i k x lt is))
-    ∙ sym (fold_more g a (column k (map f xs)) i None within)
+    ∙ ap (λ v. g (fold g a (take i (cells_at_column k (map f xs)))) v) (sym (column_item f xs i k x lt is))
+    ∙ sym (fold_more g a (cells_at_column k (map f xs)) i None within)
 
 -- folding all arguments folds the full column
 pub fold_all : {V : Type 0} (f : V → List CellValue) (g : CellValue → CellValue
     → CellValue) (a : CellValue) (xs : List V) (i k : ℕ) (r : CellValue)
-    → length xs ≤ i → r ≡ fold g a (take i (column k (map f xs))) → r ≡ fold g a (column k (map f xs))
+    → length xs ≤ i → r ≡ fold g a (take i (cells_at_column k (map f xs))) → r ≡ fold g a (cells_at_column k (map f xs))
 fold_all f g a xs i k r le is = is
-    ∙ ap (λ l. fold g a l) (take_all i (column k (map f xs)) (rw (column_length f xs k) le))
+    ∙ ap (λ l. fold g a l) (take_all i (cells_at_column k (map f xs)) (rw (column_length f xs k) le))
 
 -- all arguments except the first are the rest of the list
 others_are : {V : Type 0} (y : V) (ys : List V) → take (length (y ∷ ys) - 1) (drop 1 (y ∷ ys)) ≡ ys
@@ -80,48 +81,50 @@ pub least_all : {V : Type 0} (f : V
     → List CellValue) (args : List V) (i k : ℕ) (first : V) (start : List CellValue) (r : CellValue)
     → 1 ≤ length args → first ≡ get_or args 0 first → start ≡ f first
     → length (take (length args - 1) (drop 1 args)) ≤ i
-    → r ≡ fold lesser (at start k) (take i (column k (map f (take (length args - 1) (drop 1 args)))))
-    → r ≡ least (column k (map f args))
+    → r ≡ fold lesser (at start k) (take i (cells_at_column k (map f (take (length args - 1) (drop 1 args)))))
+    → r ≡ least (cells_at_column k (map f args))
 least_all f [] i k first start r some is from le e = absurd (let no : ⊥ = omega arith in no)
 least_all f (y ∷ ys) i k first start r some is from le e =
     let all = fold_all f lesser (at start k) (take (length (y ∷ ys) - 1) (drop 1 (y ∷ ys))) i k r le e in
-    all ∙ ap (λ l. fold lesser (at start k) (column k (map f l))) (others_are y ys)
-    ∙ ap (λ s. fold lesser (at s k) (column k (map f ys))) (from ∙ ap f is)
+    all ∙ ap (λ l. fold lesser (at start k) (cells_at_column k (map f l))) (others_are y ys)
+    ∙ ap (λ s. fold lesser (at s k) (cells_at_column k (map f ys))) (from ∙ ap f is)
 
 pub greatest_all : {V : Type 0} (f : V
     → List CellValue) (args : List V) (i k : ℕ) (first : V) (start : List CellValue) (r : CellValue)
     → 1 ≤ length args → first ≡ get_or args 0 first → start ≡ f first
     → length (take (length args - 1) (drop 1 args)) ≤ i
-    → r ≡ fold greater (at start k) (take i (column k (map f (take (length args - 1) (drop 1 args)))))
-    → r ≡ greatest_cell (column k (map f args))
+    → r ≡ fold greater_than_as_cell (at start k) (take i (cells_at_column k
+    (map f (take (length args - 1) (drop 1 args)))))
+    → r ≡ greatest_cell (cells_at_column k (map f args))
 greatest_all f [] i k first start r some is from le e = absurd (let no : ⊥ = omega arith in no)
 greatest_all f (y ∷ ys) i k first start r some is from le e =
-    let all = fold_all f greater (at start k) (take (length (y ∷ ys) - 1) (drop 1 (y ∷ ys))) i k r le e in
-    all ∙ ap (λ l. fold greater (at start k) (column k (map f l))) (others_are y ys)
-    ∙ ap (λ s. fold greater (at s k) (column k (map f ys))) (from ∙ ap f is)
+    let all = fold_all f greater_than_as_cell (at start k) (take (length (y ∷ ys) - 1) (drop 1 (y ∷ ys))) i k r le e in
+    all ∙ ap (λ l. fold greater_than_as_cell (at start k) (cells_at_column k (map f l))) (others_are y ys)
+    ∙ ap (λ s. fold greater_than_as_cell (at s k) (cells_at_column k (map f ys))) (from ∙ ap f is)
 
 -- the smallest and the largest known cells are found one cell at a time
-lesser_from : (v : ℤ) (xs : List CellValue) → fold known_lesser (Some v) xs ≡ fold lesser (Some v) (known_cells xs)
+lesser_from : (v : ℤ) (xs : List CellValue) → fold known_lesser (Some v) xs ≡ fold lesser (Some v) (non_null_cells xs)
 lesser_from v [] = refl
 lesser_from v (None ∷ xs) = lesser_from v xs
 lesser_from v (Some w ∷ xs) = lesser_from (int_min v w) xs
 
-pub known_least_is : (xs : List CellValue) → fold known_lesser None xs ≡ least (known_cells xs)
+pub known_least_is : (xs : List CellValue) → fold known_lesser None xs ≡ least (non_null_cells xs)
 known_least_is [] = refl
 known_least_is (None ∷ xs) = known_least_is xs
 known_least_is (Some w ∷ xs) = lesser_from w xs
 
-greater_from : (v : ℤ) (xs : List CellValue) → fold known_greater (Some v) xs ≡ fold greater (Some v) (known_cells xs)
+greater_from : (v : ℤ) (xs : List CellValue) → fold greater_ignoring_null (Some v) xs
+    ≡ fold greater_than_as_cell (Some v) (non_null_cells xs)
 greater_from v [] = refl
 greater_from v (None ∷ xs) = greater_from v xs
 greater_from v (Some w ∷ xs) = greater_from (int_max v w) xs
 
-pub known_greatest_is : (xs : List CellValue) → fold known_greater None xs ≡ greatest_cell (known_cells xs)
+pub known_greatest_is : (xs : List CellValue) → fold greater_ignoring_null None xs ≡ greatest_cell (non_null_cells xs)
 known_greatest_is [] = refl
 known_greatest_is (None ∷ xs) = known_greatest_is xs
 known_greatest_is (Some w ∷ xs) = greater_from w xs
 
 -- taking at least as many cells as there are arguments gives the full column
 pub whole : {V : Type 0} (f : V → List CellValue) (xs : List V) (i k : ℕ) → length xs ≤ i
-    → take i (column k (map f xs)) ≡ column k (map f xs)
-whole f xs i k le = take_all i (column k (map f xs)) (rw (column_length f xs k) le)
+    → take i (cells_at_column k (map f xs)) ≡ cells_at_column k (map f xs)
+whole f xs i k le = take_all i (cells_at_column k (map f xs)) (rw (column_length f xs k) le)

@@ -17,12 +17,14 @@ use Rattle.std.proofs.lemmas.List.Elements.{filter-append}
 use Rattle.std.proofs.lemmas.List.Sorted.{sum_by-IsPermutation, All-permutation, IsPermutation-sym, length_permutation}
 use Rattle.std.proofs.lemmas.List.Sums.{sum_by_push, sum_by-cons, list_all-from_AllPass, length-filter}
 use Rattle.std.proofs.lemmas.List.Sums.{count_by-le-length}
-use Rattle.cell_core_values.specs.Cell.{cell_cmp, cell_eq, cell_eq-Decides}
+use Rattle.cell_core_values.specs.Cell.{compare_cells_null_last, cell_eq, cell_eq-Decides}
 use Rattle.cell_core.specs.Grid.{CellValue}
-use Rattle.cell_calc_language.specs.CellOperators.{lesser, least, known_cells, is_null, occurrences, is_most_frequent}
+use Rattle.cell_calc_language.specs.CellOperators.{lesser, least, non_null_cells, is_null, occurrences}
+use Rattle.cell_calc_language.specs.CellOperators.{is_most_frequent_cell}
 use Rattle.cell_calc_language.specs.CellOperators.{most_frequent, mode}
-use Rattle.cell_calc_modes.specs.parts.Modes.{IsLongestRun, HaveLongest, unless_null}
-use Rattle.cell_calc_modes.specs.ColumnCells.{at, column}
+use Rattle.cell_calc_modes.specs.parts.Modes.{IsMostFrequentAndLastCategory, AreMostFrequentAndLastCells}
+use Rattle.cell_calc_modes.specs.parts.Modes.{cell_unless_other_null}
+use Rattle.cell_calc_modes.specs.ColumnCells.{at, cells_at_column}
 use Rattle.cell_calc_modes.proofs.Columns.{column_item, column_length, whole}
 
 -- a claim that follows from w < v, from w = v and from v < w is true
@@ -68,7 +70,8 @@ other_more w v cells other =
 
 -- the number of times that the next category occurs is the length of its run
 next_run : (cells : List CellValue) (b : ℤ) (most : ℕ) (u : ℤ) (run : ℕ) (v : ℤ) (n : ℕ)
-    → IsLongestRun cells b most u run → (v <ℤ u → ⊥) → n ≡ (if cell_eq (Some v) (Some u) then run else 0) + 1
+    → IsMostFrequentAndLastCategory cells b most u run → (v <ℤ u → ⊥)
+    → n ≡ (if cell_eq (Some v) (Some u) then run else 0) + 1
     → occurrences (Some v) (cells ++ Some v ∷ []) ≡ n
 next_run cells b most u run v n is not_less e = by_order v u
     (λ h. absurd (not_less h))
@@ -86,8 +89,9 @@ next_run cells b most u run v n is not_less e = by_order v u
 
 -- if the last run is longer than the longest, it becomes the longest
 new_longest : (cells : List CellValue) (b : ℤ) (most : ℕ) (u : ℤ) (run : ℕ) (v : ℤ) (n : ℕ)
-    → IsLongestRun cells b most u run → (v <ℤ u → ⊥) → occurrences (Some v) (cells ++ Some v ∷ []) ≡ n → most < n
-    → IsLongestRun (cells ++ Some v ∷ []) v n v n
+    → IsMostFrequentAndLastCategory cells b most u run → (v <ℤ u → ⊥)
+    → occurrences (Some v) (cells ++ Some v ∷ []) ≡ n → most < n
+    → IsMostFrequentAndLastCategory (cells ++ Some v ∷ []) v n v n
 new_longest cells b most u run v n is not_less counted more = record {
   within = λ w. by_order w v (λ h. let k = other_more w v cells (less_differ w v h) in let a = is.within w in omega
       (arith, k, a))
@@ -106,8 +110,9 @@ new_longest cells b most u run v n is not_less counted more = record {
 
 -- if the last run is not longer than the longest, the longest stays
 old_longest : (cells : List CellValue) (b : ℤ) (most : ℕ) (u : ℤ) (run : ℕ) (v : ℤ) (n : ℕ)
-    → IsLongestRun cells b most u run → (v <ℤ u → ⊥) → occurrences (Some v) (cells ++ Some v ∷ []) ≡ n → n ≤ most
-    → IsLongestRun (cells ++ Some v ∷ []) b most v n
+    → IsMostFrequentAndLastCategory cells b most u run → (v <ℤ u → ⊥)
+    → occurrences (Some v) (cells ++ Some v ∷ []) ≡ n → n ≤ most
+    → IsMostFrequentAndLastCategory (cells ++ Some v ∷ []) b most v n
 old_longest cells b most u run v n is not_less counted few = record {
   within = λ w. by_order w v (λ h. let k = other_more w v cells (less_differ w v h) in let a = is.within w in omega
       (arith, k, a))
@@ -138,7 +143,7 @@ old_longest cells b most u run v n is not_less counted few = record {
         omega (arith, none, some, k)
 
 -- if v is not less than u in the order of cells, v is not below u as a number
-not_below : (v u : ℤ) → is_lt (cell_cmp (Some v) (Some u)) ≡ false → v <ℤ u → ⊥
+not_below : (v u : ℤ) → is_lt (compare_cells_null_last (Some v) (Some u)) ≡ false → v <ℤ u → ⊥
 not_below v u e less = go (int_cmp v u) (int_ranks v u) e
   where
     go : (o : Ordering) → MatchOrdering o (v <ℤ u) (v ≡ u) (u <ℤ v) → is_lt o ≡ false → ⊥
@@ -149,19 +154,20 @@ not_below v u e less = go (int_cmp v u) (int_ranks v u) e
 -- one more cell updates the longest run
 longest_more : (cells : List CellValue) (best : CellValue) (most : ℕ) (last : CellValue) (run : ℕ) (y : CellValue)
     (n : ℕ)
-    → HaveLongest cells best most last run → is_null y ≡ false → is_lt (cell_cmp y last) ≡ false
+    → AreMostFrequentAndLastCells cells best most last run → is_null y ≡ false
+    → is_lt (compare_cells_null_last y last) ≡ false
     → n ≡ (if cell_eq y last then run else 0) + 1
-    → HaveLongest (cells ++ y ∷ []) (if nat_lt most n then y else best) (max most n) y n
-longest_more cells None most last run y n is known_cells order e = absurd is
-longest_more cells (Some b) most None run y n is known_cells order e = absurd is
-longest_more cells (Some b) most (Some u) run None n is known_cells order e = absurd (true≢false known_cells)
-longest_more cells (Some b) most (Some u) run (Some v) n is known_cells order e = by_case (nat_lt most n) refl
+    → AreMostFrequentAndLastCells (cells ++ y ∷ []) (if nat_lt most n then y else best) (max most n) y n
+longest_more cells None most last run y n is non_null_cells order e = absurd is
+longest_more cells (Some b) most None run y n is non_null_cells order e = absurd is
+longest_more cells (Some b) most (Some u) run None n is non_null_cells order e = absurd (true≢false non_null_cells)
+longest_more cells (Some b) most (Some u) run (Some v) n is non_null_cells order e = by_case (nat_lt most n) refl
   where
     counted : occurrences (Some v) (cells ++ Some v ∷ []) ≡ n
     counted = next_run cells b most u run v n is (not_below v u order) e
 
     by_case : (t : Bool) → nat_lt most n ≡ t
-        → HaveLongest (cells ++ Some v ∷ []) (if t then Some v else Some b) (max most n) (Some v) n
+        → AreMostFrequentAndLastCells (cells ++ Some v ∷ []) (if t then Some v else Some b) (max most n) (Some v) n
     by_case true t =
         let more : most < n = grind arith in
         let most_is : max most n ≡ n = omega arith in
@@ -173,11 +179,11 @@ longest_more cells (Some b) most (Some u) run (Some v) n is known_cells order e 
 
 -- in the first cell alone, the longest run is that cell, of length 1
 pub longest_first : (cells : List CellValue) → 0 < length cells → All (λ cell. is_null cell ≡ false) cells
-    → HaveLongest (take 1 cells) (at cells 0) 1 (at cells 0) 1
-longest_first [] some known_cells = absurd (let no : ⊥ = omega arith in no)
-longest_first (None ∷ cells) some known_cells =
-    absurd (true≢false (All-head (λ cell. is_null cell ≡ false) None cells known_cells))
-longest_first (Some v ∷ cells) some known_cells = record {
+    → AreMostFrequentAndLastCells (take 1 cells) (at cells 0) 1 (at cells 0) 1
+longest_first [] some non_null_cells = absurd (let no : ⊥ = omega arith in no)
+longest_first (None ∷ cells) some non_null_cells =
+    absurd (true≢false (All-head (λ cell. is_null cell ≡ false) None cells non_null_cells))
+longest_first (Some v ∷ cells) some non_null_cells = record {
   within = λ w. by_order w v (λ h. let k = other_more w v [] (less_differ w v h) in omega (arith, k))
       (λ h. let k : occurrences (Some w) (Some v ∷ [])
       ≡ 1 = subst (λ x. occurrences (Some x) (Some v ∷ []) ≡ 1) (sym h) (same_more v []) in omega (arith, k))
@@ -191,17 +197,18 @@ longest_first (Some v ∷ cells) some known_cells = record {
 
 -- one more cell in the loop updates the longest run
 pub longest_step : (cells : List CellValue) (i : ℕ) (best : CellValue) (most run n : ℕ) (cell last : CellValue)
-    → 1 ≤ i → i < length cells → All (λ cell. is_null cell ≡ false) cells → IsSorted cell_cmp cells
-    → HaveLongest (take i cells) best most (at cells (i - 1)) run
+    → 1 ≤ i → i < length cells → All (λ cell. is_null cell ≡ false) cells → IsSorted compare_cells_null_last cells
+    → AreMostFrequentAndLastCells (take i cells) best most (at cells (i - 1)) run
     → cell ≡ at cells i → last ≡ at cells (i - 1) → n ≡ (if cell_eq cell last then run else 0) + 1
-    → HaveLongest (take (i + 1) cells) (if nat_lt most n then cell else best) (max most n) (at cells (i + 1 - 1)) n
-longest_step cells i best most run n cell last some within known_cells sorted is cell_is last_is e =
-    let order : is_lt (cell_cmp (at cells i) (at cells (i - 1))) ≡ false =
-    subst (λ k. is_lt (cell_cmp (at cells k) (at cells (i - 1)))
+    → AreMostFrequentAndLastCells (take (i + 1) cells) (if nat_lt most n then cell else best) (max most n)
+    (at cells (i + 1 - 1)) n
+longest_step cells i best most run n cell last some within non_null_cells sorted is cell_is last_is e =
+    let order : is_lt (compare_cells_null_last (at cells i) (at cells (i - 1))) ≡ false =
+    subst (λ k. is_lt (compare_cells_null_last (at cells k) (at cells (i - 1)))
     ≡ false) (omega arith) (sorted (i - 1) None (omega arith) (omega arith)) in
     let here : i + 1 - 1 ≡ i = omega arith in
     let more = longest_more (take i cells) best most (at cells (i - 1)) run (at cells i) n is
-    (All-get_or (λ cell. is_null cell ≡ false) cells i None within known_cells) order
+    (All-get_or (λ cell. is_null cell ≡ false) cells i None within non_null_cells) order
     (e ∙ ap (λ x. (if cell_eq x last then run else 0) + 1) cell_is
     ∙ ap (λ x. (if cell_eq (at cells i) x then run else 0) + 1) last_is) in
     rw (here, cell_is, take_more cells i None within) more
@@ -313,13 +320,13 @@ pub frequent_is : (cells : List CellValue) (b : ℤ) (most : ℕ) → All (λ ce
     → ((w : ℤ) → occurrences (Some w) cells ≤ most) → ((w : ℤ) → w <ℤ b → occurrences (Some w) cells < most)
     → occurrences (Some b) cells ≡ most → 0 < most → most_frequent cells ≡ Some b
 frequent_is cells b most all within below same positive =
-    least_of (is_most_frequent cells) b cells all low
+    least_of (is_most_frequent_cell cells) b cells all low
     (list_all-from_AllPass _ cells (All-weaker (λ cell. is_null cell ≡ false) _ passes cells all)) there
   where
     there : 0 < occurrences (Some b) cells
     there = omega (arith, same, positive)
 
-    low : (w : ℤ) → w <ℤ b → is_most_frequent cells (Some w) ≡ false
+    low : (w : ℤ) → w <ℤ b → is_most_frequent_cell cells (Some w) ≡ false
     low w h =
         let less = below w h in
         let fails : nat_le (occurrences (Some b) cells) (occurrences (Some w) cells)
@@ -332,7 +339,8 @@ frequent_is cells b most all within below same positive =
 
 -- the category of the longest run in sorted cells is the most frequent category of these cells in any order
 pub longest_is : (cells xs : List CellValue) (best : CellValue) (most : ℕ) (last : CellValue) (run : ℕ)
-    → HaveLongest cells best most last run → All (λ cell. is_null cell ≡ false) cells → IsPermutation xs cells
+    → AreMostFrequentAndLastCells cells best most last run → All (λ cell. is_null cell ≡ false) cells
+    → IsPermutation xs cells
     → best ≡ most_frequent xs
 longest_is cells xs None most last run is all moved = absurd is
 longest_is cells xs (Some b) most None run is all moved = absurd is
@@ -348,11 +356,11 @@ longest_is cells xs (Some b) most (Some u) run is all moved =
 -- after the loop, the category of the longest run is the most frequent category of all cells
 pub longest_all : (cells xs : List CellValue) (i : ℕ) (best : CellValue) (most run : ℕ)
     → length cells ≤ i → All (λ cell. is_null cell ≡ false) cells
-    → HaveLongest (take i cells) best most (at cells (i - 1)) run
+    → AreMostFrequentAndLastCells (take i cells) best most (at cells (i - 1)) run
     → IsPermutation xs cells → best ≡ most_frequent xs
 longest_all cells xs i best most run le all is moved =
     longest_is cells xs best most (at cells (i - 1)) run
-    (subst (λ l. HaveLongest l best most (at cells (i - 1)) run) (take_all i cells le) is) all moved
+    (subst (λ l. AreMostFrequentAndLastCells l best most (at cells (i - 1)) run) (take_all i cells le) is) all moved
 
 -- a part that is kept or left out is at most the full number
 pub kept_within : (t : Bool) (whole n : ℕ) → n ≡ (if t then whole else 0) → n ≤ whole
@@ -374,24 +382,24 @@ pub gather_step : {V : Type 0} (f : V
     → List CellValue) (args : List V) (i k count n : ℕ) (x : V) (row : List CellValue) (cell : CellValue)
     (cells : List CellValue)
     → i < length args → x ≡ get_or args i x → row ≡ f x → cell ≡ at row k → count < length cells
-    → take count cells ≡ known_cells (take i (column k (map f args))) → n ≡ (if is_null cell then 0 else 1)
-    → take (count + n) (set cells count cell) ≡ known_cells (take (i + 1) (column k (map f args)))
+    → take count cells ≡ non_null_cells (take i (cells_at_column k (map f args))) → n ≡ (if is_null cell then 0 else 1)
+    → take (count + n) (set cells count cell) ≡ non_null_cells (take (i + 1) (cells_at_column k (map f args)))
 gather_step f args i k count n x row cell cells lt is slice cell_is room so_far n_is =
     kept cell n_is
-    ∙ ap (λ l. l ++ known_cells (cell ∷ [])) so_far
+    ∙ ap (λ l. l ++ non_null_cells (cell ∷ [])) so_far
     ∙ sym (filter-append (λ a. not (is_null a)) (take i col) (cell ∷ []))
-    ∙ ap (λ v. known_cells (take i col ++ v ∷ []))
+    ∙ ap (λ v. non_null_cells (take i col ++ v ∷ []))
     (cell_is ∙ ap (λ o. at o k) slice ∙ sym (column_item f args i k x lt is))
-    ∙ ap known_cells (sym (take_more col i None within))
+    ∙ ap non_null_cells (sym (take_more col i None within))
   where
     col : List CellValue
-    col = column k (map f args)
+    col = cells_at_column k (map f args)
 
-    within : i < length (column k (map f args))
+    within : i < length (cells_at_column k (map f args))
     within = rw (column_length f args k) lt
 
     kept : (v : CellValue) → n ≡ (if is_null v then 0 else 1)
-        → take (count + n) (set cells count v) ≡ take count cells ++ known_cells (v ∷ [])
+        → take (count + n) (set cells count v) ≡ take count cells ++ non_null_cells (v ∷ [])
     kept None e =
         let same : count + n ≡ count = omega (arith, e) in
         ap (λ m. take m (set cells count None)) same ∙ take-set cells count None ∙ sym (append-nil (take count cells))
@@ -399,38 +407,38 @@ gather_step f args i k count n x row cell cells lt is slice cell_is room so_far 
 
 -- after the loop, all categories of a column are kept
 pub gathered : {V : Type 0} (f : V → List CellValue) (args : List V) (i k : ℕ) (cells : List CellValue)
-    → length args ≤ i → cells ≡ known_cells (take i (column k (map f args)))
-    → cells ≡ known_cells (column k (map f args))
-gathered f args i k cells le is = is ∙ ap known_cells (whole f args i k le)
+    → length args ≤ i → cells ≡ non_null_cells (take i (cells_at_column k (map f args)))
+    → cells ≡ non_null_cells (cells_at_column k (map f args))
+gathered f args i k cells le is = is ∙ ap non_null_cells (whole f args i k le)
 
-pub all_known : (xs : List CellValue) → All (λ cell. is_null cell ≡ false) (known_cells xs)
+pub all_known : (xs : List CellValue) → All (λ cell. is_null cell ≡ false) (non_null_cells xs)
 all_known [] = All-nil (λ cell. is_null cell ≡ false)
 all_known (None ∷ xs) = all_known xs
-all_known (Some v ∷ xs) = All-cons (λ cell. is_null cell ≡ false) (Some v) (known_cells xs) refl (all_known xs)
+all_known (Some v ∷ xs) = All-cons (λ cell. is_null cell ≡ false) (Some v) (non_null_cells xs) refl (all_known xs)
 
 -- if no cell is null, all cells are known
-all_are_known : (xs : List CellValue) → list_any is_null xs ≡ false → known_cells xs ≡ xs
+all_are_known : (xs : List CellValue) → list_any is_null xs ≡ false → non_null_cells xs ≡ xs
 all_are_known [] h = refl
 all_are_known (None ∷ xs) h = cc
 all_are_known (Some v ∷ xs) h = ap (λ l. Some v ∷ l) (all_are_known xs h)
 
--- folding `unless_null` gives null if an argument is null, and otherwise the cell
+-- folding `cell_unless_other_null` gives null if an argument is null, and otherwise the cell
 one_null : (cell : CellValue) (xs : List CellValue)
-    → fold unless_null cell xs ≡ (if list_any is_null xs then None else cell)
+    → fold cell_unless_other_null cell xs ≡ (if list_any is_null xs then None else cell)
 one_null cell [] = refl
 one_null cell (None ∷ xs) = nulls xs
   where
-    nulls : (xs : List CellValue) → fold unless_null None xs ≡ None
+    nulls : (xs : List CellValue) → fold cell_unless_other_null None xs ≡ None
     nulls [] = refl
     nulls (None ∷ xs) = nulls xs
     nulls (Some v ∷ xs) = nulls xs
 one_null cell (Some v ∷ xs) = one_null cell xs
 
 -- the mode is the most frequent category, or null if a cell is null
-pub mode_is : (xs : List CellValue) → fold unless_null (most_frequent (known_cells xs)) xs ≡ mode xs
-mode_is xs = one_null (most_frequent (known_cells xs)) xs ∙ by (list_any is_null xs) refl
+pub mode_is : (xs : List CellValue) → fold cell_unless_other_null (most_frequent (non_null_cells xs)) xs ≡ mode xs
+mode_is xs = one_null (most_frequent (non_null_cells xs)) xs ∙ by (list_any is_null xs) refl
   where
     by : (t : Bool) → list_any is_null xs ≡ t
-        → (if t then None else most_frequent (known_cells xs)) ≡ (if t then None else most_frequent xs)
+        → (if t then None else most_frequent (non_null_cells xs)) ≡ (if t then None else most_frequent xs)
     by true e = refl
     by false e = ap most_frequent (all_are_known xs e)

@@ -14,9 +14,10 @@ use Rattle.std.proofs.lemmas.Simd.{tops_compared, length-zip2, get_or-zip2, leng
 use Rattle.std.proofs.lemmas.Simd.{get_or-replicate}
 use Rattle.cell_core_values.specs.Cell.{cell_eq}
 use Rattle.cell_core.specs.Grid.{CellValue}
-use Rattle.cell_calc_language.specs.CellOperators.{is_null, known_cells, occurrences, most_frequent}
-use Rattle.cell_calc_modes.specs.ColumnCells.{at, column}
-use Rattle.cell_calc_modes.specs.parts.ModeLanes.{key_cell, lane_cells, IsMostOften, HaveMost}
+use Rattle.cell_calc_language.specs.CellOperators.{is_null, non_null_cells, occurrences, most_frequent}
+use Rattle.cell_calc_modes.specs.ColumnCells.{at, cells_at_column}
+use Rattle.cell_calc_modes.specs.parts.ModeLanes.{cell_denoted_by_key, cells_of_vectors_in_lane}
+use Rattle.cell_calc_modes.specs.parts.ModeLanes.{AreMostFrequentCategoryAndCount, AreMostFrequentOrNullAndCount}
 use Rattle.cell_calc_modes.proofs.Columns.{column_item, column_length, whole}
 use Rattle.cell_calc_modes.proofs.Frequent.{by_order, differ, is_self, less_differ, greater_differ, same_more}
 use Rattle.cell_calc_modes.proofs.Frequent.{other_more, frequent_is, all_known}
@@ -80,14 +81,14 @@ counted_at count key other k ec ek eo lt few =
 abbrev category : ℕ → ℤ
 category key = pos key -ℤ pos 2147483648
 
-is_category : (key : ℕ) → eqb key 0 ≡ false → key_cell key ≡ Some (category key)
+is_category : (key : ℕ) → eqb key 0 ≡ false → cell_denoted_by_key key ≡ Some (category key)
 is_category key e = ap (λ s. if s then None else Some (category key)) e
 
-is_nothing : (key : ℕ) → eqb key 0 ≡ true → key_cell key ≡ None
+is_nothing : (key : ℕ) → eqb key 0 ≡ true → cell_denoted_by_key key ≡ None
 is_nothing key e = ap (λ s. if s then None else Some (category key)) e
 
 -- two keys are equal exactly if their cells are
-same_key : (a b : ℕ) → cell_eq (key_cell a) (key_cell b) ≡ eqb a b
+same_key : (a b : ℕ) → cell_eq (cell_denoted_by_key a) (cell_denoted_by_key b) ≡ eqb a b
 same_key a b = by_null (eqb a 0) refl (eqb b 0) refl
   where
     both : (t : Bool) → eqb a b ≡ t → cell_eq (Some (category a)) (Some (category b)) ≡ t
@@ -104,21 +105,21 @@ same_key a b = by_null (eqb a 0) refl (eqb b 0) refl
         (λ same. eqb-false a 0 e (let y = eqb-true b 0 f in omega (arith, y, same))))
     by_null false e false f = both (eqb a b) refl
 
-lane_count : (k : ℕ) (keys : List (List ℕ)) → length (lane_cells k keys) ≡ length keys
-lane_count k keys = length-map keys (λ lanes. key_cell (get_or lanes k 0))
+lane_count : (k : ℕ) (keys : List (List ℕ)) → length (cells_of_vectors_in_lane k keys) ≡ length keys
+lane_count k keys = length-map keys (λ lanes. cell_denoted_by_key (get_or lanes k 0))
 
 lane_item : (k i : ℕ) (keys : List (List ℕ)) (key : List ℕ) → i < length keys → key ≡ get_or keys i key
-    → get_or (lane_cells k keys) i None ≡ key_cell (get_or key k 0)
+    → get_or (cells_of_vectors_in_lane k keys) i None ≡ cell_denoted_by_key (get_or key k 0)
 lane_item k i keys key lt is =
-    get_or-map (λ lanes. key_cell (get_or lanes k 0)) keys i key None lt
-    ∙ ap (λ lanes. key_cell (get_or lanes k 0)) (sym is)
+    get_or-map (λ lanes. cell_denoted_by_key (get_or lanes k 0)) keys i key None lt
+    ∙ ap (λ lanes. cell_denoted_by_key (get_or lanes k 0)) (sym is)
 
 pub counted_few : (k i : ℕ) (keys : List (List ℕ)) (v : CellValue) (count : ℕ) → i < length keys → length keys < 65536
-    → count ≡ occurrences v (take i (lane_cells k keys)) + 1 → count + 1 < 4294967296
+    → count ≡ occurrences v (take i (cells_of_vectors_in_lane k keys)) + 1 → count + 1 < 4294967296
 counted_few k i keys v count lt few counted =
     let all = lane_count k keys in
-    let long = length-take-le i (lane_cells k keys) (omega (arith, all, lt)) in
-    let some = count_by-le-length (cell_eq v) (take i (lane_cells k keys)) in
+    let long = length-take-le i (cells_of_vectors_in_lane k keys) (omega (arith, all, lt)) in
+    let some = count_by-le-length (cell_eq v) (take i (cells_of_vectors_in_lane k keys)) in
     omega (arith, long, some, counted, few, lt)
 
 add_one : (b : Bool) (count occurs new more : ℕ) → count ≡ occurs + 1 → new ≡ count + cond b 1 0
@@ -128,12 +129,12 @@ add_one false count occurs new more e f g = omega (arith, e, f, g)
 
 pub counted_more : (k i : ℕ) (keys : List (List ℕ)) (key other : List ℕ) (count new : ℕ) → i < length keys
     → other ≡ get_or keys i other
-    → count ≡ occurrences (key_cell (get_or key k 0)) (take i (lane_cells k keys)) + 1
+    → count ≡ occurrences (cell_denoted_by_key (get_or key k 0)) (take i (cells_of_vectors_in_lane k keys)) + 1
     → new ≡ count + cond (eqb (get_or key k 0) (get_or other k 0)) 1 0
-    → new ≡ occurrences (key_cell (get_or key k 0)) (take (i + 1) (lane_cells k keys)) + 1
+    → new ≡ occurrences (cell_denoted_by_key (get_or key k 0)) (take (i + 1) (cells_of_vectors_in_lane k keys)) + 1
 counted_more k i keys key other count new lt is counted e =
-    let v = key_cell (get_or key k 0) in
-    let cells = lane_cells k keys in
+    let v = cell_denoted_by_key (get_or key k 0) in
+    let cells = cells_of_vectors_in_lane k keys in
     let all = lane_count k keys in
     let more : occurrences v (take (i + 1) cells)
     ≡ occurrences v (take i cells) + cond (eqb (get_or key k 0) (get_or other k 0)) 1 0 =
@@ -145,16 +146,18 @@ counted_more k i keys key other count new lt is counted e =
 
 pub counted_all : (k i : ℕ) (keys : List (List ℕ)) (key count : List ℕ) → length key ≡ 16 → length count ≡ 16 → k < 16
     → length keys ≤ i
-    → get_or count k 0 ≡ occurrences (key_cell (get_or key k 0)) (take i (lane_cells k keys)) + 1
+    → get_or count k 0 ≡ occurrences (cell_denoted_by_key (get_or key k 0))
+    (take i (cells_of_vectors_in_lane k keys)) + 1
     → get_or (chosen eqb key (replicate 16 0) (replicate 16 0) count) k 0
-    ≡ cond (eqb (get_or key k 0) 0) 0 (occurrences (key_cell (get_or key k 0)) (lane_cells k keys) + 1)
+    ≡ cond (eqb (get_or key k 0) 0) 0 (occurrences (cell_denoted_by_key (get_or key k 0))
+    (cells_of_vectors_in_lane k keys) + 1)
 counted_all k i keys key count ek ec lt le counted =
     let all = lane_count k keys in
     chosen_at eqb key (replicate 16 0) (replicate 16 0) count k ek refl refl ec lt
     ∙ ap (λ n. cond (eqb (get_or key k 0) n) n (get_or count k 0)) (get_or-replicate 16 k 0 0 lt)
     ∙ ap (λ n. cond (eqb (get_or key k 0) 0) 0 n)
-    (counted ∙ ap (λ l. occurrences (key_cell (get_or key k 0)) l + 1)
-    (take_all i (lane_cells k keys) (omega (arith, all, le))))
+    (counted ∙ ap (λ l. occurrences (cell_denoted_by_key (get_or key k 0)) l + 1)
+    (take_all i (cells_of_vectors_in_lane k keys) (omega (arith, all, le))))
 
 -- ---- the number that occurs most often, and its count
 
@@ -219,13 +222,15 @@ old_key most count key best le less =
     rest true e false f = refl
     rest false e t f = refl
 
-moved : (cells : List CellValue) (b new m more : ℕ) → (new ≡ b) × (more ≡ m) → HaveMost cells (key_cell b) m
-    → HaveMost cells (key_cell new) more
-moved cells b new m more e is = subst (λ x. HaveMost cells (key_cell x) more) (sym e.0)
-    (subst (λ n. HaveMost cells (key_cell b) n) (sym e.1) is)
+moved : (cells : List CellValue) (b new m more : ℕ) → (new ≡ b) × (more ≡ m)
+    → AreMostFrequentOrNullAndCount cells (cell_denoted_by_key b) m
+    → AreMostFrequentOrNullAndCount cells (cell_denoted_by_key new) more
+moved cells b new m more e is = subst (λ x. AreMostFrequentOrNullAndCount cells (cell_denoted_by_key x) more) (sym e.0)
+    (subst (λ n. AreMostFrequentOrNullAndCount cells (cell_denoted_by_key b) n) (sym e.1) is)
 
 new_most : (cells : List CellValue) (most : ℕ) (v : ℤ) (n : ℕ) → ((w : ℤ) → occurrences (Some w) cells ≤ most)
-    → occurrences (Some v) (cells ++ Some v ∷ []) ≡ n → most < n → IsMostOften (cells ++ Some v ∷ []) v n
+    → occurrences (Some v) (cells ++ Some v ∷ []) ≡ n → most < n
+    → AreMostFrequentCategoryAndCount (cells ++ Some v ∷ []) v n
 new_most cells most v n few counted more = record {
   within = λ w. by_order w v (λ h. let k = other_more w v cells (less_differ w v h) in let a = few w in omega
       (arith, k, a, more))
@@ -237,8 +242,9 @@ new_most cells most v n few counted more = record {
   positive = omega (arith, more);
 }
 
-tied_most : (cells : List CellValue) (b : ℤ) (most : ℕ) (v : ℤ) → IsMostOften cells b most
-    → occurrences (Some v) (cells ++ Some v ∷ []) ≡ most → v <ℤ b → IsMostOften (cells ++ Some v ∷ []) v most
+tied_most : (cells : List CellValue) (b : ℤ) (most : ℕ) (v : ℤ) → AreMostFrequentCategoryAndCount cells b most
+    → occurrences (Some v) (cells ++ Some v ∷ []) ≡ most → v <ℤ b
+    → AreMostFrequentCategoryAndCount (cells ++ Some v ∷ []) v most
 tied_most cells b most v is counted less = record {
   within = λ w. by_order w v (λ h. let k = other_more w v cells (less_differ w v h) in let a = is.within w in omega
       (arith, k, a))
@@ -251,9 +257,9 @@ tied_most cells b most v is counted less = record {
   positive = is.positive;
 }
 
-kept_most : (cells : List CellValue) (b : ℤ) (most : ℕ) (v : ℤ) (n : ℕ) → IsMostOften cells b most
+kept_most : (cells : List CellValue) (b : ℤ) (most : ℕ) (v : ℤ) (n : ℕ) → AreMostFrequentCategoryAndCount cells b most
     → occurrences (Some v) (cells ++ Some v ∷ []) ≡ n → n ≤ most → (v <ℤ b → n < most)
-    → IsMostOften (cells ++ Some v ∷ []) b most
+    → AreMostFrequentCategoryAndCount (cells ++ Some v ∷ []) b most
 kept_most cells b most v n is counted few fewer = record {
   within = λ w. by_order w v (λ h. let k = other_more w v cells (less_differ w v h) in let a = is.within w in omega
       (arith, k, a))
@@ -273,7 +279,7 @@ kept_most cells b most v n is counted few fewer = record {
   positive = is.positive;
 }
 
-known_occurs : (v : ℤ) (xs : List CellValue) → occurrences (Some v) (known_cells xs) ≡ occurrences (Some v) xs
+known_occurs : (v : ℤ) (xs : List CellValue) → occurrences (Some v) (non_null_cells xs) ≡ occurrences (Some v) xs
 known_occurs v [] = refl
 known_occurs v (None ∷ xs) =
     let e : occurrences (Some v) (None ∷ xs)
@@ -283,38 +289,43 @@ known_occurs v (None ∷ xs) =
 known_occurs v (Some w ∷ xs) =
     let e : occurrences (Some v) (Some w ∷ xs)
     ≡ (if cell_eq (Some v) (Some w) then 1 else 0) + occurrences (Some v) xs = sum_by-cons _ (Some w) xs in
-    let f : occurrences (Some v) (Some w ∷ known_cells xs)
-    ≡ (if cell_eq (Some v) (Some w) then 1 else 0) + occurrences (Some v) (known_cells xs) =
-    sum_by-cons _ (Some w) (known_cells xs) in
+    let f : occurrences (Some v) (Some w ∷ non_null_cells xs)
+    ≡ (if cell_eq (Some v) (Some w) then 1 else 0) + occurrences (Some v) (non_null_cells xs) =
+    sum_by-cons _ (Some w) (non_null_cells xs) in
     f ∙ ap (λ n. (if cell_eq (Some v) (Some w) then 1 else 0) + n) (known_occurs v xs) ∙ sym e
 
 -- one more number updates the most frequent one
-most_more : (xs : List CellValue) (key count best most : ℕ) → HaveMost (known_cells xs) (key_cell best) most
-    → count ≡ cond (eqb key 0) 0 (occurrences (key_cell key) xs + 1)
-    → HaveMost (known_cells xs ++ known_cells (key_cell key ∷ [])) (key_cell (better_key most count key best))
+most_more : (xs : List CellValue) (key count best most : ℕ) → AreMostFrequentOrNullAndCount (non_null_cells xs)
+    (cell_denoted_by_key best) most
+    → count ≡ cond (eqb key 0) 0 (occurrences (cell_denoted_by_key key) xs + 1)
+    → AreMostFrequentOrNullAndCount (non_null_cells xs ++ non_null_cells (cell_denoted_by_key key ∷ []))
+    (cell_denoted_by_key (better_key most count key best))
     (larger_count most count)
 most_more xs key count best most is counted = by_key (eqb key 0) refl
   where
     cells : List CellValue
-    cells = known_cells xs
+    cells = non_null_cells xs
 
     Goal : Type 0
-    Goal = HaveMost (cells ++ known_cells (key_cell key ∷ [])) (key_cell (better_key most count key best))
+    Goal = AreMostFrequentOrNullAndCount (cells ++ non_null_cells (cell_denoted_by_key key ∷ []))
+        (cell_denoted_by_key (better_key most count key best))
         (larger_count most count)
 
-    some : eqb best 0 ≡ false → IsMostOften cells (category best) most
-    some f = subst (λ c. HaveMost cells c most) (is_category best f) is
+    some : eqb best 0 ≡ false → AreMostFrequentCategoryAndCount cells (category best) most
+    some f = subst (λ c. AreMostFrequentOrNullAndCount cells c most) (is_category best f) is
 
     null_key : eqb key 0 ≡ true → Goal
     null_key e =
-        let zero : count ≡ 0 = counted ∙ ap (λ s. cond s 0 (occurrences (key_cell key) xs + 1)) e in
+        let zero : count ≡ 0 = counted ∙ ap (λ s. cond s 0 (occurrences (cell_denoted_by_key key) xs + 1)) e in
         let none = eqb-true key 0 e in
         let fewer : key < best → count < most = (λ lt.
         let positive = (some (ne_eqb best 0 (λ z. omega (arith, z, lt)))).positive in omega (arith, zero, positive)) in
         let kept = moved cells best _ most _ (old_key most count key best (omega (arith, zero)) fewer) is in
-        subst (λ c. HaveMost (cells ++ known_cells (c ∷ [])) (key_cell (better_key most count key best))
+        subst (λ c. AreMostFrequentOrNullAndCount (cells ++ non_null_cells (c ∷ []))
+        (cell_denoted_by_key (better_key most count key best))
         (larger_count most count)) (sym (is_nothing key e))
-        (subst (λ l. HaveMost l (key_cell (better_key most count key best)) (larger_count most count))
+        (subst (λ l. AreMostFrequentOrNullAndCount l (cell_denoted_by_key (better_key most count key best))
+        (larger_count most count))
         (sym (append-nil cells)) kept)
 
     -- the count of a number's category includes the number itself
@@ -322,22 +333,25 @@ most_more xs key count best most is counted = by_key (eqb key 0) refl
     occurs e =
         same_more (category key) cells ∙ ap (λ n. n + 1) (known_occurs (category key) xs)
         ∙ ap (λ c. occurrences c xs + 1) (sym (is_category key e))
-        ∙ sym (counted ∙ ap (λ s. cond s 0 (occurrences (key_cell key) xs + 1)) e)
+        ∙ sym (counted ∙ ap (λ s. cond s 0 (occurrences (cell_denoted_by_key key) xs + 1)) e)
 
     -- the new number becomes the most frequent one
     taken : (m : ℕ) → eqb key 0 ≡ false → (better_key most count key best ≡ key) × (larger_count most count ≡ m)
-        → IsMostOften (cells ++ Some (category key) ∷ []) (category key) m → Goal
-    taken m e now h = moved (cells ++ known_cells (key_cell key ∷ [])) key _ m _ now
-        (subst (λ c. HaveMost (cells ++ known_cells (c ∷ [])) c m) (sym (is_category key e)) h)
+        → AreMostFrequentCategoryAndCount (cells ++ Some (category key) ∷ []) (category key) m → Goal
+    taken m e now h = moved (cells ++ non_null_cells (cell_denoted_by_key key ∷ [])) key _ m _ now
+        (subst (λ c. AreMostFrequentOrNullAndCount (cells ++ non_null_cells (c ∷ [])) c m) (sym (is_category key e)) h)
 
     -- the most frequent number stays
     stays : eqb key 0 ≡ false → eqb best 0 ≡ false → count ≤ most → (key < best → count < most) → Goal
     stays e f le less =
         let h = kept_most cells (category best) most (category key) count (some f) (occurs e) le
         (λ l. less (omega (arith, ints, l))) in
-        moved (cells ++ known_cells (key_cell key ∷ [])) best _ most _ (old_key most count key best le less)
-        (subst (λ c. HaveMost (cells ++ known_cells (key_cell key ∷ [])) c most) (sym (is_category best f))
-        (subst (λ c. HaveMost (cells ++ known_cells (c ∷ [])) (Some (category best)) most) (sym (is_category key e)) h))
+        moved (cells ++ non_null_cells (cell_denoted_by_key key ∷ [])) best _ most _
+        (old_key most count key best le less)
+        (subst (λ c. AreMostFrequentOrNullAndCount (cells ++ non_null_cells (cell_denoted_by_key key ∷ [])) c most)
+        (sym (is_category best f))
+        (subst (λ c. AreMostFrequentOrNullAndCount (cells ++ non_null_cells (c ∷ [])) (Some (category best)) most)
+        (sym (is_category key e)) h))
 
     tied : eqb key 0 ≡ false → eqb best 0 ≡ false → count ≡ most → (t : Bool) → ltb key best ≡ t → Goal
     tied e f same true g =
@@ -348,8 +362,9 @@ most_more xs key count best most is counted = by_key (eqb key 0) refl
 
     by_best : eqb key 0 ≡ false → (t : Bool) → eqb best 0 ≡ t → Goal
     by_best e true f =
-        let none : (cells ≡ []) × (most ≡ 0) = subst (λ c. HaveMost cells c most) (is_nothing best f) is in
-        let own = counted ∙ ap (λ s. cond s 0 (occurrences (key_cell key) xs + 1)) e in
+        let none : (cells ≡ []) × (most ≡ 0) = subst (λ c. AreMostFrequentOrNullAndCount cells c most)
+        (is_nothing best f) is in
+        let own = counted ∙ ap (λ s. cond s 0 (occurrences (cell_denoted_by_key key) xs + 1)) e in
         let more : most < count = omega (arith, own, none.1) in
         taken count e (new_key most count key best more)
         (new_most cells most (category key) count (λ w. subst (λ l. occurrences (Some w) l ≤ most) (sym none.0)
@@ -367,67 +382,77 @@ most_more xs key count best most is counted = by_key (eqb key 0) refl
     by_key false e = by_best e (eqb best 0) refl
 
 pub most_first : (k : ℕ) (keys : List (List ℕ)) → k < 16
-    → HaveMost (known_cells (take 0 (lane_cells k keys))) (key_cell (get_or (replicate 16 0) k 0))
+    → AreMostFrequentOrNullAndCount (non_null_cells (take 0 (cells_of_vectors_in_lane k keys)))
+    (cell_denoted_by_key (get_or (replicate 16 0) k 0))
     (get_or (replicate 16 0) k 0)
-most_first k keys lt = subst (λ n. HaveMost [] (key_cell n) n) (sym (get_or-replicate 16 k 0 0 lt)) (refl, refl)
+most_first k keys lt = subst (λ n. AreMostFrequentOrNullAndCount [] (cell_denoted_by_key n) n)
+    (sym (get_or-replicate 16 k 0 0 lt))
+    (refl, refl)
 
 pub most_step : (k i : ℕ) (keys : List (List ℕ)) (key : List ℕ) (count best most new more : ℕ) → i < length keys
     → key ≡ get_or keys i key
-    → HaveMost (known_cells (take i (lane_cells k keys))) (key_cell best) most
-    → count ≡ cond (eqb (get_or key k 0) 0) 0 (occurrences (key_cell (get_or key k 0)) (lane_cells k (take i keys)) + 1)
+    → AreMostFrequentOrNullAndCount (non_null_cells (take i (cells_of_vectors_in_lane k keys)))
+    (cell_denoted_by_key best) most
+    → count ≡ cond (eqb (get_or key k 0) 0) 0 (occurrences (cell_denoted_by_key (get_or key k 0))
+    (cells_of_vectors_in_lane k (take i keys)) + 1)
     → new ≡ better_key most count (get_or key k 0) best → more ≡ larger_count most count
-    → HaveMost (known_cells (take (i + 1) (lane_cells k keys))) (key_cell new) more
+    → AreMostFrequentOrNullAndCount (non_null_cells (take (i + 1) (cells_of_vectors_in_lane k keys)))
+    (cell_denoted_by_key new) more
 most_step k i keys key count best most new more lt is so_far counted new_is more_is =
-    let cells = lane_cells k keys in
+    let cells = cells_of_vectors_in_lane k keys in
     let all = lane_count k keys in
-    let before = sym (take-map (λ lanes. key_cell (get_or lanes k 0)) i keys) in
+    let before = sym (take-map (λ lanes. cell_denoted_by_key (get_or lanes k 0)) i keys) in
     let step = most_more (take i cells) (get_or key k 0) count best most so_far
-    (counted ∙ ap (λ l. cond (eqb (get_or key k 0) 0) 0 (occurrences (key_cell (get_or key k 0)) l + 1)) before) in
-    let now : known_cells (take i cells) ++ known_cells (key_cell (get_or key k 0) ∷ [])
-    ≡ known_cells (take (i + 1) cells) =
-    sym (filter-append (λ a. not (is_null a)) (take i cells) (key_cell (get_or key k 0) ∷ []))
-    ∙ ap known_cells (ap (λ y. take i cells ++ y ∷ []) (sym (lane_item k i keys key lt is))
+    (counted ∙ ap (λ l. cond (eqb (get_or key k 0) 0) 0 (occurrences (cell_denoted_by_key (get_or key k 0)) l + 1))
+    before) in
+    let now : non_null_cells (take i cells) ++ non_null_cells (cell_denoted_by_key (get_or key k 0) ∷ [])
+    ≡ non_null_cells (take (i + 1) cells) =
+    sym (filter-append (λ a. not (is_null a)) (take i cells) (cell_denoted_by_key (get_or key k 0) ∷ []))
+    ∙ ap non_null_cells (ap (λ y. take i cells ++ y ∷ []) (sym (lane_item k i keys key lt is))
     ∙ sym (take_more cells i None (omega (arith, all, lt)))) in
-    moved (known_cells (take (i + 1) cells)) _ new _ more (new_is, more_is)
-    (subst (λ l. HaveMost l (key_cell (better_key most count (get_or key k 0) best)) (larger_count most count)) now
+    moved (non_null_cells (take (i + 1) cells)) _ new _ more (new_is, more_is)
+    (subst (λ l. AreMostFrequentOrNullAndCount l (cell_denoted_by_key (better_key most count (get_or key k 0) best))
+    (larger_count most count)) now
     step)
 
 most_is : (cells : List CellValue) (best : CellValue) (most : ℕ) → All (λ cell. is_null cell ≡ false) cells
-    → HaveMost cells best most → best ≡ most_frequent cells
+    → AreMostFrequentOrNullAndCount cells best most → best ≡ most_frequent cells
 most_is cells None most all is = ap most_frequent (sym is.0)
 most_is cells (Some b) most all is = sym (frequent_is cells b most all is.within is.below is.same is.positive)
 
 pub most_all : (k i : ℕ) (keys : List (List ℕ)) (best : CellValue) (most : ℕ) → length keys ≤ i
-    → HaveMost (known_cells (take i (lane_cells k keys))) best most
-    → best ≡ most_frequent (known_cells (lane_cells k keys))
+    → AreMostFrequentOrNullAndCount (non_null_cells (take i (cells_of_vectors_in_lane k keys))) best most
+    → best ≡ most_frequent (non_null_cells (cells_of_vectors_in_lane k keys))
 most_all k i keys best most le is =
     let all = lane_count k keys in
-    let cells = lane_cells k keys in
-    most_is (known_cells cells) best most (all_known cells)
-    (subst (λ l. HaveMost (known_cells l) best most) (take_all i cells (omega (arith, all, le))) is)
+    let cells = cells_of_vectors_in_lane k keys in
+    most_is (non_null_cells cells) best most (all_known cells)
+    (subst (λ l. AreMostFrequentOrNullAndCount (non_null_cells l) best most)
+    (take_all i cells (omega (arith, all, le))) is)
 
 -- ---- blocks of columns
 
 pub gather_more : {V : Type 0} (f : V
     → List CellValue) (args : List V) (i c k : ℕ) (x : V) (row : List CellValue) (keys : List (List ℕ)) (key : List ℕ)
-    → i < length args → i < length keys → x ≡ get_or args i x → row ≡ f x → key_cell (get_or key k 0) ≡ at row (c + k)
-    → lane_cells k (take i keys) ≡ take i (column (c + k) (map f args))
-    → lane_cells k (take (i + 1) (set keys i key)) ≡ take (i + 1) (column (c + k) (map f args))
+    → i < length args → i < length keys → x ≡ get_or args i x → row ≡ f x
+    → cell_denoted_by_key (get_or key k 0) ≡ at row (c + k)
+    → cells_of_vectors_in_lane k (take i keys) ≡ take i (cells_at_column (c + k) (map f args))
+    → cells_of_vectors_in_lane k (take (i + 1) (set keys i key)) ≡ take (i + 1) (cells_at_column (c + k) (map f args))
 gather_more f args i c k x row keys key lt room is slice here so_far =
     let count = column_length f args (c + k) in
-    ap (lane_cells k) (take_more_set keys i key room)
-    ∙ map_push (λ lanes. key_cell (get_or lanes k 0)) (take i keys) key
-    ∙ ap (λ l. l ++ key_cell (get_or key k 0) ∷ []) so_far
-    ∙ ap (λ y. take i (column (c + k) (map f args)) ++ y ∷ []) (here ∙ ap (λ o. at o (c + k)) slice
+    ap (cells_of_vectors_in_lane k) (take_more_set keys i key room)
+    ∙ map_push (λ lanes. cell_denoted_by_key (get_or lanes k 0)) (take i keys) key
+    ∙ ap (λ l. l ++ cell_denoted_by_key (get_or key k 0) ∷ []) so_far
+    ∙ ap (λ y. take i (cells_at_column (c + k) (map f args)) ++ y ∷ []) (here ∙ ap (λ o. at o (c + k)) slice
     ∙ sym (column_item f args i (c + k) x lt is))
-    ∙ sym (take_more (column (c + k) (map f args)) i None (omega (arith, count, lt)))
+    ∙ sym (take_more (cells_at_column (c + k) (map f args)) i None (omega (arith, count, lt)))
 
 pub gathered_all : {V : Type 0} (f : V → List CellValue) (args : List V) (i c k : ℕ) (keys : List (List ℕ))
     → length args ≤ i → length keys ≡ length args
-    → lane_cells k (take i keys) ≡ take i (column (c + k) (map f args))
-    → lane_cells k keys ≡ column (c + k) (map f args)
+    → cells_of_vectors_in_lane k (take i keys) ≡ take i (cells_at_column (c + k) (map f args))
+    → cells_of_vectors_in_lane k keys ≡ cells_at_column (c + k) (map f args)
 gathered_all f args i c k keys le same is =
-    ap (lane_cells k) (sym (take_all i keys (omega (arith, same, le)))) ∙ is ∙ whole f args i (c + k) le
+    ap (cells_of_vectors_in_lane k) (sym (take_all i keys (omega (arith, same, le)))) ∙ is ∙ whole f args i (c + k) le
 
 -- the columns of a block are done after the columns before it
 pub block_done : (P : ℕ → CellValue → Type 0) (old new : List CellValue) (done c : ℕ) → c ≤ done
@@ -445,13 +470,14 @@ block_done P old new done c le was before each k lt = by (cases_lt k c)
 -- adding the key of one more cell keeps each number of a block the key of its cell
 pub keys_more : (cells : List CellValue) (c k : ℕ) (keys : List ℕ) (key : ℕ) (cell : CellValue) → k < length keys
     → c + k < length cells
-    → cell ≡ get_or cells (c + k) cell → key_cell key ≡ cell
-    → ((j : ℕ) → j < k → key_cell (get_or keys j 0) ≡ at cells (c + j)) → (j : ℕ) → j < k + 1
-    → key_cell (get_or (set keys k key) j 0) ≡ at cells (c + j)
+    → cell ≡ get_or cells (c + k) cell → cell_denoted_by_key key ≡ cell
+    → ((j : ℕ) → j < k → cell_denoted_by_key (get_or keys j 0) ≡ at cells (c + j)) → (j : ℕ) → j < k + 1
+    → cell_denoted_by_key (get_or (set keys k key) j 0) ≡ at cells (c + j)
 keys_more cells c k keys key cell lt within is same done j less =
-    let before : (m : ℕ) → m < k → key_cell (get_or (set keys k key) m 0) ≡ at cells (c + m) = (λ m below.
+    let before : (m : ℕ) → m < k → cell_denoted_by_key (get_or (set keys k key) m 0) ≡ at cells (c + m) = (λ m below.
     let other : m ≢ k = omega (arith, below) in
-    ap key_cell (get_or-set_other keys k m key 0 other) ∙ done m below) in
-    let now : key_cell (get_or (set keys k key) k 0) ≡ at cells (c + k) =
-    ap key_cell (get_or-set_same keys k key 0 lt) ∙ same ∙ is ∙ get_or_default cells (c + k) cell None within in
-    below_more (λ m. key_cell (get_or (set keys k key) m 0) ≡ at cells (c + m)) k before now j less
+    ap cell_denoted_by_key (get_or-set_other keys k m key 0 other) ∙ done m below) in
+    let now : cell_denoted_by_key (get_or (set keys k key) k 0) ≡ at cells (c + k) =
+    ap cell_denoted_by_key (get_or-set_same keys k key 0 lt) ∙ same ∙ is
+    ∙ get_or_default cells (c + k) cell None within in
+    below_more (λ m. cell_denoted_by_key (get_or (set keys k key) m 0) ≡ at cells (c + m)) k before now j less

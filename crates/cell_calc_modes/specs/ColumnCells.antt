@@ -8,17 +8,17 @@ abbrev pub at : List CellValue → ℕ → CellValue
 at cells c = slice_index_or cells c None
 
 -- the cells of rows at a column
-abbrev pub column : ℕ → List (List CellValue) → List CellValue
-column c rows = map (λ row. slice_index_or row c None) rows
+abbrev pub cells_at_column : ℕ → List (List CellValue) → List CellValue
+cells_at_column c rows = map (λ row. slice_index_or row c None) rows
 
 -- the cells of arguments at a column
-abbrev pub arguments_at : ℕ → List (Vec CellValue Global) → List CellValue
-arguments_at c rows = column c (map (λ cells. cells.items) rows)
+abbrev pub argument_cells_at_column : ℕ → List (Vec CellValue Global) → List CellValue
+argument_cells_at_column c rows = cells_at_column c (map (λ cells. cells.items) rows)
 
 -- all rows have this width
-abbrev pub AreWide : ℕ → List (Vec CellValue Global) → Type 0
-AreWide width rows = All (λ cells. length cells.items ≡ width) rows
+abbrev pub AreRowsOfWidth : ℕ → List (Vec CellValue Global) → Type 0
+AreRowsOfWidth width rows = All (λ cells. length cells.items ≡ width) rows
 
 -- the row contains this cell at each column
-abbrev pub Becomes : List CellValue → List CellValue → (ℕ → CellValue) → Type 0
-Becomes old new cell = (c : ℕ) → c < length old → at new c ≡ cell c
+abbrev pub RowHoldsCellAtEachColumn : List CellValue → List CellValue → (ℕ → CellValue) → Type 0
+RowHoldsCellAtEachColumn old new cell = (c : ℕ) → c < length old → at new c ≡ cell c

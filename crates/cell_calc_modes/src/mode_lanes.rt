@@ -2,9 +2,9 @@
 //! with all earlier ones.
 
 ghost use Rattle.std.specs.Prelude.{◌≡◌, ◌≤◌, ◌<◌, ◌+◌, ◌==◌, ℕ, length, slice_index_or, All, OnOk, nat_lt, if◌then◌else◌};
-ghost use Rattle.cell_calc_language.specs.CellOperators.{most_frequent, known_cells, occurrences};
-ghost use Rattle.cell_calc_modes.specs.ColumnCells.{at, Becomes, AreWide, arguments_at};
-ghost use Rattle.cell_calc_modes.specs.parts.ModeLanes.{key_cell, lane, lane_cells};
+ghost use Rattle.cell_calc_language.specs.CellOperators.{most_frequent, non_null_cells, occurrences};
+ghost use Rattle.cell_calc_modes.specs.ColumnCells.{at, RowHoldsCellAtEachColumn, AreRowsOfWidth, argument_cells_at_column};
+ghost use Rattle.cell_calc_modes.specs.parts.ModeLanes.{cell_denoted_by_key, number_in_lane, cells_of_vectors_in_lane};
 
 use cell_core::cell::Cell;
 use cell_core::memory::Memory;
@@ -12,18 +12,18 @@ use std::alloc::Global;
 use std::simd::prelude::*;
 
 /// Number of columns processed at a time.
-pub(crate) const BLOCK: usize = 16;
+pub(crate) const BLOCK_COLUMNS: usize = 16;
 
 // A category is stored as its sum with this number.
-const OFFSET: i64 = 2147483648;
+const CATEGORY_KEY_OFFSET: i64 = 2147483648;
 
 // Returns the number that stands for a cell.
 #[inline(always)]
 fn key_of_cell(cell: Cell) -> u32
-    ensures { key_cell result ≡ cell }
+    ensures { cell_denoted_by_key result ≡ cell }
 {
     match cell.get() {
-        Some(category) => (category as i64 + OFFSET) as u32,
+        Some(category) => (category as i64 + CATEGORY_KEY_OFFSET) as u32,
         None => 0,
     }
 }
@@ -31,9 +31,9 @@ fn key_of_cell(cell: Cell) -> u32
 // Returns the cell that a number stands for.
 #[inline(always)]
 fn cell_of_key(key: u32) -> Cell
-    ensures { result ≡ key_cell key }
+    ensures { result ≡ cell_denoted_by_key key }
 {
-    match Cell::value((key as i64 - OFFSET) as i32) {
+    match Cell::value((key as i64 - CATEGORY_KEY_OFFSET) as i32) {
         Some(cell) => cell,
         None => Cell::null(),
     }
@@ -41,13 +41,14 @@ fn cell_of_key(key: u32) -> Cell
 
 // Returns the numbers that stand for the cells of a row, starting at column `c`.
 #[inline(always)]
-fn keys_at(cells: &[Cell], c: usize) -> u32x16
+fn keys_of_row_at_column(cells: &[Cell], c: usize) -> u32x16
     requires { c + 16 ≤ length cells.now }
     ensures long { length result ≡ 16 }
-    ensures each { (k : ℕ) → k < 16 → key_cell (lane k result) ≡ at cells.now (c + k) }
+    ensures each { (k : ℕ) → k < 16 → cell_denoted_by_key (number_in_lane k result)
+        ≡ at cells.now (c + k) }
 {
-    let mut keys = [0; BLOCK];
-    for k in 0..BLOCK {
+    let mut keys = [0; BLOCK_COLUMNS];
+    for k in 0..BLOCK_COLUMNS {
         keys[k] = key_of_cell(cells[c + k]);
     }
     u32x16::from_array(keys)
@@ -55,13 +56,14 @@ fn keys_at(cells: &[Cell], c: usize) -> u32x16
 
 // Writes the cells that numbers stand for to a row, starting at column `c`.
 #[inline(always)]
-fn write_keys(keys: u32x16, row: &mut [Cell], c: usize)
+fn write_cells_of_keys(keys: u32x16, row: &mut [Cell], c: usize)
     requires { c + 16 ≤ length row.old }
     ensures before { (k : ℕ) → k < c → at row.new k ≡ at row.old k }
-    ensures each { (k : ℕ) → k < 16 → at row.new (c + k) ≡ key_cell (lane k keys) }
+    ensures each { (k : ℕ) → k < 16 → at row.new (c + k)
+        ≡ cell_denoted_by_key (number_in_lane k keys) }
 {
     let keys = keys.to_array();
-    for k in 0..BLOCK {
+    for k in 0..BLOCK_COLUMNS {
         row[c + k] = cell_of_key(keys[k]);
     }
 }
@@ -76,11 +78,12 @@ fn vector_at(vectors: &[u32x16], i: usize) -> u32x16
 
 // Increments the count in each lane in which two numbers are equal.
 #[inline(always)]
-fn count_same(count: u32x16, key: u32x16, other: u32x16) -> u32x16
-    requires { (k : ℕ) → k < 16 → lane k count + 1 < 4294967296 }
+fn increment_count_in_equal_lanes(count: u32x16, key: u32x16, other: u32x16) -> u32x16
+    requires { (k : ℕ) → k < 16 → number_in_lane k count + 1 < 4294967296 }
     ensures long { length result ≡ 16 }
     ensures each { (k : ℕ) → k < 16
-        → lane k result ≡ lane k count + (if lane k key == lane k other then 1 else 0) }
+        → number_in_lane k result ≡ number_in_lane k count +
+        (if number_in_lane k key == number_in_lane k other then 1 else 0) }
 {
     count
         + key
@@ -93,12 +96,13 @@ fn count_same(count: u32x16, key: u32x16, other: u32x16) -> u32x16
 fn occurrences(before: &[u32x16], key: u32x16) -> u32x16
     requires { length before.now < 65536 }
     ensures long { length result ≡ 16 }
-    ensures each { (k : ℕ) → k < 16 → lane k result ≡ (if lane k key == 0 then 0
-        else occurrences (key_cell (lane k key)) (lane_cells k before.now) + 1) }
+    ensures each { (k : ℕ) → k < 16 → number_in_lane k result ≡ (if number_in_lane k key == 0 then 0
+        else occurrences (cell_denoted_by_key (number_in_lane k key))
+        (cells_of_vectors_in_lane k before.now) + 1) }
 {
     let mut count = u32x16::splat(1);
     for i in 0..before.len() {
-        count = count_same(count, key, vector_at(before, i));
+        count = increment_count_in_equal_lanes(count, key, vector_at(before, i));
     }
     key.simd_eq(u32x16::splat(0))
         .select(u32x16::splat(0), count)
@@ -106,13 +110,14 @@ fn occurrences(before: &[u32x16], key: u32x16) -> u32x16
 
 // Selects, in each lane, the number that occurs more often, or the smaller one if both occur equally often.
 #[inline(always)]
-fn better(best: u32x16, most: u32x16, key: u32x16, count: u32x16) -> u32x16
+fn more_frequent_key_in_each_lane(best: u32x16, most: u32x16, key: u32x16, count: u32x16) -> u32x16
     ensures long { length result ≡ 16 }
-    ensures each { (k : ℕ) → k < 16 → lane k result
-        ≡ (if nat_lt (lane k most) (lane k count) then lane k key
-        else (if lane k count == lane k most
-        then (if nat_lt (lane k key) (lane k best) then lane k key else lane k best)
-        else lane k best)) }
+    ensures each { (k : ℕ) → k < 16 → number_in_lane k result
+        ≡ (if nat_lt (number_in_lane k most) (number_in_lane k count) then number_in_lane k key
+        else (if number_in_lane k count == number_in_lane k most
+        then (if nat_lt (number_in_lane k key)
+        (number_in_lane k best) then number_in_lane k key else number_in_lane k best)
+        else number_in_lane k best)) }
 {
     let smaller = key.simd_lt(best).select(key, best);
     let tied = count.simd_eq(most).select(smaller, best);
@@ -121,10 +126,11 @@ fn better(best: u32x16, most: u32x16, key: u32x16, count: u32x16) -> u32x16
 
 // Returns the larger count in each lane.
 #[inline(always)]
-fn larger(most: u32x16, count: u32x16) -> u32x16
+fn larger_count_in_each_lane(most: u32x16, count: u32x16) -> u32x16
     ensures long { length result ≡ 16 }
-    ensures each { (k : ℕ) → k < 16 → lane k result
-        ≡ (if nat_lt (lane k most) (lane k count) then lane k count else lane k most) }
+    ensures each { (k : ℕ) → k < 16 → number_in_lane k result
+        ≡ (if nat_lt (number_in_lane k most) (number_in_lane k count) then number_in_lane k
+        count else number_in_lane k most) }
 {
     most.simd_lt(count).select(count, most)
 }
@@ -133,52 +139,54 @@ fn larger(most: u32x16, count: u32x16) -> u32x16
 fn most_frequent(keys: &[u32x16]) -> u32x16
     requires { length keys.now < 65536 }
     ensures { (k : ℕ) → k < 16
-        → key_cell (lane k result) ≡ most_frequent (known_cells (lane_cells k keys.now)) }
+        → cell_denoted_by_key (number_in_lane k result)
+        ≡ most_frequent (non_null_cells (cells_of_vectors_in_lane k keys.now)) }
 {
     let mut best = u32x16::splat(0);
     let mut most = u32x16::splat(0);
     for i in 0..keys.len() {
         let key = vector_at(keys, i);
         let count = occurrences(&keys[..i], key);
-        best = better(best, most, key, count);
-        most = larger(most, count);
+        best = more_frequent_key_in_each_lane(best, most, key, count);
+        most = larger_count_in_each_lane(most, count);
     }
     best
 }
 
 // Reads the numbers of a block of columns from rows.
-fn gather(arguments: &[Vec<Cell>], c: usize, keys: &mut [u32x16])
+fn gather_keys_of_column_block(arguments: &[Vec<Cell>], c: usize, keys: &mut [u32x16])
     requires columns { All (λ row. c + 16 ≤ length row.items) arguments.now }
     requires room { length keys.old ≡ length arguments.now }
-    ensures { (k : ℕ) → k < 16 → lane_cells k keys.new ≡ arguments_at (c + k) arguments.now }
+    ensures { (k : ℕ) → k < 16 → cells_of_vectors_in_lane k keys.new
+        ≡ argument_cells_at_column (c + k) arguments.now }
 {
     for i in 0..arguments.len() {
-        keys[i] = keys_at(arguments[i].as_slice(), c);
+        keys[i] = keys_of_row_at_column(arguments[i].as_slice(), c);
     }
 }
 
 /// Writes the most frequent category of each column. The rows must have at least one block of columns. The last block
 /// may overlap the one before it.
-pub(crate) fn known_mode(
+pub(crate) fn write_modes_ignoring_null(
     alloc: Global,
     arguments: &[Vec<Cell>],
     row: &mut [Cell],
 ) -> Result<(), Memory>
-    requires width { AreWide (length row.old) arguments.now }
+    requires width { AreRowsOfWidth (length row.old) arguments.now }
     requires block { 16 ≤ length row.old }
     requires few { length arguments.now < 65536 }
-    ensures { OnOk result (Becomes row.old row.new
-        (λ c. most_frequent (known_cells (arguments_at c arguments.now)))) }
+    ensures { OnOk result (RowHoldsCellAtEachColumn row.old row.new
+        (λ c. most_frequent (non_null_cells (argument_cells_at_column c arguments.now)))) }
 {
     let mut spare = Vec::from_elem(alloc, u32x16::splat(0), arguments.len())?;
     let keys = spare.as_mut_slice();
-    let last = row.len() - BLOCK;
+    let last = row.len() - BLOCK_COLUMNS;
     let mut done = 0;
     'blocks: while done < row.len() {
         let c = done.min(last);
-        gather(arguments, c, keys);
-        write_keys(most_frequent(keys), row, c);
-        done = c + BLOCK;
+        gather_keys_of_column_block(arguments, c, keys);
+        write_cells_of_keys(most_frequent(keys), row, c);
+        done = c + BLOCK_COLUMNS;
     }
     Ok(())
 }

@@ -2,8 +2,8 @@
 use Rattle.std.proofs.Common.{◌≡◌, ◌<◌, ◌+◌, ℕ, zero, suc, List, [], ◌∷◌, ◌++◌, length, refl, arith, Some, below_more}
 use Rattle.std.specs.Prelude.{slice_get}
 use Rattle.cell_calc_language.specs.Formula.{Formula}
-use Rattle.cell_calc_language.specs.Reach.{up_of, down_of}
-use Rattle.cell_calc.specs.Window.{Window, HasReach}
+use Rattle.cell_calc_language.specs.Reach.{rows_read_above_by_formula, rows_read_below_by_formula}
+use Rattle.cell_calc.specs.Window.{RowWindowValue, IsWindowAtRowWithReach}
 
 -- an item before the appended items keeps its index
 before : {A : Type 0} (xs ys : List A) (i : ℕ) → i < length xs → slice_get (xs ++ ys) i ≡ slice_get xs i
@@ -17,10 +17,13 @@ behind [] x (suc i) e = absurd (let no : ⊥ = omega arith in no)
 behind (y ∷ xs) x zero e = absurd (let no : ⊥ = omega arith in no)
 behind (y ∷ xs) x (suc i) e = behind xs x i (omega arith)
 
-pub reach_more : (f : Formula) (row : ℕ) (windows : List Window) (n : ℕ) (w : Window) → length windows ≡ n
-    → ((i : ℕ) → i < n → HasReach row (up_of i f) (down_of i f) (slice_get windows i)) → HasReach row (up_of n f) (down_of n f) (Some w)
-    → (i : ℕ) → i < n + 1 → HasReach row (up_of i f) (down_of i f) (slice_get (windows ++ w ∷ []) i)
+pub reach_more : (f : Formula) (row : ℕ) (windows : List RowWindowValue) (n : ℕ) (w : RowWindowValue)
+    → length windows ≡ n
+    → ((i : ℕ) → i < n → IsWindowAtRowWithReach row (rows_read_above_by_formula i f) (rows_read_below_by_formula i f) (slice_get windows i)) → IsWindowAtRowWithReach row (rows_read_above_by_formula n f) (rows_read_below_by_formula n f) (Some w)
+    → (i : ℕ) → i < n + 1 → IsWindowAtRowWithReach row (rows_read_above_by_formula i f) (rows_read_below_by_formula i f)
+    (slice_get (windows ++ w ∷ []) i)
 reach_more f row windows n w count held new =
-    below_more (λ i. HasReach row (up_of i f) (down_of i f) (slice_get (windows ++ w ∷ []) i)) n
+    below_more (λ i. IsWindowAtRowWithReach row (rows_read_above_by_formula i f) (rows_read_below_by_formula i f)
+    (slice_get (windows ++ w ∷ []) i)) n
     (λ i lt. let short : i < length windows = omega arith in rw (before windows (w ∷ []) i short) (held i lt))
     (rw (behind windows w n count) new)

@@ -1,8 +1,8 @@
 //! Evaluates expressions along a row for tests, and checks the row if memory runs out.
 
 ghost use Rattle.std.specs.Prelude.{◌≡◌, ◌<◌, ◌≤◌, ℕ, length, slice_get, IfOk};
-ghost use Rattle.cell_calc_language.specs.Reach.{top_of, up_of, down_of};
-ghost use Rattle.cell_calc.specs.Window.{HasReach};
+ghost use Rattle.cell_calc_language.specs.Reach.{map_place_limit_of_formula, rows_read_above_by_formula, rows_read_below_by_formula};
+ghost use Rattle.cell_calc.specs.Window.{IsWindowAtRowWithReach};
 
 use cell_calc::Bound;
 use cell_calc::rows_of_values::eval_row;
@@ -35,10 +35,11 @@ fn moved(
 
 // Returns a window at `row` for each map that the expression reads.
 fn open(alloc: Global, bound: &Bound, shelf: &Shelf, row: u32) -> Result<Vec<RowWindow>, Memory>
-    requires maps { top_of bound.now ≤ length shelf.now.maps }
+    requires maps { map_place_limit_of_formula bound.now ≤ length shelf.now.maps }
     requires row { row < shelf.now.region.rows }
-    ensures { IfOk result (λ windows. (i : ℕ) → i < top_of bound.now
-        → HasReach row (up_of i bound.now) (down_of i bound.now) (slice_get windows.items i)) }
+    ensures { IfOk result (λ windows. (i : ℕ) → i < map_place_limit_of_formula bound.now
+        → IsWindowAtRowWithReach row (rows_read_above_by_formula i bound.now)
+        (rows_read_below_by_formula i bound.now) (slice_get windows.items i)) }
 {
     let mut windows = Vec::new(alloc);
     for i in 0..bound.top() {
@@ -61,7 +62,7 @@ pub fn values_along(
     row: u32,
     cells: &mut [Cell],
 ) -> Result<Option<bool>, Memory>
-    requires maps { top_of bound.now ≤ length shelf.now.maps }
+    requires maps { map_place_limit_of_formula bound.now ≤ length shelf.now.maps }
     requires row { row < shelf.now.region.rows }
     requires width { length cells.old ≡ shelf.now.region.cols }
 {

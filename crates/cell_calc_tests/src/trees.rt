@@ -1,6 +1,6 @@
 //! Tests of the trees of texts: levels, directions, calls and offsets.
 
-use cell_calc_grammar::map_name::MapName;
+use cell_calc_grammar::map_name::MapNameAtColumn;
 use cell_calc_grammar::step::Step;
 use cell_calc_language::assignment::parse;
 use cell_calc_language::function::Function;
@@ -120,7 +120,7 @@ fn write_call(
 }
 
 // Returns the tree that steps build, as text with parentheses around each operator.
-fn tree_of(alloc: Global, steps: &[Step<MapName>]) -> Result<Vec<u8>, Fail> {
+fn tree_of(alloc: Global, steps: &[Step<MapNameAtColumn>]) -> Result<Vec<u8>, Fail> {
     let mut stack = Vec::new(alloc);
     for step in steps {
         let mut out = Vec::new(alloc);

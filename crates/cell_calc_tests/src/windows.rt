@@ -94,7 +94,7 @@ fn an_expression_is_put_over_just_the_maps_that_it_reads(rt: HostRuntime) -> Res
     let names = five_names(alloc)?;
     let bound = bound_of(alloc, &names, b"d * max(b[2,0], b[-1,0], 7) + d[1,1]")?;
     assert_same!(rt; bound.top(), 4);
-    let (compact, places) = bound.over_read_maps(alloc)?;
+    let (compact, places) = bound.renumbered_over_read_maps(alloc)?;
     assert_same!(rt; places.as_slice(), [3, 1].as_slice());
     if compact.top() != 2 {
         return Err("not over two maps".into());

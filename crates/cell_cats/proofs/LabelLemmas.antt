@@ -9,8 +9,9 @@ use Rattle.std.specs.Cmp.{int_cmp_total}
 use Rattle.std.proofs.lemmas.List.{take_more, reverse-append}
 use Rattle.std.proofs.lemmas.List.Elements.{filter_map-append}
 use Rattle.cell_core.specs.Grid.{Grid}
-use Rattle.cell_cats.specs.Rule.{RuleValue, last_such, labelled_category, is_this_category, labels, label_of}
-use Rattle.cell_cats.specs.Reclass.{label_entry, labels_of}
+use Rattle.cell_cats.specs.Rule.{RuleValue, last_element_that_passes, labelled_category, optional_category_equals}
+use Rattle.cell_cats.specs.Rule.{labels, label_of_category}
+use Rattle.cell_cats.specs.Reclass.{category_and_label_of_rule, labels_of_rules}
 
 -- the map with the entry inserted, if there is one
 abbrev with_entry : Option (ℤ × List ℕ) → FinMap int_cmp (List ℕ) → FinMap int_cmp (List ℕ)
@@ -21,39 +22,39 @@ entry-first : (o : Option (ℤ × List ℕ)) (es : List (ℤ × List ℕ)) → f
 entry-first None es = refl
 entry-first (Some e) es = refl
 
-labels_of-push : (xs : List RuleValue) (x : RuleValue) → labels_of (xs ++ x ∷ []) ≡ with_entry (label_entry x) (labels_of xs)
+labels_of-push : (xs : List RuleValue) (x : RuleValue) → labels_of_rules (xs ++ x ∷ []) ≡ with_entry (category_and_label_of_rule x) (labels_of_rules xs)
 labels_of-push xs x =
-    ap (λ l. from_entries {R = int_cmp} (filter_map label_entry l)) (reverse-append xs (x ∷ []))
-    ∙ entry-first (label_entry x) (filter_map label_entry (reverse xs))
+    ap (λ l. from_entries {R = int_cmp} (filter_map category_and_label_of_rule l)) (reverse-append xs (x ∷ []))
+    ∙ entry-first (category_and_label_of_rule x) (filter_map category_and_label_of_rule (reverse xs))
 
-labels_of-more : (xs : List RuleValue) (i : ℕ) (d r : RuleValue) → i < length xs → r ≡ get_or xs i d → labels_of (take (i + 1) xs) ≡ with_entry (label_entry r) (labels_of (take i xs))
+labels_of-more : (xs : List RuleValue) (i : ℕ) (d r : RuleValue) → i < length xs → r ≡ get_or xs i d → labels_of_rules (take (i + 1) xs) ≡ with_entry (category_and_label_of_rule r) (labels_of_rules (take i xs))
 labels_of-more xs i d r h is =
-    ap labels_of (take_more xs i d h) ∙ labels_of-push (take i xs) (get_or xs i d) ∙ ap (λ rule. with_entry (label_entry rule) (labels_of (take i xs))) (sym is)
+    ap labels_of_rules (take_more xs i d h) ∙ labels_of-push (take i xs) (get_or xs i d) ∙ ap (λ rule. with_entry (category_and_label_of_rule rule) (labels_of_rules (take i xs))) (sym is)
 
 -- a rule that labels a category inserts its label
 labels_of-some : (xs : List RuleValue) (i : ℕ) (d r : RuleValue) (k : ℤ) → i < length xs → r ≡ get_or xs i d → Some k ≡ labelled_category r
-    → insert (labels_of (take i xs)) k r.label ≡ labels_of (take (i + 1) xs)
+    → insert (labels_of_rules (take i xs)) k r.label ≡ labels_of_rules (take (i + 1) xs)
 labels_of-some xs i d r k h is e =
-    ap (λ o. with_entry (option_map (λ c. (c, r.label)) o) (labels_of (take i xs))) e ∙ sym (labels_of-more xs i d r h is)
+    ap (λ o. with_entry (option_map (λ c. (c, r.label)) o) (labels_of_rules (take i xs))) e ∙ sym (labels_of-more xs i d r h is)
 
 -- a rule that labels no category leaves the labels unchanged
 labels_of-none : (xs : List RuleValue) (i : ℕ) (d r : RuleValue) → i < length xs → r ≡ get_or xs i d
     → None ≡ labelled_category r
-    → labels_of (take i xs) ≡ labels_of (take (i + 1) xs)
+    → labels_of_rules (take i xs) ≡ labels_of_rules (take (i + 1) xs)
 labels_of-none xs i d r h is e =
-    ap (λ o. with_entry (option_map (λ c. (c, r.label)) o) (labels_of (take i xs))) e ∙ sym (labels_of-more xs i d r h is)
+    ap (λ o. with_entry (option_map (λ c. (c, r.label)) o) (labels_of_rules (take i xs))) e ∙ sym (labels_of-more xs i d r h is)
 
-module _ (given : Grid) (xs : List RuleValue) (i : ℕ) (d r : RuleValue) (within : i < length xs) (is : r ≡ get_or xs i d) (old : Grid) (so_far : old ≡ record given { labels = labels_of (take i xs) }) where
+module _ (given : Grid) (xs : List RuleValue) (i : ℕ) (d r : RuleValue) (within : i < length xs) (is : r ≡ get_or xs i d) (old : Grid) (so_far : old ≡ record given { labels = labels_of_rules (take i xs) }) where
   -- inserting the rule's label makes the map's labels the labels of one more rule
   pub labels-some : (k : ℤ) (text : List ℕ) (new : Grid) → Some k ≡ labelled_category r → text ≡ r.label → new ≡ record old { labels = insert old.labels k text }
-      → new ≡ record given { labels = labels_of (take (i + 1) xs) }
+      → new ≡ record given { labels = labels_of_rules (take (i + 1) xs) }
   labels-some k text new e same set =
       set ∙ ap (λ (m : Grid). record m { labels = insert m.labels k text }) so_far
-      ∙ ap (λ (t : List ℕ). record given { labels = insert (labels_of (take i xs)) k t }) same
+      ∙ ap (λ (t : List ℕ). record given { labels = insert (labels_of_rules (take i xs)) k t }) same
       ∙ ap (λ ls. record given { labels = ls }) (labels_of-some xs i d r k within is e)
 
   -- a rule that labels no category leaves the map unchanged
-  pub labels-none : None ≡ labelled_category r → old ≡ record given { labels = labels_of (take (i + 1) xs) }
+  pub labels-none : None ≡ labelled_category r → old ≡ record given { labels = labels_of_rules (take (i + 1) xs) }
   labels-none e = so_far ∙ ap (λ ls. record given { labels = ls }) (labels_of-none xs i d r within is e)
 
 -- a key in two joined lists is found in the first list, or otherwise in the second
@@ -73,26 +74,28 @@ abbrev label_where : RuleValue → Bool → Option (List ℕ)
 label_where r b = option_map (λ rule. rule.label) (cond b (Some r) None)
 
 -- the entry of a single rule is found exactly if the rule labels the category
-find-one : (k : ℤ) (r : RuleValue) → find int_cmp k (filter_map label_entry (r ∷ [])) ≡ label_where r (labels k r)
+find-one : (k : ℤ) (r : RuleValue) → find int_cmp k (filter_map category_and_label_of_rule (r ∷ []))
+    ≡ label_where r (labels k r)
 find-one k r = by (labelled_category r)
   where
     one : (c : ℤ) (b : Bool) → cond b (Some r.label) None ≡ label_where r b
     one c true = refl
     one c false = refl
 
-    by : (o : Option ℤ) → find int_cmp k (cons_option (option_map (λ c. (c, r.label)) o) []) ≡ label_where r (is_this_category k o)
+    by : (o : Option ℤ) → find int_cmp k (cons_option (option_map (λ c. (c, r.label)) o) []) ≡ label_where r (optional_category_equals k o)
     by None = refl
-    by (Some c) = one c (is_this_category k (Some c))
+    by (Some c) = one c (optional_category_equals k (Some c))
 
 -- in the reversed rules, the first entry found is the label of the last rule
-find-reversed : (k : ℤ) (rules : List RuleValue) → find int_cmp k (filter_map label_entry (reverse rules)) ≡ label_of rules k
+find-reversed : (k : ℤ) (rules : List RuleValue) → find int_cmp k (filter_map category_and_label_of_rule (reverse rules)) ≡ label_of_category rules k
 find-reversed k [] = refl
 find-reversed k (r ∷ rules) =
-    ap (λ l. find int_cmp k (filter_map label_entry l)) (reverse-append (r ∷ []) rules)
-    ∙ ap (find int_cmp k) (filter_map-append label_entry (reverse rules) (r ∷ []))
-    ∙ find-append k (filter_map label_entry (reverse rules)) (filter_map label_entry (r ∷ []))
-    ∙ rw (find-reversed k rules, find-one k r) (map-or (λ rule. rule.label) (last_such (labels k) rules) (cond (labels k r) (Some r) None))
+    ap (λ l. find int_cmp k (filter_map category_and_label_of_rule l)) (reverse-append (r ∷ []) rules)
+    ∙ ap (find int_cmp k) (filter_map-append category_and_label_of_rule (reverse rules) (r ∷ []))
+    ∙ find-append k (filter_map category_and_label_of_rule (reverse rules)) (filter_map category_and_label_of_rule (r
+    ∷ []))
+    ∙ rw (find-reversed k rules, find-one k r) (map-or (λ rule. rule.label) (last_element_that_passes (labels k) rules) (cond (labels k r) (Some r) None))
 
 -- the label of a category is the one given by the last rule that labels it
-pub get-labels_of : (rules : List RuleValue) (k : ℤ) → get (labels_of rules) k ≡ label_of rules k
-get-labels_of rules k = get-from_entries int_cmp_total (filter_map label_entry (reverse rules)) k ∙ find-reversed k rules
+pub get-labels_of : (rules : List RuleValue) (k : ℤ) → get (labels_of_rules rules) k ≡ label_of_category rules k
+get-labels_of rules k = get-from_entries int_cmp_total (filter_map category_and_label_of_rule (reverse rules)) k ∙ find-reversed k rules

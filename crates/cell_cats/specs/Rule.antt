@@ -15,17 +15,17 @@ pub record RuleValue : Type 0 where
   pub label : List ℕ
 
 -- the category is between the two ends, which may be in either order
-abbrev pub is_in_ends : ℤ × ℤ → ℤ → Bool
-is_in_ends ends x = (int_le ends.0 x && int_le x ends.1) || (int_le ends.1 x && int_le x ends.0)
+abbrev pub is_between_ends : ℤ × ℤ → ℤ → Bool
+is_between_ends ends x = (int_le ends.0 x && int_le x ends.1) || (int_le ends.1 x && int_le x ends.0)
 
 -- some range in the list contains the category
-abbrev pub is_listed : Option (List (ℤ × ℤ)) → ℤ → Bool
-is_listed None x = false
-is_listed (Some ranges) x = list_any (λ ends. is_in_ends ends x) ranges
+abbrev pub ranges_contain_category : Option (List (ℤ × ℤ)) → ℤ → Bool
+ranges_contain_category None x = false
+ranges_contain_category (Some ranges) x = list_any (λ ends. is_between_ends ends x) ranges
 
 -- the rule lists the category
 abbrev pub lists : ℤ → RuleValue → Bool
-lists x rule = is_listed rule.listed x
+lists x rule = ranges_contain_category rule.listed x
 
 -- the rule is a rule for `*`
 abbrev pub is_star_rule : RuleValue → Bool
@@ -36,47 +36,48 @@ is_star_rule rule = no_list rule.listed
     no_list (Some ranges) = false
 
 -- the last element that passes a test
-abbrev pub last_such : {A : Type 0} → (A → Bool) → List A → Option A
-last_such p [] = None
-last_such p (x ∷ xs) = option_or (last_such p xs) (if p x then Some x else None)
+abbrev pub last_element_that_passes : {A : Type 0} → (A → Bool) → List A → Option A
+last_element_that_passes p [] = None
+last_element_that_passes p (x ∷ xs) = option_or (last_element_that_passes p xs) (if p x then Some x else None)
 
 -- the output of the last rule that passes a test
-abbrev pub last_output : (RuleValue → Bool) → List RuleValue → Option Output
-last_output p rules = option_map (λ rule. rule.output) (last_such p rules)
+abbrev pub output_of_last_passing_rule : (RuleValue → Bool) → List RuleValue → Option Output
+output_of_last_passing_rule p rules = option_map (λ rule. rule.output) (last_element_that_passes p rules)
 
 -- the output of the last rule that lists the category or, if no rule lists it, of the last rule for `*`
-abbrev pub output_for : List RuleValue → ℤ → Option Output
-output_for rules x = option_or (last_output (lists x) rules) (last_output is_star_rule rules)
+abbrev pub output_for_category : List RuleValue → ℤ → Option Output
+output_for_category rules x = option_or (output_of_last_passing_rule (lists x) rules)
+    (output_of_last_passing_rule is_star_rule rules)
 
 -- the new cell of a category under this output; null if there is no output
-abbrev pub outcome : ℤ → Option Output → CellValue
-outcome x None = None
-outcome x (Some Same) = Some x
-outcome x (Some (To cell)) = cell
+abbrev pub new_cell_of_output : ℤ → Option Output → CellValue
+new_cell_of_output x None = None
+new_cell_of_output x (Some Same) = Some x
+new_cell_of_output x (Some (To cell)) = cell
 
 -- the new category of a cell
 abbrev pub new_category : List RuleValue → CellValue → CellValue
 new_category rules None = None
-new_category rules (Some x) = outcome x (output_for rules x)
+new_category rules (Some x) = new_cell_of_output x (output_for_category rules x)
 
 -- the category that the output always produces, if there is one
-abbrev pub category_of : Output → Option ℤ
-category_of Same = None
-category_of (To cell) = cell
+abbrev pub fixed_category_of_output : Output → Option ℤ
+fixed_category_of_output Same = None
+fixed_category_of_output (To cell) = cell
 
 -- the category that a rule labels: its output, if the rule has a label and its output is a category
 abbrev pub labelled_category : RuleValue → Option ℤ
-labelled_category rule = if length rule.label == 0 then None else category_of rule.output
+labelled_category rule = if length rule.label == 0 then None else fixed_category_of_output rule.output
 
 -- the optional category is k
-abbrev pub is_this_category : ℤ → Option ℤ → Bool
-is_this_category k None = false
-is_this_category k (Some c) = int_eq k c
+abbrev pub optional_category_equals : ℤ → Option ℤ → Bool
+optional_category_equals k None = false
+optional_category_equals k (Some c) = int_eq k c
 
 -- the rule labels the category
 abbrev pub labels : ℤ → RuleValue → Bool
-labels k rule = is_this_category k (labelled_category rule)
+labels k rule = optional_category_equals k (labelled_category rule)
 
 -- the label of a category, from the last rule that labels it
-abbrev pub label_of : List RuleValue → ℤ → Option (List ℕ)
-label_of rules k = option_map (λ rule. rule.label) (last_such (labels k) rules)
+abbrev pub label_of_category : List RuleValue → ℤ → Option (List ℕ)
+label_of_category rules k = option_map (λ rule. rule.label) (last_element_that_passes (labels k) rules)

@@ -3,9 +3,9 @@
 
 ghost use Rattle.std.specs.Prelude.{◌≡◌, ◌<◌, List, IfOk, length};
 ghost use Rattle.cell_cats.specs.Rule.{RuleValue, new_category};
-ghost use Rattle.cell_cats.specs.parts.KnownCategories.{AreRight, ByRules};
+ghost use Rattle.cell_cats.specs.parts.KnownCategories.{AreCachedCategoriesRight, HoldsForRulesOfIntervalsAndCache};
 
-use crate::pieces::Pieces;
+use crate::pieces::RuleOutputIntervals;
 use cell_core::cell::Cell;
 use cell_core::memory::Memory;
 use std::alloc::Global;
@@ -13,11 +13,11 @@ use std::alloc::Global;
 // The cache has one slot per CELLS_A_PLACE cells of the map, but at least FEWEST and at most MOST slots: a large map
 // may have many categories, and slots take time to initialize. The contracts only state that each slot is correct, so
 // these numbers can be tuned.
-const CELLS_A_PLACE: u64 = 8;
+const MAP_CELLS_PER_CACHE_SLOT: u64 = 8;
 
-const FEWEST: u64 = 64;
+const MIN_CACHE_SLOTS: u64 = 64;
 
-const MOST: u64 = 32_768;
+const MAX_CACHE_SLOTS: u64 = 32_768;
 
 // A cell and its new category.
 #[derive(Clone, Copy)]
@@ -27,16 +27,16 @@ pub(crate) struct Known {
 }
 
 // Returns the number of slots for a map of `cells` cells: a power of two, so that finding a slot needs no division.
-fn places_for(cells: u64) -> usize
+fn cache_slot_count_for_cells(cells: u64) -> usize
     ensures { 0 < result }
 {
-    (cells / CELLS_A_PLACE)
-        .clamp(FEWEST, MOST)
+    (cells / MAP_CELLS_PER_CACHE_SLOT)
+        .clamp(MIN_CACHE_SLOTS, MAX_CACHE_SLOTS)
         .next_power_of_two() as usize
 }
 
 // Returns the slot of a cell among `places` slots.
-fn category_place(cell: Cell, places: usize) -> usize
+fn cache_slot_of_cell(cell: Cell, places: usize) -> usize
     requires { 0 < places }
     ensures { result < places }
 {
@@ -47,26 +47,33 @@ fn category_place(cell: Cell, places: usize) -> usize
 }
 
 // Returns slots for a map of `cells` cells, all of them for null, which stays null under any rules.
-pub(crate) fn only_null(alloc: Global, cells: u64) -> Result<Vec<Known>, Memory>
+pub(crate) fn new_cache_of_nulls(alloc: Global, cells: u64) -> Result<Vec<Known>, Memory>
     ensures some { IfOk result (λ known. 0 < length known.items) }
-    ensures right { IfOk result (λ known. (rules : List RuleValue) → AreRight rules known.items) }
+    ensures right { IfOk result (λ known. (rules : List RuleValue)
+        → AreCachedCategoriesRight rules known.items) }
 {
     let cell = Cell::null();
     let null = Known {
         cell,
         reclassed: cell,
     };
-    let known = vec![in alloc; null; places_for(cells)]?;
+    let known = vec![in alloc; null; cache_slot_count_for_cells(cells)]?;
     Ok(known)
 }
 
 // Returns the new category of a cell and remembers it.
-pub(crate) fn look_up(pieces: &Pieces, known: &mut [Known], cell: Cell) -> Cell
+pub(crate) fn cached_new_category(
+    pieces: &RuleOutputIntervals,
+    known: &mut [Known],
+    cell: Cell,
+) -> Cell
     requires some { 0 < length known.old }
-    ensures value { ByRules pieces.now known.old (λ rules. result ≡ new_category rules cell) }
-    ensures right { ByRules pieces.now known.old (λ rules. AreRight rules known.new) }
+    ensures value { HoldsForRulesOfIntervalsAndCache pieces.now known.old (λ rules. result
+        ≡ new_category rules cell) }
+    ensures right { HoldsForRulesOfIntervalsAndCache pieces.now known.old
+        (λ rules. AreCachedCategoriesRight rules known.new) }
 {
-    let at = category_place(cell, known.len());
+    let at = cache_slot_of_cell(cell, known.len());
     let found = known[at];
     if found.cell == cell {
         return found.reclassed;

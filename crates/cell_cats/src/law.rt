@@ -1,22 +1,22 @@
 //! Laws about how rules are read and which rule keeps a map.
 
-ghost use Rattle.cell_cats.specs.ItemLaw.{ItemsAreRead};
-ghost use Rattle.cell_cats.specs.RuleReading.{RulesAreRead};
-ghost use Rattle.cell_cats.specs.RulesLaw.{StarKeeps, WorkedLines};
+ghost use Rattle.cell_cats.specs.ItemLaw.{WordsAreReadAsSpelledRuleItems};
+ghost use Rattle.cell_cats.specs.RuleReading.{LinesAddRulesTheySpell};
+ghost use Rattle.cell_cats.specs.RulesLaw.{StarRuleKeepsRows, RuleLineExamples};
 
 /// The rule `* = *` keeps the rows of every map.
-pub fn star_keeps()
-    ensures { StarKeeps }
+pub fn star_rule_keeps_rows()
+    ensures { StarRuleKeepsRows }
 {}
 
 /// Worked examples of rule lines.
-pub fn worked_lines()
-    ensures { WorkedLines }
+pub fn rule_line_examples()
+    ensures { RuleLineExamples }
 {}
 
 /// Words are read as items if and only if they spell these items, one after another. A line adds a rule if and only if
 /// it spells that rule.
-pub fn rules_are_read()
-    ensures items { ItemsAreRead }
-    ensures rules { RulesAreRead }
+pub fn lines_add_rules_they_spell()
+    ensures items { WordsAreReadAsSpelledRuleItems }
+    ensures rules { LinesAddRulesTheySpell }
 {}

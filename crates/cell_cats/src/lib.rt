@@ -1,5 +1,5 @@
 //! Reclassifies maps with rules (GRASS manual: r.reclass). Re-exports `clump` and `clump_with` of
-//! `cell_cats_areas`.
+//! `cell_clumps`.
 //!
 //! - `rules`: `Rules`, a list of rules to which `add_line` adds a line, or returns its `RuleFault`; the
 //!   last rule that lists a category applies
@@ -14,8 +14,8 @@
 //!
 //! ```
 //! lines: &[b"1 thru 3 = 7 low", b"2 = NULL", b"* = *"],
-//! given: &[1, 2, 3, 9, NULL, 0, 4, -7],
-//! wanted: &[7, NULL, 7, 9, NULL, 0, 4, -7],
+//! given: &[1, 2, 3, 9, NULL_CATEGORY, 0, 4, -7],
+//! wanted: &[7, NULL_CATEGORY, 7, 9, NULL_CATEGORY, 0, 4, -7],
 //! category: 7,
 //! label: Some(b"low"),
 //! ```
@@ -30,4 +30,4 @@ pub mod reclassing;
 pub mod rule;
 pub mod rules;
 
-pub use cell_cats_areas::clump::{Joining, clump, clump_with};
+pub use cell_clumps::clump::{Joining, clump, clump_with};

@@ -3,7 +3,7 @@
 ghost use Rattle.std.specs.Prelude.{◌≡◌, ◌≢◌, ℤ, Some, IfSome};
 ghost use Rattle.std.specs.List.{list_any};
 ghost use Rattle.std.specs.Option.{option_map};
-ghost use Rattle.cell_cats.specs.Rule.{is_in_ends, lists, is_star_rule, outcome, labelled_category};
+ghost use Rattle.cell_cats.specs.Rule.{is_between_ends, lists, is_star_rule, new_cell_of_output, labelled_category};
 
 use cell_core::cell::Cell;
 use std::marker::Model;
@@ -20,7 +20,7 @@ pub enum Output {
 impl Output {
     /// Returns the cell that replaces a non-null cell.
     pub fn of(self, cell: Cell) -> Cell
-        ensures { IfSome cell (λ x. result ≡ outcome x (Some self)) }
+        ensures { IfSome cell (λ x. result ≡ new_cell_of_output x (Some self)) }
     {
         match self {
             Output::Same => cell,
@@ -47,8 +47,8 @@ impl Model for Rule {
 }
 
 // Returns whether a category is between two ends, which may be in either order.
-fn is_between(ends: (i32, i32), x: i32) -> bool
-    ensures { result ≡ is_in_ends ends x }
+fn is_category_between_ends(ends: (i32, i32), x: i32) -> bool
+    ensures { result ≡ is_between_ends ends x }
 {
     (ends.0 <= x && x <= ends.1) || (ends.1 <= x && x <= ends.0)
 }
@@ -73,12 +73,15 @@ impl Rule {
     pub fn lists(&self, x: i32) -> bool
         ensures { result ≡ lists x self.now }
     {
-        self.ranges().iter().any(|ends| is_between(*ends, x))
+        self.ranges()
+            .iter()
+            .any(|ends| is_category_between_ends(*ends, x))
     }
 
     // Returns the ends of the ranges that the rule lists, or none for `*`.
     pub(crate) fn ranges(&self) -> &[(i32, i32)]
-        ensures { (x : ℤ) → lists x self.now ≡ list_any (λ ends. is_in_ends ends x) result.now }
+        ensures { (x : ℤ) → lists x self.now ≡ list_any
+            (λ ends. is_between_ends ends x) result.now }
     {
         match &self.listed {
             Some(ranges) => ranges.as_slice(),

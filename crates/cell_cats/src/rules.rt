@@ -2,11 +2,11 @@
 
 ghost use Rattle.std.specs.Prelude.{◌≡◌, [], OnErr};
 ghost use Rattle.std.specs.Option.{option_map};
-ghost use Rattle.cell_core_values.specs.Answers.{Answers};
-ghost use Rattle.cell_cats.specs.Rule.{new_category, output_for, last_output, is_star_rule, outcome};
-ghost use Rattle.cell_cats.specs.RuleReading.{with_line};
+ghost use Rattle.cell_core_values.specs.Answers.{EqualsUnlessOutOfMemory};
+ghost use Rattle.cell_cats.specs.Rule.{new_category, output_for_category, output_of_last_passing_rule, is_star_rule, new_cell_of_output};
+ghost use Rattle.cell_cats.specs.RuleReading.{line_kind_and_rules_after_line};
 
-use crate::line::{is_skipped, rule_of};
+use crate::line::{is_blank_or_comment_line, rule_of_line};
 use crate::rule::{Output, Rule};
 use cell_core::cell::Cell;
 use cell_core::memory::Memory;
@@ -97,8 +97,8 @@ impl Rules {
     }
 
     // Returns the output of the last rule for `*`.
-    pub(crate) fn star_output(&self) -> Option<Output>
-        ensures { result ≡ last_output is_star_rule self.now }
+    pub(crate) fn output_of_last_star_rule(&self) -> Option<Output>
+        ensures { result ≡ output_of_last_passing_rule is_star_rule self.now }
     {
         let mut starred = None;
         for rule in &self.rules {
@@ -110,8 +110,8 @@ impl Rules {
     }
 
     // Returns the output for a category.
-    fn output_for(&self, x: i32) -> Option<Output>
-        ensures { result ≡ output_for self.now x }
+    fn output_for_category(&self, x: i32) -> Option<Output>
+        ensures { result ≡ output_for_category self.now x }
     {
         let mut listing = None;
         for rule in &self.rules {
@@ -119,7 +119,7 @@ impl Rules {
                 listing = Some(rule.output());
             }
         }
-        listing.or(self.star_output())
+        listing.or(self.output_of_last_star_rule())
     }
 
     /// Returns the new category of a cell.
@@ -129,7 +129,7 @@ impl Rules {
         let Some(x) = cell.get() else {
             return Cell::null();
         };
-        match self.output_for(x) {
+        match self.output_for_category(x) {
             Some(output) => output.of(cell),
             None => Cell::null(),
         }
@@ -150,18 +150,18 @@ impl Rules {
     /// number is invalid; [`RuleFault::Memory`] if memory runs out. The rules are then unchanged, and more lines may be
     /// added.
     pub fn add_line(&mut self, line: &[u8]) -> Result<LineKind, RuleFault>
-        ensures said { Answers RuleFault.Memory (λ kind. (kind, self.new)) result
-            (with_line self.old line.now) }
+        ensures said { EqualsUnlessOutOfMemory RuleFault.Memory (λ kind. (kind, self.new)) result
+            (line_kind_and_rules_after_line self.old line.now) }
         ensures unchanged { OnErr result (self.new ≡ self.old) }
     {
         let text = trimmed_text(line);
-        if is_skipped(text) {
+        if is_blank_or_comment_line(text) {
             return Ok(LineKind::Skipped);
         }
         if text == b"end".as_slice() {
             return Ok(LineKind::End);
         }
-        let rule = rule_of(self.alloc, line)?;
+        let rule = rule_of_line(self.alloc, line)?;
         self.rules.push(rule)?;
         Ok(LineKind::Rule)
     }

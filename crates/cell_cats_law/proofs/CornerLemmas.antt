@@ -1,22 +1,23 @@
 -- Cells joined by edges are also joined by edges and corners.
 use Rattle.std.proofs.Common.{◌≡◌, ℕ, pos, ◌≤◌, [], ◌∷◌, List, Some, None, sym, ◌∙◌, arith, subst, inl, ⊎_elim}
 use Rattle.cell_core.specs.Grid.{Grid, CellValue}
-use Rattle.cell_cats_areas.specs.declared.clump.Joining.TheVariants.{Edges, EdgesAndCorners}
-use Rattle.cell_cats_areas.specs.Areas.{Position, cell_at_position, IsEarlierCell, LeadsTo, AreJoined, IsFirst, HasNumber}
-use Rattle.cell_cats_areas.proofs.PathLemmas.{AreJoined-sym, AreJoined-trans}
-use Rattle.cell_cats_areas.proofs.LawLemmas.{cases_before, within_le}
-use Rattle.cell_cats_areas.proofs.CountLemmas.{no_number_is_left_out}
-use Rattle.cell_cats_areas.proofs.MeetingLemmas.{some_of}
-use Rattle.cell_join_numbers.proofs.AreaLemmas.{before-then, is-some}
-use Rattle.cell_cats_law.specs.CornerLaw.{AreBothClumpings, CornersOnlyJoin, CornersAddNoArea}
-use Rattle.cell_cats_law.proofs.AreaLemmas.{some-below, none-below, stands-at}
+use Rattle.cell_clumps.specs.declared.clump.Joining.TheVariants.{Edges, EdgesAndCorners}
+use Rattle.cell_clumps.specs.Clumps.{Position, cell_at_position, IsEarlierCell, IsPathFromTo, AreCellsConnected}
+use Rattle.cell_clumps.specs.Clumps.{IsFirstCellOfClump, HasClumpNumber}
+use Rattle.cell_clumps.proofs.PathLemmas.{AreJoined-sym, AreJoined-trans}
+use Rattle.cell_clumps.proofs.LawLemmas.{cases_before, within_le}
+use Rattle.cell_clumps.proofs.CountLemmas.{clump_numbers_have_no_gaps}
+use Rattle.cell_clumps.proofs.MeetingLemmas.{some_of}
+use Rattle.cell_join_numbers.proofs.ClumpCellLemmas.{before-then, is-some}
+use Rattle.cell_cats_law.specs.CornerLaw.{AreClumpMapsByBothConnectivities, CornersOnlyJoinClumps, CornersAddNoClump}
+use Rattle.cell_cats_law.proofs.ClumpCellLemmas.{some-below, none-below, stands-at}
 
-widen-leads : (p : Position) (others : List Position) (q : Position) → LeadsTo Edges p others q →
-    LeadsTo EdgesAndCorners p others q
+widen-leads : (p : Position) (others : List Position) (q : Position) → IsPathFromTo Edges p others q →
+    IsPathFromTo EdgesAndCorners p others q
 widen-leads p [] q h = h
 widen-leads p (next ∷ others) q h = (inl h.0, widen-leads next others q h.1)
 
-widen : (m : Grid) (p q : Position) → AreJoined Edges m p q → AreJoined EdgesAndCorners m p q
+widen : (m : Grid) (p q : Position) → AreCellsConnected Edges m p q → AreCellsConnected EdgesAndCorners m p q
 widen m p q h = record {
   category = h.category;
   others = h.others;
@@ -24,7 +25,7 @@ widen m p q h = record {
   alike = h.alike;
 }
 
-pub corners-only-join : CornersOnlyJoin
+pub corners-only-join : CornersOnlyJoinClumps
 corners-only-join m edges corners both p q some same =
     let v = some_of (cell_at_position edges p) some in
     let here = some-below Edges m edges both.by_edges p v.0 v.1 in
@@ -34,14 +35,14 @@ corners-only-join m edges corners both p q some same =
 -- ---- numbers by edges, and by edges and corners
 
 -- a first cell by edges and corners is also a first cell by edges
-first-by-edges : (m : Grid) (p : Position) → IsFirst EdgesAndCorners m p → IsFirst Edges m p
+first-by-edges : (m : Grid) (p : Position) → IsFirstCellOfClump EdgesAndCorners m p → IsFirstCellOfClump Edges m p
 first-by-edges m p first = record {
   category = first.category;
   none_before = λ q before joined. first.none_before q before (widen m q p joined);
 }
 
-module _ (m : Grid) (p : Position) (n k : ℕ) (by_edges : HasNumber Edges m p n)
-    (by_corners : HasNumber EdgesAndCorners m p k) where
+module _ (m : Grid) (p : Position) (n k : ℕ) (by_edges : HasClumpNumber Edges m p n)
+    (by_corners : HasClumpNumber EdgesAndCorners m p k) where
   -- the first cell by edges and corners comes no later than the first cell by edges
   not-later : ¬ IsEarlierCell by_edges.first by_corners.first
   not-later before =
@@ -65,7 +66,8 @@ module _ (m : Grid) (p : Position) (n k : ℕ) (by_edges : HasNumber Edges m p n
       omega (arith, fewer, by_corners.count, by_edges.count)
 
 -- no cell has a larger number by edges and corners than by edges
-pub numbers-only-fall : (m edges corners : Grid) → AreBothClumpings m edges corners → (p : Position) (n k : ℕ)
+pub numbers-only-fall : (m edges corners : Grid) → AreClumpMapsByBothConnectivities m edges corners
+    → (p : Position) (n k : ℕ)
     → cell_at_position edges p ≡ Some (pos n) → cell_at_position corners p ≡ Some (pos k) → k ≤ n
 numbers-only-fall m edges corners both p n k is_n is_k =
     let some = some-below Edges m edges both.by_edges p (pos n) is_n in
@@ -75,15 +77,16 @@ numbers-only-fall m edges corners both p n k is_n is_k =
     let same_k : other.0 ≡ k = let e = sym other.2 ∙ is_k in cc in
     omega (arith, no-greater m p one.0 other.0 one.1 other.1, same_n, same_k)
 
-pub corners-add-no-area : CornersAddNoArea
-corners-add-no-area m edges corners both n occurs =
+pub corners-add-no-clump : CornersAddNoClump
+corners-add-no-clump m edges corners both n occurs =
     let p = occurs.0 in
     let some = some-below EdgesAndCorners m corners both.by_corners p (pos n) occurs.1 in
     let number = both.by_edges.numbered p some in
     let fall = numbers-only-fall m edges corners both p number.0 n number.2 occurs.1 in
-    let least = no_number_is_left_out EdgesAndCorners m corners both.by_corners p (is-some (cell_at_position corners p)
+    let least = clump_numbers_have_no_gaps EdgesAndCorners m corners both.by_corners p
+    (is-some (cell_at_position corners p)
     (pos n) occurs.1) in
-    let all = no_number_is_left_out Edges m edges both.by_edges p (is-some (cell_at_position edges p)
+    let all = clump_numbers_have_no_gaps Edges m edges both.by_edges p (is-some (cell_at_position edges p)
     (pos number.0) number.2) in
     let same_least : least.0 ≡ n = let e = sym least.1 ∙ occurs.1 in cc in
     let same_all : all.0 ≡ number.0 = let e = sym all.1 ∙ number.2 in cc in

@@ -12,11 +12,11 @@ use Rattle.cell_core.specs.Grid.{Grid}
 use Rattle.cell_stats_combinations.specs.declared.skip.Skip.{Skip}
 use Rattle.cell_stats_combinations.specs.declared.skip.Skip.TheVariants.{Nothing}
 use Rattle.cell_stats_combinations.specs.Combinations.{Combination, combination_cmp, combination_cmp_total}
-use Rattle.cell_stats_combinations.specs.Combinations.{combination_at, all_combinations}
-use Rattle.cell_stats_combinations.specs.LeftOut.{kept_cells, is_left_out}
+use Rattle.cell_stats_combinations.specs.Combinations.{combination_at_row_and_column, all_combinations}
+use Rattle.cell_stats_combinations.specs.LeftOut.{kept_cells, combination_is_left_out}
 use Rattle.cell_stats_combinations.proofs.OrderLemmas.{combination_cmp-exact, is_equal}
-use Rattle.cell_stats_counts.specs.Counts.{count_of}
-use Rattle.cell_stats.specs.CategoryTables.{Pairs, IsTable}
+use Rattle.cell_stats_counts.specs.Counts.{cell_count_of_combination}
+use Rattle.cell_stats.specs.CategoryTables.{CombinationsWithCounts, IsTable}
 use Rattle.cell_stats.proofs.SortedLemmas.{both_true, is_less}
 use Rattle.cell_stats.proofs.TableLemmas.{IsTally, IsFound-from, found, count_cons, kept-IsTable}
 
@@ -54,11 +54,12 @@ module _ (f g : ℕ → ℕ → Combination) (t u : Combination → Bool)
 
 -- two tests that agree at each cell count the same number of cells
 pub counts-same : (maps others : List Grid) (picks places : List ℕ) (t u : Combination → Bool) →
-    ((row col : ℕ) → t (combination_at maps picks row col) ≡ u (combination_at others places row col)) →
+    ((row col : ℕ) → t (combination_at_row_and_column maps picks row col)
+    ≡ u (combination_at_row_and_column others places row col)) →
     (rows cols : ℕ) →
     count_by t (all_combinations maps picks rows cols) ≡ count_by u (all_combinations others places rows cols)
-counts-same maps others picks places t u same rows cols = all-counts (combination_at maps picks)
-    (combination_at others places) t u same (range_with_len 0 rows) (range_with_len 0 cols)
+counts-same maps others picks places t u same rows cols = all-counts (combination_at_row_and_column maps picks)
+    (combination_at_row_and_column others places) t u same (range_with_len 0 rows) (range_with_len 0 cols)
 
 -- ---- each counted combination occurs at a cell
 
@@ -92,8 +93,8 @@ module _ (f : ℕ → ℕ → Combination) (t : Combination → Bool) where
 
 -- if the count is above 0, some cell passes the test
 pub counted-at : (maps : List Grid) (picks : List ℕ) (t : Combination → Bool) (rows cols : ℕ) →
-    0 < count_by t (all_combinations maps picks rows cols) → At (combination_at maps picks) t
-counted-at maps picks t rows cols some = rows-at (combination_at maps picks) t (range_with_len 0 rows)
+    0 < count_by t (all_combinations maps picks rows cols) → At (combination_at_row_and_column maps picks) t
+counted-at maps picks t rows cols some = rows-at (combination_at_row_and_column maps picks) t (range_with_len 0 rows)
     (range_with_len 0 cols) some
 
 -- ---- a cell that passes is counted
@@ -135,20 +136,25 @@ module _ (f : ℕ → ℕ → Combination) (t : Combination → Bool) where
 
 -- if a cell within the rows and columns passes the test, the count is above 0
 pub counted-cell : (maps : List Grid) (picks : List ℕ) (t : Combination → Bool) (rows cols row col : ℕ) → row < rows →
-    col < cols → t (combination_at maps picks row col) ≡ true → 0 < count_by t (all_combinations maps picks rows cols)
+    col < cols → t (combination_at_row_and_column maps picks row col) ≡ true
+    → 0 < count_by t (all_combinations maps picks rows cols)
 counted-cell maps picks t rows cols row col low wide is =
-    let f = combination_at maps picks in
+    let f = combination_at_row_and_column maps picks in
     let line = row-counted f t row 0 cols col (omega arith) (omega (arith, wide)) is in
     rows-counted f t 0 rows row (range_with_len 0 cols) (omega arith) (omega (arith, low)) line
 
 -- each entry of a table occurs at a cell
-pub entry-at : (skip : Skip) (maps : List Grid) (picks : List ℕ) (rows cols : ℕ) (table : Pairs) →
+pub entry-at : (skip : Skip) (maps : List Grid) (picks : List ℕ) (rows cols : ℕ) (table : CombinationsWithCounts) →
     IsTable skip (all_combinations maps picks rows cols) table → (k : Combination) (n : ℕ) → Contains table (k, n) →
-    (row : ℕ) × (col : ℕ) × (combination_at maps picks row col ≡ k)
+    (row : ℕ) × (col : ℕ) × (combination_at_row_and_column maps picks row col ≡ k)
 entry-at skip maps picks rows cols table is k n stands =
     let counted = (is.counted k n).0 stands in
-    let at = counted-at maps picks (eq_by_cmp combination_cmp k) rows cols (omega (arith, counted.1.0, counted.1.1)) in
-    (at.row, at.col, sym (combination_cmp-exact k (combination_at maps picks at.row at.col) (is_equal _ at.passes)))
+    let at = counted-at maps picks (eq_by_cmp combination_cmp k) rows cols (omega (arith, counted.1.0, counted.1.1)) in (
+      at.row,
+      at.col,
+      sym (combination_cmp-exact k (combination_at_row_and_column maps picks at.row at.col)
+          (is_equal _ at.passes)),
+    )
 
 -- ---- tests on the elements of a list
 
@@ -201,7 +207,8 @@ turned-apart a b is = by (eq_by_cmp combination_cmp b a) refl
     by false e = refl
 
 -- a combination smaller than all others has no entry
-mark-none : (k : Combination) (es : Pairs) → IsTrue (below_all combination_cmp k es) → sum_by (mark k) es ≡ 0
+mark-none : (k : Combination) (es : CombinationsWithCounts) → IsTrue (below_all combination_cmp k es)
+    → sum_by (mark k) es ≡ 0
 mark-none k [] b = refl
 mark-none k (e ∷ es) b =
     let both = both_true _ _ b in
@@ -209,7 +216,7 @@ mark-none k (e ∷ es) b =
     omega (arith, sum_by-cons (mark k) e es, here, mark-none k es both.1)
 
 -- a combination that is found has exactly one entry
-mark-more : (k : Combination) (e : Combination × ℕ) (es : Pairs) (n : ℕ) →
+mark-more : (k : Combination) (e : Combination × ℕ) (es : CombinationsWithCounts) (n : ℕ) →
     IsTrue (is_sorted combination_cmp (e ∷ es)) → (find combination_cmp k es ≡ Some n → sum_by (mark k) es ≡ 1) →
     find combination_cmp k (e ∷ es) ≡ Some n → sum_by (mark k) (e ∷ es) ≡ 1
 mark-more k e es n s rest finds = by (eq_by_cmp combination_cmp k e.0) refl
@@ -227,14 +234,14 @@ mark-more k e es n s rest finds = by (eq_by_cmp combination_cmp k e.0) refl
         sym (ap (λ b. cond b (Some e.1) (find combination_cmp k es)) t) ∙ finds in
         omega (arith, sum_by-cons (mark k) e es, here, rest behind)
 
-mark-one : (k : Combination) (es : Pairs) (n : ℕ) → IsTrue (is_sorted combination_cmp es) →
+mark-one : (k : Combination) (es : CombinationsWithCounts) (n : ℕ) → IsTrue (is_sorted combination_cmp es) →
     find combination_cmp k es ≡ Some n → sum_by (mark k) es ≡ 1
 mark-one k [] n s finds = cc
 mark-one k (e ∷ es) n s finds = mark-more k e es n s (mark-one k es n (both_true _ _ s).1) finds
 
 -- the count of each listed combination is above 0
 counts-self : (cells : List Combination) (i : ℕ) (d : Combination) → i < length cells →
-    0 < count_of (get_or cells i d) cells
+    0 < cell_count_of_combination (get_or cells i d) cells
 counts-self [] i d within = absurd (omega (arith, within))
 counts-self (k ∷ cells) zero d within =
     let one : one-if (eq_by_cmp combination_cmp k k) ≡ 1 = ap one-if (ap is_eq (tied_itself combination_cmp_total k)) in
@@ -264,18 +271,19 @@ either-more false false false n m e same = refl
 module _ (t : Combination → Bool) where
   -- the number of an entry's cells, if the entry passes
   abbrev passing : List Combination → Combination × ℕ → ℕ
-  passing cells e = cond (t e.0) (count_of e.0 cells) 0
+  passing cells e = cond (t e.0) (cell_count_of_combination e.0 cells) 0
 
-  passing-none : (es : Pairs) → sum_by (passing []) es ≡ 0
+  passing-none : (es : CombinationsWithCounts) → sum_by (passing []) es ≡ 0
   passing-none [] = refl
   passing-none (e ∷ es) = omega (arith, sum_by-cons (passing []) e es, either-zero (t e.0), passing-none es)
 
-  passing-cons : (k : Combination) (cells : List Combination) (es : Pairs) →
+  passing-cons : (k : Combination) (cells : List Combination) (es : CombinationsWithCounts) →
       sum_by (passing (k ∷ cells)) es ≡ cond (t k) (sum_by (mark k) es) 0 + sum_by (passing cells) es
   passing-cons k cells [] = omega (arith, either-zero (t k))
   passing-cons k cells (e ∷ es) =
       let here : passing (k ∷ cells) e ≡ cond (t k) (mark k e) 0 + passing cells e =
-      either-more (eq_by_cmp combination_cmp e.0 k) (t e.0) (t k) (count_of e.0 (k ∷ cells)) (count_of e.0 cells)
+      either-more (eq_by_cmp combination_cmp e.0 k) (t e.0) (t k) (cell_count_of_combination e.0 (k ∷ cells))
+      (cell_count_of_combination e.0 cells)
       (count_cons e.0 k cells) (λ same. ap t (combination_cmp-exact e.0 k (is_equal _ same))) in
       let marks : cond (t k) (sum_by (mark k) (e ∷ es)) 0 ≡ cond (t k) (mark k e) 0 + cond (t k)
       (sum_by (mark k) es) 0 =
@@ -290,7 +298,7 @@ module _ (t : Combination → Bool) where
       )
 
   -- if each cell belongs to exactly one entry, the entries that pass count all cells that pass
-  passing-all : (es : Pairs) (cells : List Combination) → All (λ k. sum_by (mark k) es ≡ 1) cells →
+  passing-all : (es : CombinationsWithCounts) (cells : List Combination) → All (λ k. sum_by (mark k) es ≡ 1) cells →
       sum_by (passing cells) es ≡ count_by t cells
   passing-all es [] all = passing-none es
   passing-all es (k ∷ cells) all =
@@ -304,7 +312,8 @@ module _ (t : Combination → Bool) where
         passing-all es cells (λ i d within. all (suc i) d (omega (arith, within))),
       )
 
-  sum-filter : (es : Pairs) → sum_by (λ e. e.1) (filter (λ e. t e.0) es) ≡ sum_by (λ e. cond (t e.0) e.1 0) es
+  sum-filter : (es : CombinationsWithCounts) → sum_by (λ e. e.1) (filter (λ e. t e.0) es)
+      ≡ sum_by (λ e. cond (t e.0) e.1 0) es
   sum-filter [] = refl
   sum-filter (e ∷ es) = by (t e.0) refl (sum-filter es)
     where
@@ -331,7 +340,8 @@ module _ (t : Combination → Bool) where
           ap (sum_by (λ e. e.1)) left
           ∙ omega (arith, sum_by-cons (λ (e : Combination × ℕ). cond (t e.0) e.1 0) e es, here, on)
 
-  sum-same : (f h : Combination × ℕ → ℕ) (es : Pairs) → All (λ e. f e ≡ h e) es → sum_by f es ≡ sum_by h es
+  sum-same : (f h : Combination × ℕ → ℕ) (es : CombinationsWithCounts) → All (λ e. f e ≡ h e) es
+      → sum_by f es ≡ sum_by h es
   sum-same f h [] all = refl
   sum-same f h (e ∷ es) all =
       let here : f e ≡ h e = all 0 e (omega arith) in
@@ -343,7 +353,8 @@ module _ (t : Combination → Bool) where
         sum-same f h es (λ i d within. all (suc i) d (omega (arith, within))),
       )
 
-  get-any : (xs : Pairs) (i : ℕ) (d e : Combination × ℕ) → i < length xs → get_or xs i e ≡ get_or xs i d
+  get-any : (xs : CombinationsWithCounts) (i : ℕ) (d e : Combination × ℕ) → i < length xs
+      → get_or xs i e ≡ get_or xs i d
   get-any [] i d e h = absurd (omega (arith, h))
   get-any (x ∷ xs) zero d e h = refl
   get-any (x ∷ xs) (suc i) d e h = get-any xs i d e (omega (arith, h))
@@ -352,7 +363,7 @@ module _ (t : Combination → Bool) where
   found-some zero some = absurd (omega (arith, some))
   found-some (suc n) some = refl
 
-  tally-passing : (cells : List Combination) (es : Pairs) → IsTally cells es →
+  tally-passing : (cells : List Combination) (es : CombinationsWithCounts) → IsTally cells es →
       sum_by (λ e. e.1) (filter (λ e. t e.0) es) ≡ count_by t cells
   tally-passing cells es tally =
       let table = IsFound-from cells es tally in
@@ -362,13 +373,14 @@ module _ (t : Combination → Bool) where
       ap (λ n. cond (t e.0) n 0) ((tally.counted e.0 e.1).0 (i, within, get-any es i d e within)).1)
       ∙ passing-all es cells (λ i d within.
       let k = get_or cells i d in
-      mark-one k es (count_of k cells) table.sorted (table.finds k
-      ∙ found-some (count_of k cells) (counts-self cells i d within)))
+      mark-one k es (cell_count_of_combination k cells) table.sorted (table.finds k
+      ∙ found-some (cell_count_of_combination k cells) (counts-self cells i d within)))
 
 -- the counts of the entries that pass add up to the number of cells that pass and are kept
-pub table-sums : (skip : Skip) (cells : List Combination) (table : Pairs) → IsTable skip cells table →
+pub table-sums : (skip : Skip) (cells : List Combination) (table : CombinationsWithCounts) → IsTable skip cells table →
     (t : Combination → Bool) →
-    sum_by (λ pair. pair.1) (filter (λ pair. t pair.0) table) ≡ count_by (λ k. not (is_left_out skip k) && t k) cells
+    sum_by (λ pair. pair.1) (filter (λ pair. t pair.0) table) ≡ count_by (λ k. not (combination_is_left_out skip k)
+    && t k) cells
 table-sums skip cells table is t =
     tally-passing t (kept_cells skip cells) table (kept-IsTable skip cells table is)
-    ∙ count-filter t (λ k. not (is_left_out skip k)) cells
+    ∙ count-filter t (λ k. not (combination_is_left_out skip k)) cells

@@ -1,17 +1,17 @@
 -- Every filled map has a clumping.
 use Rattle.std.proofs.Common.{◌≡◌, ℕ, pos, cond, Some, None, IsSome, is_some, refl, ap, sym, ◌∙◌}
-use Rattle.cell_core.specs.Grid.{Grid, CellValue, IsFilled}
-use Rattle.cell_cats_areas.specs.declared.clump.Joining.{Joining}
-use Rattle.cell_cats_areas.specs.Areas.{Position, cell_at_position, IsClumping}
-use Rattle.cell_cats_areas.specs.parts.CellPlaces.{position, IsInside}
-use Rattle.cell_cats_areas.proofs.MeetingLemmas.{some_of}
-use Rattle.cell_cats_areas.proofs.StartLemmas.{inside_map}
-use Rattle.cell_cats_law.specs.ExistsLaw.{ClumpingExists}
+use Rattle.cell_core.specs.Grid.{Grid, CellValue, RowsFillRegion}
+use Rattle.cell_clumps.specs.declared.clump.Joining.{Joining}
+use Rattle.cell_clumps.specs.Clumps.{Position, cell_at_position, IsClumpMapOf}
+use Rattle.cell_clumps.specs.parts.CellPlaces.{position_at_row_and_column, IsInsideMap}
+use Rattle.cell_clumps.proofs.MeetingLemmas.{some_of}
+use Rattle.cell_clumps.proofs.StartLemmas.{inside_map}
+use Rattle.cell_cats_law.specs.ExistsLaw.{ClumpMapExists}
 use Rattle.cell_cats_law.proofs.LinkLemmas.{AreLed, are_led}
 use Rattle.cell_cats_law.proofs.MadeLemmas.{made_map, made_filled, made_there}
 use Rattle.cell_cats_law.proofs.FirstLemmas.{number, has_number, one_number, joined_number}
 
-module _ (j : Joining) (m : Grid) (filled : IsFilled m.region m.rows) (f : ℕ → ℕ) (led : AreLed j m f) where
+module _ (j : Joining) (m : Grid) (filled : RowsFillRegion m.region m.rows) (f : ℕ → ℕ) (led : AreLed j m f) where
   abbrev number_at : Position → ℕ
   number_at p = number j m filled f led p
 
@@ -19,13 +19,13 @@ module _ (j : Joining) (m : Grid) (filled : IsFilled m.region m.rows) (f : ℕ �
   cell_of p = cond (is_some (cell_at_position m p)) (Some (pos (number_at p))) None
 
   abbrev numbers : Grid
-  numbers = made_map m.region (λ r c. cell_of (position r c))
+  numbers = made_map m.region (λ r c. cell_of (position_at_row_and_column r c))
 
-  numbers_filled : IsFilled numbers.region numbers.rows
-  numbers_filled = made_filled m.region (λ r c. cell_of (position r c))
+  numbers_filled : RowsFillRegion numbers.region numbers.rows
+  numbers_filled = made_filled m.region (λ r c. cell_of (position_at_row_and_column r c))
 
-  there : (p : Position) → IsInside m p → cell_at_position numbers p ≡ cell_of p
-  there p inside = made_there m.region (λ r c. cell_of (position r c)) p.row p.col inside.0 inside.1
+  there : (p : Position) → IsInsideMap m p → cell_at_position numbers p ≡ cell_of p
+  there p inside = made_there m.region (λ r c. cell_of (position_at_row_and_column r c)) p.row p.col inside.0 inside.1
 
   null_there : (p : Position) → cell_at_position m p ≡ None → (x : CellValue) → cell_at_position numbers p ≡ x
       → cell_at_position numbers p ≡ None
@@ -39,7 +39,7 @@ module _ (j : Joining) (m : Grid) (filled : IsFilled m.region m.rows) (f : ℕ �
       let v = some_of (cell_at_position m p) some in
       there p (inside_map m p v.0 filled v.1) ∙ ap (λ t. cond t (Some (pos (number_at p))) None) some
 
-  clumped : IsClumping j m numbers
+  clumped : IsClumpMapOf j m numbers
   clumped = record {
     region = refl;
     labels = refl;
@@ -60,7 +60,7 @@ module _ (j : Joining) (m : Grid) (filled : IsFilled m.region m.rows) (f : ℕ �
         );
   }
 
-pub clumping_exists : ClumpingExists
-clumping_exists j m filled =
+pub clump_map_exists : ClumpMapExists
+clump_map_exists j m filled =
     let led = are_led j m filled in
     (numbers j m filled led.0 led.1, (numbers_filled j m filled led.0 led.1, clumped j m filled led.0 led.1))

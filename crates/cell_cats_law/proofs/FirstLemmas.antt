@@ -1,4 +1,4 @@
--- The first cells of a map's areas, in row order, and the number of each cell.
+-- The first cells of a map's clumps, in row order, and the number of each cell.
 use Rattle.std.proofs.Common.{◌≡◌, ℕ, zero, suc, ℤ, ◌<◌, ◌≤◌, Bool, true, false, ◌&&◌, cond, eqb, eq-eqb, List, [], ◌∷◌}
 use Rattle.std.proofs.Common.{◌++◌, length, Some, IsSome, is_some, get_or, refl, ap, sym, ◌∙◌, arith, subst, ⊎_elim}
 use Rattle.std.specs.List.{Contains, AllPairs}
@@ -7,44 +7,46 @@ use Rattle.std.proofs.lemmas.Nat.{div-add-mod'}
 use Rattle.std.proofs.lemmas.List.{length_push}
 use Rattle.std.proofs.lemmas.List.Elements.{Contains-get_or, Contains-append_left, Contains-push, Contains-push_cases}
 use Rattle.std.proofs.lemmas.List.Quantifiers.{all_pairs_push}
-use Rattle.cell_core.specs.Grid.{Grid, IsFilled}
-use Rattle.cell_cats_areas.specs.declared.clump.Joining.{Joining}
-use Rattle.cell_cats_areas.specs.Areas.{Position, cell_at_position, IsEarlierCell, AreJoined, IsFirst, HasNumber}
-use Rattle.cell_cats_areas.specs.parts.CellPlaces.{cell_of_place, cell_place, IsInside}
-use Rattle.cell_cats_areas.proofs.LawLemmas.{cases_before}
-use Rattle.cell_cats_areas.proofs.MeetingLemmas.{some_of}
-use Rattle.cell_cats_areas.proofs.PathLemmas.{AreJoined-refl, AreJoined-sym, AreJoined-first}
-use Rattle.cell_cats_areas.proofs.StartLemmas.{cell_of-place, place_lt, inside_map, grows}
+use Rattle.cell_core.specs.Grid.{Grid, RowsFillRegion}
+use Rattle.cell_clumps.specs.declared.clump.Joining.{Joining}
+use Rattle.cell_clumps.specs.Clumps.{Position, cell_at_position, IsEarlierCell, AreCellsConnected, IsFirstCellOfClump}
+use Rattle.cell_clumps.specs.Clumps.{HasClumpNumber}
+use Rattle.cell_clumps.specs.parts.CellPlaces.{position_at_place, place_of_position, IsInsideMap}
+use Rattle.cell_clumps.proofs.LawLemmas.{cases_before}
+use Rattle.cell_clumps.proofs.MeetingLemmas.{some_of}
+use Rattle.cell_clumps.proofs.PathLemmas.{AreJoined-refl, AreJoined-sym, AreJoined-first}
+use Rattle.cell_clumps.proofs.StartLemmas.{cell_of-place, place_lt, inside_map, grows}
 use Rattle.cell_cats_law.proofs.LinkLemmas.{AreLed}
 
-module _ (j : Joining) (m : Grid) (filled : IsFilled m.region m.rows) (f : ℕ → ℕ) (led : AreLed j m f) where
+module _ (j : Joining) (m : Grid) (filled : RowsFillRegion m.region m.rows) (f : ℕ → ℕ) (led : AreLed j m f) where
   abbrev place : Position → ℕ
-  place p = cell_place m.region.cols p
+  place p = place_of_position m.region.cols p
 
   abbrev at : ℕ → Position
-  at k = cell_of_place m.region.cols k
+  at k = position_at_place m.region.cols k
 
   place_of : (k : ℕ) → place (at k) ≡ k
   place_of k = div-add-mod' k m.region.cols
 
-  at_of : (p : Position) → IsInside m p → at (place p) ≡ p
+  at_of : (p : Position) → IsInsideMap m p → at (place p) ≡ p
   at_of p inside = cell_of-place m.region.cols p.row p.col inside.1
 
-  -- the place of the first cell of the area that contains a cell
+  -- the place of the first cell of the clump that contains a cell
   abbrev pub first_place : Position → ℕ
   first_place p = f (place p)
 
-  -- the first cell of an area is joined to each cell of the area
-  first_joined : (p : Position) (v : ℤ) → cell_at_position m p ≡ Some v → AreJoined j m (at (first_place p)) p
+  -- the first cell of a clump is joined to each cell of the clump
+  first_joined : (p : Position) (v : ℤ) → cell_at_position m p ≡ Some v → AreCellsConnected j m (at (first_place p)) p
   first_joined p v is =
       let inside = inside_map m p v filled is in
       ⊎_elim
-      (λ e. subst (λ (s : Position). AreJoined j m s p) (sym (at_of p inside) ∙ ap at e) (AreJoined-refl j m p v is))
+      (λ e. subst (λ (s : Position). AreCellsConnected j m s p) (sym (at_of p inside)
+      ∙ ap at e) (AreJoined-refl j m p v is))
       (λ h. AreJoined-sym j m p (at (first_place p))
-      (subst (λ (s : Position). AreJoined j m s (at (first_place p))) (at_of p inside) h))
+      (subst (λ (s : Position). AreCellsConnected j m s (at (first_place p))) (at_of p inside) h))
       (led.first (place p))
 
-  first_is : (p : Position) (v : ℤ) → cell_at_position m p ≡ Some v → IsFirst j m (at (first_place p))
+  first_is : (p : Position) (v : ℤ) → cell_at_position m p ≡ Some v → IsFirstCellOfClump j m (at (first_place p))
   first_is p v is =
       let g : Position = at (first_place p) in
       let joined = first_joined p v is in
@@ -63,8 +65,8 @@ module _ (j : Joining) (m : Grid) (filled : IsFilled m.region m.rows) (f : ℕ �
             absurd (omega (arith, same, g_place, g_leads, low, less));
       }
 
-  -- the first cell of its area is its own first cell
-  own_place : (p : Position) → IsFirst j m p → first_place p ≡ place p
+  -- the first cell of its clump is its own first cell
+  own_place : (p : Position) → IsFirstCellOfClump j m p → first_place p ≡ place p
   own_place p h =
       let v = some_of (cell_at_position m p) h.category in
       let inside = inside_map m p v.0 filled v.1 in
@@ -87,15 +89,15 @@ module _ (j : Joining) (m : Grid) (filled : IsFilled m.region m.rows) (f : ℕ �
   firsts zero = []
   firsts (suc k) = cond (is_own k) (firsts k ++ at k ∷ []) (firsts k)
 
-  own_is_first : (k : ℕ) → is_own k ≡ true → IsFirst j m (at k)
+  own_is_first : (k : ℕ) → is_own k ≡ true → IsFirstCellOfClump j m (at k)
   own_is_first k own =
       let some : IsSome (cell_at_position m (at k)) = (and_parts (is_some (cell_at_position m (at k))) (eqb (f k) k) own).0 in
       let v = some_of (cell_at_position m (at k)) some in
       let stays : f k ≡ k = eqb-true (f k) k ((and_parts (is_some (cell_at_position m (at k))) (eqb (f k) k) own).1) in
       let here : first_place (at k) ≡ k = ap f (place_of k) ∙ stays in
-      subst (λ (n : ℕ). IsFirst j m (at n)) here (first_is (at k) v.0 v.1)
+      subst (λ (n : ℕ). IsFirstCellOfClump j m (at n)) here (first_is (at k) v.0 v.1)
 
-  first_is_own : (p : Position) → IsFirst j m p → is_own (place p) ≡ true
+  first_is_own : (p : Position) → IsFirstCellOfClump j m p → is_own (place p) ≡ true
   first_is_own p h =
       let v = some_of (cell_at_position m p) h.category in
       let inside = inside_map m p v.0 filled v.1 in
@@ -106,8 +108,8 @@ module _ (j : Joining) (m : Grid) (filled : IsFilled m.region m.rows) (f : ℕ �
 
   record AreFirstsBelow (k : ℕ) (ps : List Position) : Type 0 where
     in_order : AllPairs IsEarlierCell ps
-    are_first : (p : Position) → Contains ps p → IsFirst j m p × (place p < k)
-    all : (p : Position) → IsFirst j m p → place p < k → Contains ps p
+    are_first : (p : Position) → Contains ps p → IsFirstCellOfClump j m p × (place p < k)
+    all : (p : Position) → IsFirstCellOfClump j m p → place p < k → Contains ps p
 
   firsts_more : (k : ℕ) (ps : List Position) → AreFirstsBelow k ps → is_own k ≡ true → AreFirstsBelow (suc k)
       (ps ++ at k ∷ [])
@@ -132,7 +134,7 @@ module _ (j : Joining) (m : Grid) (filled : IsFilled m.region m.rows) (f : ℕ �
         are_first = λ p has.
             ⊎_elim (λ old. let is = h.are_first p old in (is.0, let less = is.1 in omega (arith, less)))
             (λ e. (
-              subst (IsFirst j m) e here,
+              subst (IsFirstCellOfClump j m) e here,
               let k_place = place_of k in let same : place (at k) ≡ place p =
                   ap place e in omega (arith, k_place, same),
             ))
@@ -178,7 +180,7 @@ module _ (j : Joining) (m : Grid) (filled : IsFilled m.region m.rows) (f : ℕ �
   abbrev pub number : Position → ℕ
   number p = length (firsts (suc (first_place p)))
 
-  pub has_number : (p : Position) (v : ℤ) → cell_at_position m p ≡ Some v → HasNumber j m p (number p)
+  pub has_number : (p : Position) (v : ℤ) → cell_at_position m p ≡ Some v → HasClumpNumber j m p (number p)
   has_number p v is =
       let g : Position = at (first_place p) in
       let joined = first_joined p v is in
@@ -223,7 +225,7 @@ module _ (j : Joining) (m : Grid) (filled : IsFilled m.region m.rows) (f : ℕ �
       (arith, e))
       (cases_Bool (is_own k))
 
-  -- of two areas, the one whose first cell comes later has the larger number
+  -- of two clumps, the one whose first cell comes later has the larger number
   later_is_more : (p q : Position) (v : ℤ) → cell_at_position m q ≡ Some v → first_place p < first_place q
       → number p < number q
   later_is_more p q v is lt =
@@ -236,7 +238,7 @@ module _ (j : Joining) (m : Grid) (filled : IsFilled m.region m.rows) (f : ℕ �
       omega (arith, e, l, before)
 
   pub one_number : (p q : Position) (v u : ℤ) → cell_at_position m p ≡ Some v → cell_at_position m q ≡ Some u
-      → number p ≡ number q → AreJoined j m p q
+      → number p ≡ number q → AreCellsConnected j m p q
   one_number p q v u p_is q_is same =
       let p_in = inside_map m p v filled p_is in
       let q_in = inside_map m q u filled q_is in
@@ -246,5 +248,5 @@ module _ (j : Joining) (m : Grid) (filled : IsFilled m.region m.rows) (f : ℕ �
       (cases_lt (first_place q) (first_place p)))
       (cases_lt (first_place p) (first_place q))
 
-  pub joined_number : (p q : Position) → AreJoined j m p q → number p ≡ number q
+  pub joined_number : (p q : Position) → AreCellsConnected j m p q → number p ≡ number q
   joined_number p q h = ap (λ (k : ℕ). length (firsts (suc k))) (led.one p q h)

@@ -3,9 +3,9 @@ use Rattle.std.proofs.Common.{◌≡◌, ℕ, zero, suc, ◌+◌, ◌*◌, ◌/�
 use Rattle.std.proofs.Common.{subst, inl, inr, ⊎_elim, ◌⊎◌}
 use Rattle.std.proofs.lemmas.Bool.{cases_eq, cases_lt}
 use Rattle.std.proofs.lemmas.Nat.{div-mul-add, mod-mul-add, mul-add-lt}
-use Rattle.cell_cats_areas.specs.parts.Labels.{closed_labels, after_join}
-use Rattle.cell_cats_areas.proofs.LabelLemmas.{by_order, closed_high, closed_other}
-use Rattle.cell_cats_areas.proofs.MeetingLemmas.{after_join_one, after_join_keeps}
+use Rattle.cell_clumps.specs.parts.Labels.{root_after_linking_roots, root_label_after_join}
+use Rattle.cell_clumps.proofs.LabelLemmas.{by_order, closed_high, closed_other}
+use Rattle.cell_clumps.proofs.MeetingLemmas.{after_join_one, after_join_keeps}
 
 -- the two numbers are equal or joined
 abbrev pub AreNear : (ℕ → ℕ → Type 0) → ℕ → ℕ → Type 0
@@ -35,16 +35,17 @@ module _ (Joined : ℕ → ℕ → Type 0) (back : (x y : ℕ) → Joined x y �
 
   -- redirecting the larger of two near numbers to the smaller keeps the properties of `Leads`
   closed_leads : (f : ℕ → ℕ) (high low : ℕ) → Leads Joined f → low ≤ high → f low ≡ low → AreNear Joined high low
-      → Leads Joined (closed_labels f high low)
+      → Leads Joined (root_after_linking_roots f high low)
   closed_leads f high low leads le low_is near = record {
     low = λ k.
         let least = leads.low k in
         ⊎_elim (λ e. let is = closed_high f high low k e in omega arith)
         (λ ne. let is = closed_other f high low k ne in omega arith) (cases_eq (f k) high);
     stays = λ k.
-        ⊎_elim (λ e. let is = closed_high f high low k e in ap (closed_labels f high low) is ∙ low_stays ∙ sym is)
+        ⊎_elim (λ e. let is = closed_high f high low k e in ap (root_after_linking_roots f high low) is ∙ low_stays
+        ∙ sym is)
         (λ ne. let is = closed_other f high low k ne in
-        ap (closed_labels f high low) is ∙ closed_other f high low (f k) (λ e. ne (sym (leads.stays k) ∙ e))
+        ap (root_after_linking_roots f high low) is ∙ closed_other f high low (f k) (λ e. ne (sym (leads.stays k) ∙ e))
         ∙ leads.stays k ∙ sym is)
         (cases_eq (f k) high);
     near = λ k.
@@ -54,12 +55,12 @@ module _ (Joined : ℕ → ℕ → Type 0) (back : (x y : ℕ) → Joined x y �
         (cases_eq (f k) high);
   }
     where
-      low_stays : closed_labels f high low low ≡ low
+      low_stays : root_after_linking_roots f high low low ≡ low
       low_stays = ⊎_elim (λ e. closed_high f high low low e) (λ ne. closed_other f high low low ne ∙ low_is)
           (cases_eq (f low) high)
 
   -- the properties of `Leads` still hold after two joined numbers are made to lead to the same number
-  joined_leads : (f : ℕ → ℕ) (a b : ℕ) → Leads Joined f → Joined a b → Leads Joined (after_join f a b)
+  joined_leads : (f : ℕ → ℕ) (a b : ℕ) → Leads Joined f → Joined a b → Leads Joined (root_label_after_join f a b)
   joined_leads f a b leads joined =
       let ends : AreNear Joined (f a) (f b) = near_onwards (f a) a (f b) (near_back a (f a) (leads.near a))
       (near_onwards a b (f b) (inr joined) (leads.near b)) in
@@ -81,12 +82,13 @@ module _ (Joined : ℕ → ℕ → Type 0) (back : (x y : ℕ) → Joined x y �
         let a = pairs / count in
         let b = pairs % count in
         record {
-          to = after_join so_far.to a b;
+          to = root_label_after_join so_far.to a b;
           leads = joined_leads so_far.to a b so_far.leads (joins a b linked);
           same = λ p lt links.
               ⊎_elim (λ less. after_join_keeps so_far.to a b (p / count) (p % count) (so_far.same p less links))
               (λ le. let e : pairs ≡ p = omega arith in
-              subst (λ (n : ℕ). after_join so_far.to a b (n / count) ≡ after_join so_far.to a b (n % count)) e
+              subst (λ (n : ℕ). root_label_after_join so_far.to a b (n / count)
+              ≡ root_label_after_join so_far.to a b (n % count)) e
               (after_join_one so_far.to a b))
               (cases_lt p pairs);
         }

@@ -6,7 +6,7 @@ pub mod ExistsLemmas
 pub mod CountLemmas
 pub mod PageLemmas
 pub mod ReclassLemmas
-pub mod AreaLemmas
+pub mod ClumpCellLemmas
 pub mod CornerLemmas
 pub mod PartLemmas
 pub mod WithoutLemmas

@@ -3,14 +3,15 @@ use Rattle.std.proofs.Common.{◌≡◌, ℕ, ℤ, ◌+◌, ◌*◌, ◌≤◌, 
 use Rattle.std.proofs.Common.{⊎_elim, ◌⊎◌}
 use Rattle.std.proofs.lemmas.Bool.{cases_eq}
 use Rattle.cell_core_values.specs.Cell.{cell_eq, cell_eq-Decides}
-use Rattle.cell_core.specs.Grid.{Grid, CellValue, IsFilled}
-use Rattle.cell_cats_areas.specs.declared.clump.Joining.{Joining}
-use Rattle.cell_cats_areas.specs.declared.clump.Joining.TheVariants.{Edges, EdgesAndCorners}
-use Rattle.cell_cats_areas.specs.Areas.{Position, cell_at_position, AreNeighbours, ShareEdge, AreAdjacent, AreJoined}
-use Rattle.cell_cats_areas.specs.parts.CellPlaces.{cell_of_place, cell_place, IsInside}
-use Rattle.cell_cats_areas.proofs.PathLemmas.{AreJoined-sym, AreJoined-trans, AreJoined-adjacent, AreJoined-along}
-use Rattle.cell_cats_areas.proofs.PathLemmas.{AreJoined-refl}
-use Rattle.cell_cats_areas.proofs.StartLemmas.{cell_of-place, place_inside, one_place, inside_map}
+use Rattle.cell_core.specs.Grid.{Grid, CellValue, RowsFillRegion}
+use Rattle.cell_clumps.specs.declared.clump.Joining.{Joining}
+use Rattle.cell_clumps.specs.declared.clump.Joining.TheVariants.{Edges, EdgesAndCorners}
+use Rattle.cell_clumps.specs.Clumps.{Position, cell_at_position, DifferByOne, CellsShareEdge, AreAdjacent}
+use Rattle.cell_clumps.specs.Clumps.{AreCellsConnected}
+use Rattle.cell_clumps.specs.parts.CellPlaces.{position_at_place, place_of_position, IsInsideMap}
+use Rattle.cell_clumps.proofs.PathLemmas.{AreJoined-sym, AreJoined-trans, AreJoined-adjacent, AreJoined-along}
+use Rattle.cell_clumps.proofs.PathLemmas.{AreJoined-refl}
+use Rattle.cell_clumps.proofs.StartLemmas.{cell_of-place, place_inside, one_place, inside_map}
 use Rattle.cell_cats_law.proofs.LeadLemmas.{AreNear, near_of_same, leads_all}
 
 -- ---- decidable properties
@@ -32,10 +33,10 @@ decided_either (inl p) q = inl (inl p)
 decided_either (inr none) (inl q) = inl (inr q)
 decided_either (inr none) (inr other) = inr (neither none other)
 
-neighbours_decided : (i k : ℕ) → IsDecided (AreNeighbours i k)
+neighbours_decided : (i k : ℕ) → IsDecided (DifferByOne i k)
 neighbours_decided i k = decided_either (cases_eq (i + 1) k) (cases_eq (k + 1) i)
 
-edge_decided : (p q : Position) → IsDecided (ShareEdge p q)
+edge_decided : (p q : Position) → IsDecided (CellsShareEdge p q)
 edge_decided p q =
     decided_either (decided_both (cases_eq p.row q.row) (neighbours_decided p.col q.col))
     (decided_both (neighbours_decided p.row q.row) (cases_eq p.col q.col))
@@ -62,10 +63,10 @@ alike_decided (Some v) y = by (cell_eq y (Some v)) refl
 module _ (j : Joining) (m : Grid) where
   -- the cell at a place
   abbrev at_place : ℕ → Position
-  at_place k = cell_of_place m.region.cols k
+  at_place k = position_at_place m.region.cols k
 
   abbrev pub JoinedPlaces : ℕ → ℕ → Type 0
-  JoinedPlaces x y = AreJoined j m (at_place x) (at_place y)
+  JoinedPlaces x y = AreCellsConnected j m (at_place x) (at_place y)
 
   abbrev LinkedPlaces : ℕ → ℕ → Type 0
   LinkedPlaces x y = AreAdjacent j (at_place x) (at_place y) × AreAlike (cell_at_position m (at_place x))
@@ -75,12 +76,13 @@ module _ (j : Joining) (m : Grid) where
   pub record AreLed (f : ℕ → ℕ) : Type 0 where
     pub low : (k : ℕ) → f k ≤ k
     pub stays : (k : ℕ) → f (f k) ≡ f k
-    pub near : (p q : Position) (v : ℤ) → IsInside m p → IsInside m q → cell_at_position m p ≡ Some v → f
-        (cell_place m.region.cols p) ≡ f (cell_place m.region.cols q) → AreJoined j m p q
-    pub one : (p q : Position) → AreJoined j m p q → f (cell_place m.region.cols p) ≡ f (cell_place m.region.cols q)
+    pub near : (p q : Position) (v : ℤ) → IsInsideMap m p → IsInsideMap m q → cell_at_position m p ≡ Some v → f
+        (place_of_position m.region.cols p) ≡ f (place_of_position m.region.cols q) → AreCellsConnected j m p q
+    pub one : (p q : Position) → AreCellsConnected j m p q → f (place_of_position m.region.cols p)
+        ≡ f (place_of_position m.region.cols q)
     pub first : (k : ℕ) → AreNear JoinedPlaces k (f k)
 
-  pub are_led : IsFilled m.region m.rows → (f : ℕ → ℕ) × AreLed f
+  pub are_led : RowsFillRegion m.region m.rows → (f : ℕ → ℕ) × AreLed f
   are_led filled =
       let all = leads_all JoinedPlaces (λ x y. AreJoined-sym j m (at_place x) (at_place y))
       (λ x y z. AreJoined-trans j m (at_place x) (at_place y) (at_place z))
@@ -90,7 +92,7 @@ module _ (j : Joining) (m : Grid) where
       (m.region.rows * m.region.cols) in
       let f = all.0 in
       let leads = all.1.0 in
-      let back : (p : Position) → IsInside m p → at_place (cell_place m.region.cols p) ≡ p =
+      let back : (p : Position) → IsInsideMap m p → at_place (place_of_position m.region.cols p) ≡ p =
       λ p inside. cell_of-place m.region.cols p.row p.col inside.1 in (
         f,
         record {
@@ -98,23 +100,25 @@ module _ (j : Joining) (m : Grid) where
           stays = leads.stays;
           first = leads.near;
           near = λ p q v p_in q_in is same.
-              ⊎_elim (λ e. subst (λ (s : Position). AreJoined j m p s) (one_place m.region.cols p q p_in.1 q_in.1 e)
+              ⊎_elim (λ e. subst (λ (s : Position). AreCellsConnected j m p s)
+              (one_place m.region.cols p q p_in.1 q_in.1 e)
               (AreJoined-refl j m p v is))
-              (λ h. subst (λ (s : Position). AreJoined j m s q) (back p p_in)
-              (subst (λ (s : Position). AreJoined j m (at_place (cell_place m.region.cols p)) s) (back q q_in) h))
+              (λ h. subst (λ (s : Position). AreCellsConnected j m s q) (back p p_in)
+              (subst (λ (s : Position). AreCellsConnected j m (at_place (place_of_position m.region.cols p)) s)
+              (back q q_in) h))
               (near_of_same JoinedPlaces (λ x y. AreJoined-sym j m (at_place x) (at_place y))
               (λ x y z. AreJoined-trans j m (at_place x) (at_place y) (at_place z)) f leads
-              (cell_place m.region.cols p) (cell_place m.region.cols q) same);
-          one = λ p q. AreJoined-along j m (λ s. f (cell_place m.region.cols s))
+              (place_of_position m.region.cols p) (place_of_position m.region.cols q) same);
+          one = λ p q. AreJoined-along j m (λ s. f (place_of_position m.region.cols s))
               (λ a b v near first second.
               let a_in = inside_map m a v filled first in
               let b_in = inside_map m b v filled second in
               let Link : Position → Position → Type 0 = λ s t. AreAdjacent j s t × AreAlike (cell_at_position m s)
               (cell_at_position m t) in
               let here : Link a b = (near, (v, (first, second))) in
-              all.1.1 (cell_place m.region.cols a) (cell_place m.region.cols b) (place_inside m a a_in)
+              all.1.1 (place_of_position m.region.cols a) (place_of_position m.region.cols b) (place_inside m a a_in)
               (place_inside m b b_in)
-              (subst (λ (s : Position). Link s (at_place (cell_place m.region.cols b))) (sym (back a a_in))
+              (subst (λ (s : Position). Link s (at_place (place_of_position m.region.cols b))) (sym (back a a_in))
               (subst (λ (s : Position). Link a s) (sym (back b b_in)) here)))
               p q;
         },

@@ -4,7 +4,7 @@ use Rattle.std.specs.List.{range_with_len}
 use Rattle.std.proofs.lemmas.List.FromFn.{length-map-range_with_len, get_or-map-range_with_len}
 use Rattle.std.proofs.lemmas.List.Elements.{All-map}
 use Rattle.cell_core_values.specs.Region.{RegionValue}
-use Rattle.cell_core.specs.Grid.{Grid, CellValue, IsFilled, cell_at, no_labels}
+use Rattle.cell_core.specs.Grid.{Grid, CellValue, RowsFillRegion, cell_at, empty_category_labels}
 
 module _ (region : RegionValue) (at : ℕ → ℕ → CellValue) where
   abbrev made_row : ℕ → List CellValue
@@ -14,9 +14,9 @@ module _ (region : RegionValue) (at : ℕ → ℕ → CellValue) where
   made_rows = map made_row (range_with_len 0 region.rows)
 
   abbrev pub made_map : Grid
-  made_map = record { region = region; rows = made_rows; labels = no_labels }
+  made_map = record { region = region; rows = made_rows; labels = empty_category_labels }
 
-  pub made_filled : IsFilled made_map.region made_map.rows
+  pub made_filled : RowsFillRegion made_map.region made_map.rows
   made_filled = record {
     count = length-map-range_with_len made_row 0 region.rows;
     width = All-map (λ (row : List CellValue). length row ≡ region.cols) made_row (range_with_len 0 region.rows)

@@ -2,10 +2,10 @@
 use Rattle.std.proofs.Common.{◌≡◌, ℕ, zero, suc, pos, negsuc, ◌-◌, map, [], ◌∷◌, List, get_or, Some, None}
 use Rattle.std.proofs.Common.{refl, ap, sym, ◌∙◌}
 use Rattle.cell_core.specs.Grid.{Grid, CellValue}
-use Rattle.cell_cats_areas.specs.declared.clump.Joining.{Joining}
-use Rattle.cell_cats_areas.specs.Areas.{Position, cell_at_position, HasNumber, IsClumping}
-use Rattle.cell_cats_areas.proofs.LawLemmas.{HasNumber-one}
-use Rattle.cell_join_numbers.proofs.AreaLemmas.{is-some}
+use Rattle.cell_clumps.specs.declared.clump.Joining.{Joining}
+use Rattle.cell_clumps.specs.Clumps.{Position, cell_at_position, HasClumpNumber, IsClumpMapOf}
+use Rattle.cell_clumps.proofs.LawLemmas.{HasClumpNumber-one}
+use Rattle.cell_join_numbers.proofs.ClumpCellLemmas.{is-some}
 
 -- the full map's number of a cell, looked up by the cell's number in the tile
 abbrev pub number_there : List ℕ → CellValue → CellValue
@@ -33,11 +33,11 @@ pub cell-renumbered : (numbers : List ℕ) (m : Grid) (p : Position) →
     cell_at_position (renumbered numbers m) p ≡ number_there numbers (cell_at_position m p)
 cell-renumbered numbers m p = rows-mapped (number_there numbers) refl m.rows p.row p.col
 
-module _ (j : Joining) (whole numbered : Grid) (clumping : IsClumping j whole numbered) where
+module _ (j : Joining) (whole numbered : Grid) (clumping : IsClumpMapOf j whole numbered) where
   -- replacing the number of a tile's cell gives its number in the full map
-  pub number-here : (m numbers_map : Grid) → IsClumping j m numbers_map → (numbers : List ℕ) (p q : Position) →
+  pub number-here : (m numbers_map : Grid) → IsClumpMapOf j m numbers_map → (numbers : List ℕ) (p q : Position) →
       cell_at_position whole q ≡ cell_at_position m p →
-      ((k : ℕ) → cell_at_position numbers_map p ≡ Some (pos k) → HasNumber j whole q (get_or numbers (k - 1) 0)) →
+      ((k : ℕ) → cell_at_position numbers_map p ≡ Some (pos k) → HasClumpNumber j whole q (get_or numbers (k - 1) 0)) →
       number_there numbers (cell_at_position numbers_map p) ≡ cell_at_position numbered q
   number-here m numbers_map has numbers p q cell reports = by (cell_at_position m p) refl
     where
@@ -47,5 +47,5 @@ module _ (j : Joining) (whole numbered : Grid) (clumping : IsClumping j whole nu
       by (Some v) some =
           let t = has.numbered p (is-some (cell_at_position m p) v some) in
           let u = clumping.numbered q (is-some (cell_at_position whole q) v (cell ∙ some)) in
-          let same = HasNumber-one j whole q (get_or numbers (t.0 - 1) 0) u.0 (reports t.0 t.2) u.1 in
+          let same = HasClumpNumber-one j whole q (get_or numbers (t.0 - 1) 0) u.0 (reports t.0 t.2) u.1 in
           ap (number_there numbers) t.2 ∙ ap (λ (n : ℕ). Some (pos n)) same ∙ sym u.2

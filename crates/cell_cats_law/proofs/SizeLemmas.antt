@@ -7,20 +7,20 @@ use Rattle.std.specs.List.{range_with_len}
 use Rattle.std.specs.Ordering.{eq_by_cmp, is_eq}
 use Rattle.std.specs.Cmp.{tied_itself}
 use Rattle.cell_core.specs.Grid.{Grid, CellValue}
-use Rattle.cell_cats_areas.specs.declared.clump.Joining.{Joining}
-use Rattle.cell_cats_areas.specs.Areas.{Position, cell_at_position, IsClumping}
-use Rattle.cell_cats_areas.specs.parts.CellPlaces.{position}
-use Rattle.cell_cats_areas.proofs.CountLemmas.{numbers_count_areas}
+use Rattle.cell_clumps.specs.declared.clump.Joining.{Joining}
+use Rattle.cell_clumps.specs.Clumps.{Position, cell_at_position, IsClumpMapOf}
+use Rattle.cell_clumps.specs.parts.CellPlaces.{position_at_row_and_column}
+use Rattle.cell_clumps.proofs.CountLemmas.{clump_numbers_end_at_clump_count}
 use Rattle.cell_stats_combinations.specs.Combinations.{Combination, combination_cmp, combination_cmp_total}
 use Rattle.cell_stats_combinations.proofs.OrderLemmas.{combination_cmp-exact, is_equal}
-use Rattle.cell_stats_counts.specs.Counts.{count_of}
+use Rattle.cell_stats_counts.specs.Counts.{cell_count_of_combination}
 use Rattle.cell_stats.proofs.SortedLemmas.{both_true}
 use Rattle.cell_cats_law.proofs.CountLemmas.{one-if, count_by-cons, counts-same}
-use Rattle.cell_cats_law.specs.AreaLaw.{cells_of}
-use Rattle.cell_cats_law.proofs.AreaLemmas.{first-cell}
-use Rattle.cell_join_numbers.specs.Labelled.{HasAreas}
-use Rattle.cell_cats_law.specs.SummedSizes.{size_for, size_of_area}
-use Rattle.cell_cats_law.specs.SizeLaw.{sizes_of_areas}
+use Rattle.cell_cats_law.specs.ClumpSizeLaw.{one_cell_combinations}
+use Rattle.cell_cats_law.proofs.ClumpCellLemmas.{first-cell}
+use Rattle.cell_join_numbers.specs.Labelled.{MapHasClumpCount}
+use Rattle.cell_cats_law.specs.SummedSizes.{size_if_number_matches_else_zero, total_size_of_clump}
+use Rattle.cell_cats_law.specs.SizeLaw.{sizes_of_numbered_clumps}
 use Rattle.cell_cats_law.proofs.NumberedTiles.{number_there, renumbered, cell-renumbered}
 
 -- ---- counts of cells that pass tests
@@ -176,25 +176,26 @@ stands-apart n number numbers from count x here = by (stands_for n numbers (from
 -- the number of cells that stand for n through one clump is the clump's size if the clump has number n, and otherwise 0
 count-first : (n number from : ℕ) (cells : List Combination) →
     count_by (λ x. n == number && eq_by_cmp combination_cmp (Some (pos from) ∷ []) x) cells
-    ≡ size_for n number (count_of (Some (pos from) ∷ []) cells)
+    ≡ size_if_number_matches_else_zero n number (cell_count_of_combination (Some (pos from) ∷ []) cells)
 count-first n number from cells = by (n == number) refl
   where
     by : (b : Bool) → (n == number) ≡ b →
         count_by (λ x. n == number && eq_by_cmp combination_cmp (Some (pos from) ∷ []) x) cells
-        ≡ size_for n number (count_of (Some (pos from) ∷ []) cells)
+        ≡ size_if_number_matches_else_zero n number (cell_count_of_combination (Some (pos from) ∷ []) cells)
     by true e =
         count-alike (λ x. n == number && eq_by_cmp combination_cmp (Some (pos from) ∷ []) x)
         (eq_by_cmp combination_cmp (Some (pos from) ∷ [])) cells
         (λ x. ap (λ b. b && eq_by_cmp combination_cmp (Some (pos from) ∷ []) x) e)
-        ∙ sym (ap (λ b. cond b (count_of (Some (pos from) ∷ []) cells) 0) e)
+        ∙ sym (ap (λ b. cond b (cell_count_of_combination (Some (pos from) ∷ []) cells) 0) e)
     by false e =
         count-none (λ x. n == number && eq_by_cmp combination_cmp (Some (pos from) ∷ []) x) cells
         (λ x. ap (λ b. b && eq_by_cmp combination_cmp (Some (pos from) ∷ []) x) e)
-        ∙ sym (ap (λ b. cond b (count_of (Some (pos from) ∷ []) cells) 0) e)
+        ∙ sym (ap (λ b. cond b (cell_count_of_combination (Some (pos from) ∷ []) cells) 0) e)
 
 count-stands : (n : ℕ) (numbers : List ℕ) (from count : ℕ) (cells : List Combination) →
     count_by (stands_for n numbers from count) cells
-    ≡ size_of_area n numbers (map (λ k. count_of (Some (pos k) ∷ []) cells) (range_with_len from count))
+    ≡ total_size_of_clump n numbers (map (λ k. cell_count_of_combination (Some (pos k) ∷ []) cells)
+    (range_with_len from count))
 count-stands n [] from count cells = count-none (stands_for n [] from count) cells (λ x. refl)
 count-stands n (number ∷ numbers) from zero cells =
     count-none (stands_for n (number ∷ numbers) from zero) cells (λ x. refl)
@@ -202,18 +203,19 @@ count-stands n (number ∷ numbers) from (suc count) cells =
     count-either (λ x. n == number && eq_by_cmp combination_cmp (Some (pos from) ∷ []) x)
     (stands_for n numbers (from + 1) count) cells (stands-apart n number numbers from count)
     ∙ ap (λ (k : ℕ). k + count_by (stands_for n numbers (from + 1) count) cells) (count-first n number from cells)
-    ∙ ap (λ (k : ℕ). size_for n number (count_of (Some (pos from) ∷ []) cells) + k)
+    ∙ ap (λ (k : ℕ). size_if_number_matches_else_zero n number (cell_count_of_combination (Some (pos from)
+    ∷ []) cells) + k)
     (count-stands n numbers (from + 1) count cells)
 
-module _ (j : Joining) (m numbers_map : Grid) (is : IsClumping j m numbers_map) (areas : ℕ)
-    (has : HasAreas j m areas) (numbers : List ℕ) (n : ℕ) (some : 1 ≤ n) where
+module _ (j : Joining) (m numbers_map : Grid) (is : IsClumpMapOf j m numbers_map) (clumps : ℕ)
+    (has : MapHasClumpCount j m clumps) (numbers : List ℕ) (n : ℕ) (some : 1 ≤ n) where
   -- a cell has number n in the full map exactly if its own number stands for n
   stands-there : (c : CellValue) (p : Position) → cell_at_position numbers_map p ≡ c →
-      number_there numbers c ≡ Some (pos n) → StandsFor n numbers 1 areas (c ∷ [])
+      number_there numbers c ≡ Some (pos n) → StandsFor n numbers 1 clumps (c ∷ [])
   stands-there None p here e = cc
   stands-there (Some (negsuc k)) p here e = cc
   stands-there (Some (pos k)) p here e =
-      let within = (numbers_count_areas j m numbers_map is has.0 has.1 k).0 (p, here) in
+      let within = (clump_numbers_end_at_clump_count j m numbers_map is has.0 has.1 k).0 (p, here) in
       let back : k ≡ 1 + (k - 1) = omega (arith, within.0) in
       record {
         place = k - 1;
@@ -222,7 +224,7 @@ module _ (j : Joining) (m numbers_map : Grid) (is : IsClumping j m numbers_map) 
         is = (let same : get_or numbers (k - 1) 0 ≡ n = cc in same);
       }
 
-  there-stands : (c : CellValue) → StandsFor n numbers 1 areas (c ∷ []) → number_there numbers c ≡ Some (pos n)
+  there-stands : (c : CellValue) → StandsFor n numbers 1 clumps (c ∷ []) → number_there numbers c ≡ Some (pos n)
   there-stands c s =
       let e : (1 + s.place) - 1 ≡ s.place = omega arith in
       ap (number_there numbers) (ap first-cell s.cell)
@@ -231,23 +233,23 @@ module _ (j : Joining) (m numbers_map : Grid) (is : IsClumping j m numbers_map) 
 
   tests-there : (p : Position) →
       eq_by_cmp combination_cmp (Some (pos n) ∷ []) (cell_at_position (renumbered numbers numbers_map) p ∷ [])
-      ≡ stands_for n numbers 1 areas (cell_at_position numbers_map p ∷ [])
+      ≡ stands_for n numbers 1 clumps (cell_at_position numbers_map p ∷ [])
   tests-there p =
       let c = cell_at_position numbers_map p in
       let d = cell_at_position (renumbered numbers numbers_map) p in
       let same_there : d ≡ number_there numbers c = cell-renumbered numbers numbers_map p in
-      same-answer (eq_by_cmp combination_cmp (Some (pos n) ∷ []) (d ∷ [])) (stands_for n numbers 1 areas (c ∷ []))
-      (λ e. stands-from n numbers 1 areas (c ∷ []) some (stands-there c p refl
+      same-answer (eq_by_cmp combination_cmp (Some (pos n) ∷ []) (d ∷ [])) (stands_for n numbers 1 clumps (c ∷ []))
+      (λ e. stands-from n numbers 1 clumps (c ∷ []) some (stands-there c p refl
       (sym same_there ∙ sym (ap first-cell (equal-only (Some (pos n) ∷ []) (d ∷ []) e)))))
       (λ e. equal-itself (Some (pos n) ∷ []) (d ∷ []) (ap (λ (x : CellValue). x ∷ [])
-      (sym (same_there ∙ there-stands c (stands-only n numbers 1 areas (c ∷ []) e)))))
+      (sym (same_there ∙ there-stands c (stands-only n numbers 1 clumps (c ∷ []) e)))))
 
   -- a tile has as many cells with a number as its clumps with that number have
   pub tile-count : (rows cols : ℕ) →
-      count_of (Some (pos n) ∷ []) (cells_of (renumbered numbers numbers_map) rows cols)
-      ≡ size_of_area n numbers (sizes_of_areas areas numbers_map rows cols)
+      cell_count_of_combination (Some (pos n) ∷ []) (one_cell_combinations (renumbered numbers numbers_map) rows cols)
+      ≡ total_size_of_clump n numbers (sizes_of_numbered_clumps clumps numbers_map rows cols)
   tile-count rows cols =
       counts-same (renumbered numbers numbers_map ∷ []) (numbers_map ∷ []) (0 ∷ []) (0 ∷ [])
-      (eq_by_cmp combination_cmp (Some (pos n) ∷ [])) (stands_for n numbers 1 areas)
-      (λ row col. tests-there (position row col)) rows cols
-      ∙ count-stands n numbers 1 areas (cells_of numbers_map rows cols)
+      (eq_by_cmp combination_cmp (Some (pos n) ∷ [])) (stands_for n numbers 1 clumps)
+      (λ row col. tests-there (position_at_row_and_column row col)) rows cols
+      ∙ count-stands n numbers 1 clumps (one_cell_combinations numbers_map rows cols)

@@ -1,4 +1,4 @@
--- A map with one area made null keeps its other areas.
+-- A map with one clump made null keeps its other clumps.
 use Rattle.std.proofs.Common.{◌≡◌, ℤ, ◌≢◌, [], ◌∷◌, List, Some, None, IsSome, Bool, true, false, cond, ◌↔◌, refl, ap}
 use Rattle.std.proofs.Common.{sym, ◌∙◌}
 use Rattle.std.specs.Prelude.{All}
@@ -6,18 +6,18 @@ use Rattle.std.proofs.lemmas.List.Elements.{All-nil, All-cons, All-head, All-tai
 use Rattle.std.specs.Ordering.{eq_by_cmp}
 use Rattle.cell_core_values.specs.Cell.{cell_eq, cell_eq-Decides}
 use Rattle.cell_core.specs.Grid.{Grid, CellValue}
-use Rattle.cell_cats_areas.specs.declared.clump.Joining.{Joining}
-use Rattle.cell_cats_areas.specs.Areas.{Position, cell_at_position, LeadsTo, AreJoined, IsClumping}
-use Rattle.cell_cats_areas.proofs.PathLemmas.{AreJoined-adjacent}
+use Rattle.cell_clumps.specs.declared.clump.Joining.{Joining}
+use Rattle.cell_clumps.specs.Clumps.{Position, cell_at_position, IsPathFromTo, AreCellsConnected, IsClumpMapOf}
+use Rattle.cell_clumps.proofs.PathLemmas.{AreJoined-adjacent}
 use Rattle.cell_stats_combinations.specs.Combinations.{combination_cmp}
 use Rattle.cell_cats_law.proofs.CountLemmas.{counts-same}
-use Rattle.cell_cats_law.specs.AreaLaw.{IsWithout, OtherAreasStay}
-use Rattle.cell_cats_areas.proofs.MeetingLemmas.{some_of}
-use Rattle.cell_join_numbers.proofs.AreaLemmas.{is-some}
-use Rattle.cell_cats_law.proofs.AreaLemmas.{some-below, first-cell, tests-same}
+use Rattle.cell_cats_law.specs.ClumpSizeLaw.{IsMapWithoutClump, RemovingClumpKeepsOthers}
+use Rattle.cell_clumps.proofs.MeetingLemmas.{some_of}
+use Rattle.cell_join_numbers.proofs.ClumpCellLemmas.{is-some}
+use Rattle.cell_cats_law.proofs.ClumpCellLemmas.{some-below, first-cell, tests-same}
 
-module _ (j : Joining) (m numbers : Grid) (is : IsClumping j m numbers) (number : ℤ) (less : Grid)
-    (without : IsWithout m numbers number less) where
+module _ (j : Joining) (m numbers : Grid) (is : IsClumpMapOf j m numbers) (number : ℤ) (less : Grid)
+    (without : IsMapWithoutClump m numbers number less) where
   abbrev pub gone : Position → Bool
   gone p = cell_eq (cell_at_position numbers p) (Some number)
 
@@ -27,7 +27,7 @@ module _ (j : Joining) (m numbers : Grid) (is : IsClumping j m numbers) (number 
   gone-cell : (p : Position) → gone p ≡ true → cell_at_position less p ≡ None
   gone-cell p goes = without p ∙ ap (λ b. cond b None (cell_at_position m p)) goes
 
-  -- a cell that is not null afterwards is not in the removed area
+  -- a cell that is not null afterwards is not in the removed clump
   pub stays-some : (p : Position) (v : ℤ) → cell_at_position less p ≡ Some v → gone p ≡ false
   stays-some p v some = by (gone p) refl
     where
@@ -47,7 +47,7 @@ module _ (j : Joining) (m numbers : Grid) (is : IsClumping j m numbers) (number 
       (some-before p v (All-head (λ s. cell_at_position less s ≡ Some v) p ps all))
       (alike-before v ps (All-tail (λ s. cell_at_position less s ≡ Some v) p ps all))
 
-  pub joined-before : (p q : Position) → AreJoined j less p q → AreJoined j m p q
+  pub joined-before : (p q : Position) → AreCellsConnected j less p q → AreCellsConnected j m p q
   joined-before p q h = record {
     category = h.category;
     others = h.others;
@@ -56,7 +56,7 @@ module _ (j : Joining) (m numbers : Grid) (is : IsClumping j m numbers) (number 
   }
 
   -- a path of the original map that begins at a remaining cell uses only remaining cells
-  alike-after : (v : ℤ) (p : Position) (others : List Position) (q : Position) → LeadsTo j p others q →
+  alike-after : (v : ℤ) (p : Position) (others : List Position) (q : Position) → IsPathFromTo j p others q →
       gone p ≡ false → All (λ s. cell_at_position m s ≡ Some v) (p ∷ others) →
       All (λ s. cell_at_position less s ≡ Some v) (p ∷ others)
   alike-after v p [] q h stays alike =
@@ -73,7 +73,7 @@ module _ (j : Joining) (m numbers : Grid) (is : IsClumping j m numbers) (number 
       All-cons (λ s. cell_at_position less s ≡ Some v) p (x ∷ others) (kept-cell p stays ∙ here)
       (alike-after v x others q h.1 stays_too rest)
 
-  pub joined-after : (p q : Position) → gone p ≡ false → AreJoined j m p q → AreJoined j less p q
+  pub joined-after : (p q : Position) → gone p ≡ false → AreCellsConnected j m p q → AreCellsConnected j less p q
   joined-after p q stays h = record {
     category = h.category;
     others = h.others;
@@ -81,7 +81,7 @@ module _ (j : Joining) (m numbers : Grid) (is : IsClumping j m numbers) (number 
     alike = alike-after h.category p h.others q h.leads stays h.alike;
   }
 
-  module _ (renumbered : Grid) (is_less : IsClumping j less renumbered) where
+  module _ (renumbered : Grid) (is_less : IsClumpMapOf j less renumbered) where
     pub others-stay : (p q : Position) → IsSome (cell_at_position less p) → IsSome (cell_at_position less q) →
         (cell_at_position renumbered p ≡ cell_at_position renumbered q) ↔ (cell_at_position numbers p ≡ cell_at_position numbers q)
     others-stay p q some_p some_q =
@@ -94,6 +94,6 @@ module _ (j : Joining) (m numbers : Grid) (is : IsClumping j m numbers) (number 
               ((is.same p q was_p was_q).0 was)),
         )
 
-pub other-areas-stay : OtherAreasStay
-other-areas-stay j m numbers is number less renumbered without is_less =
+pub other-clumps-stay : RemovingClumpKeepsOthers
+other-clumps-stay j m numbers is number less renumbered without is_less =
     others-stay j m numbers is number less without renumbered is_less

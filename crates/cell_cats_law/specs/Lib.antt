@@ -2,7 +2,7 @@
 pub mod ExistsLaw
 pub mod PageLaw
 pub mod ReclassLaw
-pub mod AreaLaw
+pub mod ClumpSizeLaw
 pub mod CornerLaw
 pub mod PartLaw
 pub mod SizeLaw

@@ -7,38 +7,41 @@ use Rattle.cell_cats.specs.Reclass.{reclassed_map}
 use Rattle.cell_stats_combinations.specs.declared.skip.Skip.{Skip}
 use Rattle.cell_stats_combinations.specs.declared.skip.Skip.TheVariants.{Nothing}
 use Rattle.cell_stats_combinations.specs.Combinations.{Combination, combination_cmp, all_combinations}
-use Rattle.cell_stats_combinations.specs.LeftOut.{is_left_out}
-use Rattle.cell_stats_counts.specs.Counts.{count_of}
-use Rattle.cell_stats.specs.CategoryTables.{Pairs, IsTable}
+use Rattle.cell_stats_combinations.specs.LeftOut.{combination_is_left_out}
+use Rattle.cell_stats_counts.specs.Counts.{cell_count_of_combination}
+use Rattle.cell_stats.specs.CategoryTables.{CombinationsWithCounts, IsTable}
 
 -- null stays null; without a rule for `*`, a category that no rule lists becomes null
-abbrev pub UnnamedIsNull : Type 0
-UnnamedIsNull = (rules : List RuleValue)
+abbrev pub UnlistedCategoryBecomesNull : Type 0
+UnlistedCategoryBecomesNull = (rules : List RuleValue)
     → (new_category rules None ≡ None)
     × ((x : ℤ) → All (λ rule. lists x rule ≡ false) rules → All (λ rule. is_star_rule rule ≡ false) rules
     → new_category rules (Some x) ≡ None)
 
 -- the combination after its first cell was reclassified
-abbrev pub sent : List RuleValue → Combination → Combination
-sent rules [] = []
-sent rules (cell ∷ others) = new_category rules cell ∷ others
+abbrev pub combination_with_first_reclassed : List RuleValue → Combination → Combination
+combination_with_first_reclassed rules [] = []
+combination_with_first_reclassed rules (cell ∷ others) = new_category rules cell ∷ others
 
 -- the entries of a table whose combinations become `to` when reclassified
-abbrev pub sent_to : List RuleValue → Combination → Pairs → Pairs
-sent_to rules to table = filter (λ pair. eq_by_cmp combination_cmp to (sent rules pair.0)) table
+abbrev pub entries_reclassed_to_combination : List RuleValue → Combination → CombinationsWithCounts
+    → CombinationsWithCounts
+entries_reclassed_to_combination rules to table = filter (λ pair. eq_by_cmp combination_cmp to
+    (combination_with_first_reclassed rules pair.0)) table
 
 -- two maps in the list: an original map and its reclassified map
-pub record IsReclassed (rules : List RuleValue) (maps : List Grid) (old new : ℕ) : Type 0 where
+pub record AreMapAndReclassedMap (rules : List RuleValue) (maps : List Grid) (old new : ℕ) : Type 0 where
   pub given : Grid
   pub first : slice_get maps old ≡ Some given
   pub second : slice_get maps new ≡ Some (reclassed_map rules given)
 
 -- for any other maps, each count for the new map is the sum of the counts of the old combinations that are reclassified
 -- to the counted combination
-abbrev pub ReclassKeepsCells : Type 0
-ReclassKeepsCells = (rules : List RuleValue) (maps : List Grid) (old new : ℕ) → IsReclassed rules maps old new
-    → (others : List ℕ) (rows cols : ℕ) (skip : Skip) (table : Pairs)
+abbrev pub ReclassedCountsAreSums : Type 0
+ReclassedCountsAreSums = (rules : List RuleValue) (maps : List Grid) (old new : ℕ)
+    → AreMapAndReclassedMap rules maps old new
+    → (others : List ℕ) (rows cols : ℕ) (skip : Skip) (table : CombinationsWithCounts)
     → IsTable skip (all_combinations maps (old ∷ others) rows cols) table → (to : Combination)
-    → is_left_out skip to ≡ false
-    → count_of to (all_combinations maps (new ∷ others) rows cols)
-    ≡ sum_by (λ pair. pair.1) (sent_to rules to table)
+    → combination_is_left_out skip to ≡ false
+    → cell_count_of_combination to (all_combinations maps (new ∷ others) rows cols)
+    ≡ sum_by (λ pair. pair.1) (entries_reclassed_to_combination rules to table)

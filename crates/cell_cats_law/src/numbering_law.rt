@@ -1,8 +1,8 @@
 //! The law that clump maps exist.
 
-ghost use Rattle.cell_cats_law.specs.ExistsLaw.{ClumpingExists};
+ghost use Rattle.cell_cats_law.specs.ExistsLaw.{ClumpMapExists};
 
 /// Every filled map has a clump map by edges, and one by edges and corners.
-pub fn clumping_exists()
-    ensures { ClumpingExists }
+pub fn clump_map_exists()
+    ensures { ClumpMapExists }
 {}

@@ -6,8 +6,9 @@ use Rattle.std.proofs.lemmas.Simd.{leading_from_mask_l, trailing_mask_l}
 use Rattle.cell_core_values.specs.Cell.{cell_eq, cell_eq-Decides}
 use Rattle.cell_core.specs.Grid.{CellValue}
 use Rattle.cell_core.specs.Runs.{RunValue}
-use Rattle.cell_core.specs.parts.RowForms.{alike, runs_in, runs_from, marks, mark_bits, flag_bits}
-use Rattle.cell_core.proofs.RowLemmas.{runs_in-next}
+use Rattle.cell_core.specs.parts.RowForms.{alike, runs_of_cells, runs_continuing_first_run, run_start_marks}
+use Rattle.cell_core.specs.parts.RowForms.{run_start_mark_bits, bits_of_nonzero_bytes}
+use Rattle.cell_core.proofs.RowLemmas.{runs_of_cells-next}
 use Rattle.std.proofs.Math.Nat.{pow-succ', div-div-eq-div-mul}
 use Rattle.std.proofs.Math.Seq.{drop-cons, drop-append-add}
 use Rattle.std.proofs.lemmas.List.{drop-drop, drop-append-le, drop_all, take-append-drop, get_or-drop}
@@ -27,17 +28,19 @@ itself : (ms : List Bool) → map (λ m. m) ms ≡ ms
 itself [] = refl
 itself (m ∷ ms) = ap (λ (l : List Bool). m ∷ l) (itself ms)
 
-pub length-marks : (x : CellValue) (cells : List CellValue) → length (marks x cells) ≡ length cells
+pub length-marks : (x : CellValue) (cells : List CellValue) → length (run_start_marks x cells) ≡ length cells
 length-marks x [] = refl
 length-marks x (y ∷ cells) = ap suc (length-marks y cells)
 
 -- as many cells are alike as there are cells before the first mark
-marks-alike : (x : CellValue) (cells : List CellValue) → prefix_len (λ m. not m) (marks x cells) ≡ alike x cells
+marks-alike : (x : CellValue) (cells : List CellValue) → prefix_len (λ m. not m) (run_start_marks x cells)
+    ≡ alike x cells
 marks-alike x [] = refl
 marks-alike x (y ∷ cells) = by (cell_eq y x) refl (marks-alike y cells)
   where
-    by : (b : Bool) → cell_eq y x ≡ b → prefix_len (λ m. not m) (marks y cells) ≡ alike y cells
-        → cond (not (not b)) (1 + prefix_len (λ m. not m) (marks y cells)) 0 ≡ (if b then suc (alike x cells) else 0)
+    by : (b : Bool) → cell_eq y x ≡ b → prefix_len (λ m. not m) (run_start_marks y cells) ≡ alike y cells
+        → cond (not (not b)) (1 + prefix_len (λ m. not m) (run_start_marks y cells)) 0
+        ≡ (if b then suc (alike x cells) else 0)
     by true same others =
         let e : y ≡ x = (cell_eq-Decides y x).0 same in
         let one : 1 + alike x cells ≡ suc (alike x cells) = omega arith in
@@ -50,29 +53,30 @@ some_mark (true ∷ ms) some = omega arith
 some_mark (false ∷ ms) some = let rest : 0 < mask_l ms = omega arith in omega (arith, some_mark ms rest)
 
 module _ (x : CellValue) (cells : List CellValue) (few : length cells ≤ 64) where
-  short : length (marks x cells) ≤ 64
+  short : length (run_start_marks x cells) ≤ 64
   short = omega (arith, length-marks x cells)
 
-  pub no_mark : mark_bits x cells ≡ 0 → alike x cells ≡ length cells
+  pub no_mark : run_start_mark_bits x cells ≡ 0 → alike x cells ≡ length cells
   no_mark none =
-      sym (marks-alike x cells) ∙ leading_from_mask_l (λ (m : Bool). m) (marks x cells) (ap mask_l (itself (marks x cells)) ∙ none) ∙ length-marks x cells
+      sym (marks-alike x cells) ∙ leading_from_mask_l (λ (m : Bool). m) (run_start_marks x cells) (ap mask_l (itself (run_start_marks x cells)) ∙ none) ∙ length-marks x cells
 
-  some_bits : (mark_bits x cells ≡ 0 → ⊥) → 0 < mask_l (marks x cells)
+  some_bits : (run_start_mark_bits x cells ≡ 0 → ⊥) → 0 < mask_l (run_start_marks x cells)
   some_bits some = omega (arith, some)
 
-  pub first_mark : (mark_bits x cells ≡ 0 → ⊥) → count_trailing_zeros 64 (mark_bits x cells) ≡ alike x cells
+  pub first_mark : (run_start_mark_bits x cells ≡ 0 → ⊥) → count_trailing_zeros 64 (run_start_mark_bits x cells)
+      ≡ alike x cells
   first_mark some =
-      let same = itself (marks x cells) in
-      let set : 0 < mask_l (map (λ m. m) (marks x cells)) = omega (arith, some_bits some, ap mask_l same) in
-      ap (λ (k : ℕ). count_trailing_zeros 64 k) (sym (ap mask_l same)) ∙ trailing_mask_l (λ (m : Bool). m) 64 (marks x cells) short set ∙ marks-alike x cells
+      let same = itself (run_start_marks x cells) in
+      let set : 0 < mask_l (map (λ m. m) (run_start_marks x cells)) = omega (arith, some_bits some, ap mask_l same) in
+      ap (λ (k : ℕ). count_trailing_zeros 64 k) (sym (ap mask_l same)) ∙ trailing_mask_l (λ (m : Bool). m) 64 (run_start_marks x cells) short set ∙ marks-alike x cells
 
-  pub mark_within : (mark_bits x cells ≡ 0 → ⊥) → alike x cells < length cells
-  mark_within some = omega (arith, some_mark (marks x cells) (some_bits some), marks-alike x cells, length-marks x cells)
+  pub mark_within : (run_start_mark_bits x cells ≡ 0 → ⊥) → alike x cells < length cells
+  mark_within some = omega (arith, some_mark (run_start_marks x cells) (some_bits some), marks-alike x cells, length-marks x cells)
 
 -- the marks after a cell are the marks of the cells after it
-pub marks-drop : (x : CellValue) (cells : List CellValue) (j : ℕ) (y : CellValue) → j < length cells → y ≡ get_or cells j y → drop (suc j) (marks x cells) ≡ marks y (drop (suc j) cells)
+pub marks-drop : (x : CellValue) (cells : List CellValue) (j : ℕ) (y : CellValue) → j < length cells → y ≡ get_or cells j y → drop (suc j) (run_start_marks x cells) ≡ run_start_marks y (drop (suc j) cells)
 marks-drop x [] j y within read = absurd (omega arith)
-marks-drop x (c ∷ cells) zero y within read = ap (λ (z : CellValue). marks z cells) (sym read)
+marks-drop x (c ∷ cells) zero y within read = ap (λ (z : CellValue). run_start_marks z cells) (sym read)
 marks-drop x (c ∷ cells) (suc j) y within read = marks-drop c cells j y (omega arith) read
 
 half : (m : Bool) (k : ℕ) → (cond m 1 0 + 2 * k) / 2 ≡ k
@@ -118,59 +122,63 @@ alike-passed x (y ∷ rest) more e = by (cell_eq y x) (λ o. alike-passed x rest
     by false on e = absurd (omega (arith, e))
 
 -- the first cell begins the first run
-pub run_begins : (x : CellValue) (cells : List CellValue) → runs_in (x ∷ cells) ≡ runs_from (x, 1) cells
+pub run_begins : (x : CellValue) (cells : List CellValue) → runs_of_cells (x ∷ cells)
+    ≡ runs_continuing_first_run (x, 1) cells
 run_begins x cells =
     let one : suc (alike x cells) ≡ 1 + alike x cells = omega arith in
-    runs_in-next x cells ∙ ap (λ (k : ℕ). (x, k) ∷ runs_in (drop (alike x cells) cells)) one
+    runs_of_cells-next x cells ∙ ap (λ (k : ℕ). (x, k) ∷ runs_of_cells (drop (alike x cells) cells)) one
 
 -- a run that ends within the block, or continues after it
 module _ (x : CellValue) (count : ℕ) (rest more : List CellValue) where
   abbrev after : ℕ → List RunValue
-  after k = (x, count + k) ∷ runs_in (drop k (rest ++ more))
+  after k = (x, count + k) ∷ runs_of_cells (drop k (rest ++ more))
 
   pub run_ends : (j : ℕ) (y : CellValue) → alike x rest ≡ j → j < length rest → y ≡ get_or rest j y
-      → runs_from (x, count) (rest ++ more) ≡ (x, count + j) ∷ runs_from (y, 1) (drop (suc j) rest ++ more)
+      → runs_continuing_first_run (x, count) (rest ++ more) ≡ (x, count + j)
+      ∷ runs_continuing_first_run (y, 1) (drop (suc j) rest ++ more)
   run_ends j y e within read =
       let inside : j ≤ length rest = omega arith in
       ap after (alike-joined x rest more j e within)
-      ∙ ap (λ (l : List CellValue). (x, count + j) ∷ runs_in l) (drop-append-le j rest more inside ∙ ap (λ (l : List CellValue). l ++ more) (drop-cons rest j y within ∙ ap (λ (z : CellValue). z ∷ drop (suc j) rest) (sym read)))
+      ∙ ap (λ (l : List CellValue). (x, count + j) ∷ runs_of_cells l) (drop-append-le j rest more inside ∙ ap (λ (l : List CellValue). l ++ more) (drop-cons rest j y within ∙ ap (λ (z : CellValue). z ∷ drop (suc j) rest) (sym read)))
       ∙ ap (λ (l : List RunValue). (x, count + j) ∷ l) (run_begins y (drop (suc j) rest ++ more))
 
-  pub run_goes_on : alike x rest ≡ length rest → runs_from (x, count) (rest ++ more) ≡ runs_from (x, count + length rest) more
+  pub run_goes_on : alike x rest ≡ length rest → runs_continuing_first_run (x, count) (rest ++ more) ≡ runs_continuing_first_run (x, count + length rest) more
   run_goes_on e =
       let a = alike x more in
       let sum : count + (length rest + a) ≡ count + length rest + a = omega arith in
       ap after (alike-passed x rest more e)
-      ∙ ap (λ (l : List CellValue). (x, count + (length rest + a)) ∷ runs_in l) (drop-append-add rest more a)
-      ∙ ap (λ (k : ℕ). (x, k) ∷ runs_in (drop a more)) sum
+      ∙ ap (λ (l : List CellValue). (x, count + (length rest + a)) ∷ runs_of_cells l) (drop-append-add rest more a)
+      ∙ ap (λ (k : ℕ). (x, k) ∷ runs_of_cells (drop a more)) sum
 
 -- a run that ends before the next cell, or continues with it
 module _ (x : CellValue) (count : ℕ) (y : CellValue) (rest : List CellValue) where
   abbrev before : Bool → List RunValue
-  before b = let k : ℕ = if b then suc (alike x rest) else 0 in (x, count + k) ∷ runs_in (drop k (y ∷ rest))
+  before b = let k : ℕ = if b then suc (alike x rest) else 0 in (x, count + k) ∷ runs_of_cells (drop k (y ∷ rest))
 
-  pub cell_goes_on : cell_eq y x ≡ true → runs_from (x, count) (y ∷ rest) ≡ runs_from (x, count + 1) rest
-  cell_goes_on same = let sum : count + suc (alike x rest) ≡ count + 1 + alike x rest = omega arith in ap before same ∙ ap (λ (k : ℕ). (x, k) ∷ runs_in (drop (alike x rest) rest)) sum
+  pub cell_goes_on : cell_eq y x ≡ true → runs_continuing_first_run (x, count) (y ∷ rest)
+      ≡ runs_continuing_first_run (x, count + 1) rest
+  cell_goes_on same = let sum : count + suc (alike x rest) ≡ count + 1 + alike x rest = omega arith in ap before same ∙ ap (λ (k : ℕ). (x, k) ∷ runs_of_cells (drop (alike x rest) rest)) sum
 
-  pub cell_ends : cell_eq y x ≡ false → runs_from (x, count) (y ∷ rest) ≡ (x, count) ∷ runs_from (y, 1) rest
+  pub cell_ends : cell_eq y x ≡ false → runs_continuing_first_run (x, count) (y ∷ rest) ≡ (x, count)
+      ∷ runs_continuing_first_run (y, 1) rest
   cell_ends other =
       let sum : count + 0 ≡ count = omega arith in
-      ap before other ∙ ap (λ (k : ℕ). (x, k) ∷ runs_in (y ∷ rest)) sum ∙ ap (λ (l : List RunValue). (x, count) ∷ l) (run_begins y rest)
+      ap before other ∙ ap (λ (k : ℕ). (x, k) ∷ runs_of_cells (y ∷ rest)) sum ∙ ap (λ (l : List RunValue). (x, count) ∷ l) (run_begins y rest)
 
 pub next_cell : (cells : List CellValue) (i : ℕ) (y : CellValue) → i < length cells → y ≡ get_or cells i y → drop i cells ≡ y ∷ drop (i + 1) cells
 next_cell cells i y within read = rw add-one (drop-cons cells i y within ∙ ap (λ (z : CellValue). z ∷ drop (suc i) cells) (sym read))
 
 -- after 64 marks, the flags are the marks of all cells of the block
 pub all_marked : (flags : List ℕ) (block : List CellValue) (last cell : CellValue) (j : ℕ) → length flags ≡ 64 → length block ≡ 64 → 64 ≤ j
-    → take j flags ++ map flag (marks last (drop j block)) ≡ map flag (marks cell block) → flag_bits flags ≡ mark_bits cell block
+    → take j flags ++ map flag (run_start_marks last (drop j block)) ≡ map flag (run_start_marks cell block) → bits_of_nonzero_bytes flags ≡ run_start_mark_bits cell block
 all_marked flags block last cell j size long end marked =
     let whole : length flags ≤ j = omega arith in
     let over : length block ≤ j = omega arith in
-    let same : flags ≡ map flag (marks cell block) =
-    sym (append-nil flags) ∙ ap (λ (l : List ℕ). l ++ []) (sym (take_all j flags whole)) ∙ ap (λ (l : List CellValue). take j flags ++ map flag (marks last l)) (sym (drop_all j block over)) ∙ marked in
-    ap flag_bits same ∙ ap mask_l (flags-back (marks cell block))
+    let same : flags ≡ map flag (run_start_marks cell block) =
+    sym (append-nil flags) ∙ ap (λ (l : List ℕ). l ++ []) (sym (take_all j flags whole)) ∙ ap (λ (l : List CellValue). take j flags ++ map flag (run_start_marks last l)) (sym (drop_all j block over)) ∙ marked in
+    ap bits_of_nonzero_bytes same ∙ ap mask_l (flags-back (run_start_marks cell block))
 
-module _ (x : CellValue) (block : List CellValue) (at breaks : ℕ) (size : length block ≡ 64) (within : at ≤ 64) (bits : breaks ≡ mark_bits x (drop at block)) where
+module _ (x : CellValue) (block : List CellValue) (at breaks : ℕ) (size : length block ≡ 64) (within : at ≤ 64) (bits : breaks ≡ run_start_mark_bits x (drop at block)) where
   abbrev rest : List CellValue
   rest = drop at block
 
@@ -183,7 +191,7 @@ module _ (x : CellValue) (block : List CellValue) (at breaks : ℕ) (size : leng
   few : length rest ≤ 64
   few = omega (arith, left)
 
-  marked : (breaks ≡ 0 → ⊥) → mark_bits x rest ≡ 0 → ⊥
+  marked : (breaks ≡ 0 → ⊥) → run_start_mark_bits x rest ≡ 0 → ⊥
   marked some none = some (bits ∙ none)
 
   pub first-is : (breaks ≡ 0 → ⊥) → first ≡ alike x rest
@@ -205,23 +213,25 @@ module _ (x : CellValue) (block : List CellValue) (at breaks : ℕ) (size : leng
     next-rest : drop (suc first) rest ≡ drop (at + first + 1) block
     next-rest = let e : at + suc first ≡ at + first + 1 = omega arith in drop-drop (suc first) at block ∙ ap (λ (k : ℕ). drop k block) e
 
-    pub bits-next : breaks / 2 ^ first / 2 ≡ mark_bits y (drop (at + first + 1) block)
+    pub bits-next : breaks / 2 ^ first / 2 ≡ run_start_mark_bits y (drop (at + first + 1) block)
     bits-next =
-        ap (λ (k : ℕ). k / 2 ^ first / 2) bits ∙ mask-drop first (marks x rest) ∙ ap mask_l (marks-drop x rest first y inside read-rest ∙ ap (marks y) next-rest)
+        ap (λ (k : ℕ). k / 2 ^ first / 2) bits ∙ mask-drop first (run_start_marks x rest) ∙ ap mask_l (marks-drop x rest first y inside read-rest ∙ ap (run_start_marks y) next-rest)
 
-    pub runs-next : (count : ℕ) (runs pushed all : List RunValue) (more : List CellValue) → pushed ≡ runs ++ (x, count + first) ∷ [] → runs ++ runs_from (x, count) (rest ++ more) ≡ all
-        → pushed ++ runs_from (y, 1) (drop (at + first + 1) block ++ more) ≡ all
+    pub runs-next : (count : ℕ) (runs pushed all : List RunValue) (more : List CellValue) → pushed ≡ runs ++ (x, count + first) ∷ [] → runs ++ runs_continuing_first_run (x, count) (rest ++ more) ≡ all
+        → pushed ++ runs_continuing_first_run (y, 1) (drop (at + first + 1) block ++ more) ≡ all
     runs-next count runs pushed all more push whole =
-        ap (λ (l : List RunValue). l ++ runs_from (y, 1) (drop (at + first + 1) block ++ more)) push
-        ∙ append_assoc runs ((x, count + first) ∷ []) (runs_from (y, 1) (drop (at + first + 1) block ++ more))
-        ∙ ap (λ (l : List CellValue). runs ++ (x, count + first) ∷ runs_from (y, 1) (l ++ more)) (sym next-rest)
+        ap (λ (l : List RunValue). l ++ runs_continuing_first_run (y, 1) (drop (at + first + 1) block ++ more)) push
+        ∙ append_assoc runs ((x, count + first) ∷ []) (runs_continuing_first_run (y, 1) (drop (at + first + 1) block
+        ++ more))
+        ∙ ap (λ (l : List CellValue). runs ++ (x, count + first) ∷ runs_continuing_first_run (y, 1) (l ++ more))
+        (sym next-rest)
         ∙ ap (λ (l : List RunValue). runs ++ l) (sym (run_ends x count rest more first y (sym (first-is some)) inside read-rest))
         ∙ whole
 
-  pub runs-end : breaks ≡ 0 → (count : ℕ) (runs all : List RunValue) (more : List CellValue) → runs ++ runs_from (x, count) (rest ++ more) ≡ all
-      → runs ++ runs_from (x, count + (64 - at)) more ≡ all
+  pub runs-end : breaks ≡ 0 → (count : ℕ) (runs all : List RunValue) (more : List CellValue) → runs ++ runs_continuing_first_run (x, count) (rest ++ more) ≡ all
+      → runs ++ runs_continuing_first_run (x, count + (64 - at)) more ≡ all
   runs-end none count runs all more whole =
-      ap (λ (k : ℕ). runs ++ runs_from (x, count + k) more) (sym left)
+      ap (λ (k : ℕ). runs ++ runs_continuing_first_run (x, count + k) more) (sym left)
       ∙ ap (λ (l : List RunValue). runs ++ l) (sym (run_goes_on x count rest more (none-left none)))
       ∙ whole
 
@@ -232,16 +242,19 @@ block_after cells at =
     ap (λ (k : ℕ). take k (drop at cells) ++ drop (at + 64) cells) size ∙ ap (λ (l : List CellValue). take 64 (drop at cells) ++ l) (sym (drop-drop 64 at cells)) ∙ take-append-drop 64 (drop at cells)
 
 module _ (runs : List RunValue) (x : CellValue) (count : ℕ) (cells : List CellValue) (i : ℕ) (y : CellValue) (all : List RunValue) (within : i < length cells) (read : y ≡ get_or cells i y)
-    (whole : runs ++ runs_from (x, count) (drop i cells) ≡ all) where
-  pub last-same : cell_eq y x ≡ true → runs ++ runs_from (x, count + 1) (drop (i + 1) cells) ≡ all
+    (whole : runs ++ runs_continuing_first_run (x, count) (drop i cells) ≡ all) where
+  pub last-same : cell_eq y x ≡ true → runs ++ runs_continuing_first_run (x, count + 1) (drop (i + 1) cells) ≡ all
   last-same same =
       ap (λ (l : List RunValue). runs ++ l) (sym (cell_goes_on x count y (drop (i + 1) cells) same))
-      ∙ ap (λ (l : List CellValue). runs ++ runs_from (x, count) l) (sym (next_cell cells i y within read))
+      ∙ ap (λ (l : List CellValue). runs ++ runs_continuing_first_run (x, count) l)
+      (sym (next_cell cells i y within read))
       ∙ whole
 
-  pub last-other : cell_eq y x ≡ false → (runs ++ (x, count) ∷ []) ++ runs_from (y, 1) (drop (i + 1) cells) ≡ all
+  pub last-other : cell_eq y x ≡ false → (runs ++ (x, count) ∷ [])
+      ++ runs_continuing_first_run (y, 1) (drop (i + 1) cells) ≡ all
   last-other other =
-      append_assoc runs ((x, count) ∷ []) (runs_from (y, 1) (drop (i + 1) cells))
+      append_assoc runs ((x, count) ∷ []) (runs_continuing_first_run (y, 1) (drop (i + 1) cells))
       ∙ ap (λ (l : List RunValue). runs ++ l) (sym (cell_ends x count y (drop (i + 1) cells) other))
-      ∙ ap (λ (l : List CellValue). runs ++ runs_from (x, count) l) (sym (next_cell cells i y within read))
+      ∙ ap (λ (l : List CellValue). runs ++ runs_continuing_first_run (x, count) l)
+      (sym (next_cell cells i y within read))
       ∙ whole

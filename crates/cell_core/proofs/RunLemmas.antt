@@ -2,8 +2,8 @@
 use Rattle.std.proofs.Common.{◌≡◌, ℕ, List, [], ◌∷◌, ◌++◌, replicate, ap, ◌∙◌, append-nil}
 use Rattle.std.proofs.lemmas.List.Concat.{flat_map-append}
 use Rattle.cell_core.specs.Grid.{CellValue}
-use Rattle.cell_core.specs.Runs.{RunValue, written_out}
+use Rattle.cell_core.specs.Runs.{RunValue, cells_of_runs}
 
 -- writing out one more run appends its cells
-pub written_out-push : (runs : List RunValue) (x : CellValue) (n : ℕ) → written_out (runs ++ (x, n) ∷ []) ≡ written_out runs ++ replicate n x
-written_out-push runs x n = flat_map-append (λ (run : RunValue). replicate run.1 run.0) runs ((x, n) ∷ []) ∙ ap (λ l. written_out runs ++ l) (append-nil (replicate n x))
+pub cells_of_runs-push : (runs : List RunValue) (x : CellValue) (n : ℕ) → cells_of_runs (runs ++ (x, n) ∷ []) ≡ cells_of_runs runs ++ replicate n x
+cells_of_runs-push runs x n = flat_map-append (λ (run : RunValue). replicate run.1 run.0) runs ((x, n) ∷ []) ∙ ap (λ l. cells_of_runs runs ++ l) (append-nil (replicate n x))

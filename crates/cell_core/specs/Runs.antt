@@ -7,16 +7,16 @@ abbrev pub RunValue : Type 0
 RunValue = CellValue × ℕ
 
 -- the cells of runs, from left to right
-abbrev pub written_out : List RunValue → List CellValue
-written_out = flat_map (λ run. replicate run.1 run.0)
+abbrev pub cells_of_runs : List RunValue → List CellValue
+cells_of_runs = flat_map (λ run. replicate run.1 run.0)
 
 -- adjacent runs have different cells
-abbrev pub AreApart : List RunValue → Type 0
-AreApart [] = Unit {0}
-AreApart (a ∷ []) = Unit {0}
-AreApart (a ∷ b ∷ rest) = (a.0 ≢ b.0) × AreApart (b ∷ rest)
+abbrev pub AdjacentRunsDiffer : List RunValue → Type 0
+AdjacentRunsDiffer [] = Unit {0}
+AdjacentRunsDiffer (a ∷ []) = Unit {0}
+AdjacentRunsDiffer (a ∷ b ∷ rest) = (a.0 ≢ b.0) × AdjacentRunsDiffer (b ∷ rest)
 
 -- each run has at least one cell, and adjacent runs have different cells
-pub record AreRuns (runs : List RunValue) : Type 0 where
+pub record AreMaximalRuns (runs : List RunValue) : Type 0 where
   pub lengths : All (λ run. 0 < run.1) runs
-  pub apart : AreApart runs
+  pub apart : AdjacentRunsDiffer runs

@@ -3,14 +3,14 @@
 ghost use Rattle.std.specs.Prelude.{◌≡◌, ◌≢◌, ◌+◌, ◌<◌, ◌++◌, [], ◌∷◌, length, All, IfSome, OnOk, OnErr};
 ghost use Rattle.std.specs.Option.{option_map};
 ghost use Rattle.std.specs.FinMap.{get, insert};
-ghost use Rattle.cell_core_values.specs.Cell.{IsCell};
+ghost use Rattle.cell_core_values.specs.Cell.{IsNullOrCategory};
 ghost use Rattle.cell_core_values.specs.SmallCells.{cells_of_bytes};
-ghost use Rattle.cell_core.specs.Grid.{Grid, Draft, cell_at, row_at, IsFilled, IsDraft, AreCells, no_labels};
-ghost use Rattle.cell_core.specs.Runs.{AreRuns, written_out};
+ghost use Rattle.cell_core.specs.Grid.{Grid, UnfinishedMap, cell_at, row_at, RowsFillRegion, AreRowsOfUnfinishedMap, CellsAreNullOrCategories, empty_category_labels};
+ghost use Rattle.cell_core.specs.Runs.{AreMaximalRuns, cells_of_runs};
 
 use crate::map_rows::Rows;
 use crate::runs::Runs;
-use crate::stretches::Stretches;
+use crate::stretches::RunsOrCells;
 use cell_core_values::cell::Cell;
 use cell_core_values::memory::Memory;
 use cell_core_values::region::Region;
@@ -31,23 +31,23 @@ pub struct CellMap {
 impl Model for CellMap {
     ghost use Rattle.std.specs.Prelude.{map};
     ghost use Rattle.std.specs.FinMap.{from_entries};
-    ghost use Rattle.cell_core.specs.Grid.{Grid, IsFilled, AreCells};
-    ghost use Rattle.cell_core.specs.parts.GridCode.{grid_code};
+    ghost use Rattle.cell_core.specs.Grid.{Grid, RowsFillRegion, CellsAreNullOrCategories};
+    ghost use Rattle.cell_core.specs.parts.GridCode.{grid_encoding};
 
     ghost Value = { Grid };
 
-    ghost coded = { grid_code };
+    ghost coded = { grid_encoding };
 
     ghost view = { λ m. record { region = m.rows.region; rows = m.rows.rows; labels = from_entries (map (λ e. (e.0, e.1.items)) m.labels.entries) } };
 
-    ghost invariant = { λ m. IsFilled m.rows.region m.rows.rows × AreCells m.rows.rows };
+    ghost invariant = { λ m. RowsFillRegion m.rows.region m.rows.rows × CellsAreNullOrCategories m.rows.rows };
 }
 
 impl CellMap {
     /// Returns the region that the map covers.
     pub fn region(&self) -> Region
         ensures value { result ≡ self.now.region }
-        ensures filled { IsFilled self.now.region self.now.rows }
+        ensures filled { RowsFillRegion self.now.region self.now.rows }
     {
         self.rows.region()
     }
@@ -76,18 +76,18 @@ impl CellMap {
     /// Returns an iterator over the runs of a row, from left to right.
     pub fn runs(&self, row: u32) -> Runs<'_>
         requires row_in_range { row < self.now.region.rows }
-        ensures written { written_out result ≡ row_at self.now row }
-        ensures width { length (written_out result) ≡ self.now.region.cols }
-        ensures runs { AreRuns result }
+        ensures written { cells_of_runs result ≡ row_at self.now row }
+        ensures width { length (cells_of_runs result) ≡ self.now.region.cols }
+        ensures runs { AreMaximalRuns result }
     {
         self.rows.row(row).runs()
     }
 
     /// Returns an iterator over a row, from left to right, in its stored form: run by run, or cell by cell.
-    pub fn stretches(&self, row: u32) -> Stretches<'_>
+    pub fn stretches(&self, row: u32) -> RunsOrCells<'_>
         requires row_in_range { row < self.now.region.rows }
-        ensures written { written_out result ≡ row_at self.now row }
-        ensures width { length (written_out result) ≡ self.now.region.cols }
+        ensures written { cells_of_runs result ≡ row_at self.now row }
+        ensures width { length (cells_of_runs result) ≡ self.now.region.cols }
         ensures some { All (λ run. 0 < run.1) result }
     {
         self.rows.row(row).stretches()
@@ -112,8 +112,8 @@ impl CellMap {
 
     /// Provides the fact that each cell is null or a category, and does nothing at run time. It is a separate call so
     /// that only laws that need the fact carry it.
-    pub fn cells_are_in_range(&self)
-        ensures { AreCells self.now.rows }
+    pub fn prove_cells_are_in_range(&self)
+        ensures { CellsAreNullOrCategories self.now.rows }
     {
         // Reading the field lets the proof use the invariant of the rows.
         let _ = &self.rows;
@@ -155,9 +155,9 @@ pub struct MapBuilder {
 }
 
 impl Model for MapBuilder {
-    ghost use Rattle.cell_core.specs.Grid.{Draft};
+    ghost use Rattle.cell_core.specs.Grid.{UnfinishedMap};
 
-    ghost Value = { Draft };
+    ghost Value = { UnfinishedMap };
 
     ghost view = { λ m. m.rows };
 }
@@ -176,7 +176,7 @@ impl MapBuilder {
     /// Returns the number of rows still to be pushed.
     pub fn rows_left(&self) -> u32
         ensures count { result + length self.now.rows ≡ self.now.region.rows }
-        ensures draft { IsDraft self.now.region self.now.rows }
+        ensures draft { AreRowsOfUnfinishedMap self.now.region self.now.rows }
     {
         self.rows.region().rows() - self.rows.len()
     }
@@ -201,14 +201,14 @@ impl MapBuilder {
     /// # Errors
     ///
     /// [`Memory`] if memory for the row runs out; the builder is then unchanged.
-    pub fn push_bytes(&mut self, bytes: &[u8]) -> Result<(), Memory>
+    pub fn push_row_of_bytes(&mut self, bytes: &[u8]) -> Result<(), Memory>
         requires width { length bytes.now ≡ self.old.region.cols }
         requires room { length self.old.rows < self.old.region.rows }
         ensures ok { OnOk result
             (self.new ≡ record self.old { rows = self.old.rows ++ cells_of_bytes bytes.now ∷ [] }) }
         ensures err { OnErr result (self.new ≡ self.old) }
     {
-        self.rows.push_bytes(bytes)
+        self.rows.push_row_of_bytes(bytes)
     }
 
     /// Appends a row given as runs at the bottom, like [`MapBuilder::push_row`]. The row is stored as these runs, which
@@ -217,21 +217,25 @@ impl MapBuilder {
     /// # Errors
     ///
     /// [`Memory`] if memory for the row runs out; the builder is then unchanged.
-    pub fn push_runs(&mut self, runs: &[(Cell, u32)]) -> Result<(), Memory>
-        requires runs { AreRuns runs.now }
-        requires width { length (written_out runs.now) ≡ self.old.region.cols }
+    pub fn push_row_of_runs(&mut self, runs: &[(Cell, u32)]) -> Result<(), Memory>
+        requires runs { AreMaximalRuns runs.now }
+        requires width { length (cells_of_runs runs.now) ≡ self.old.region.cols }
         requires room { length self.old.rows < self.old.region.rows }
         ensures ok { OnOk result
-            (self.new ≡ record self.old { rows = self.old.rows ++ written_out runs.now ∷ [] }) }
+            (self.new ≡ record self.old { rows = self.old.rows ++ cells_of_runs runs.now ∷ [] }) }
         ensures err { OnErr result (self.new ≡ self.old) }
     {
-        self.rows.push_runs(runs)
+        self.rows.push_row_of_runs(runs)
     }
 
     /// Returns the map of the pushed rows, without labels. All rows must have been pushed.
     pub fn finish(self) -> CellMap
         requires { length self.rows ≡ self.region.rows }
-        ensures { result ≡ record { region = self.region; rows = self.rows; labels = no_labels } }
+        ensures { result ≡ record {
+          region = self.region;
+          rows = self.rows;
+          labels = empty_category_labels;
+        } }
     {
         let MapBuilder { alloc, rows } = self;
         CellMap {

@@ -2,8 +2,8 @@
 
 ghost use Rattle.std.specs.Prelude.{◌≡◌, ◌<◌, ◌++◌, [], ◌∷◌, length, OnOk, OnErr, slice_index_or};
 ghost use Rattle.cell_core_values.specs.SmallCells.{cells_of_bytes};
-ghost use Rattle.cell_core.specs.Grid.{IsDraft, AreCells};
-ghost use Rattle.cell_core.specs.Runs.{AreRuns, written_out};
+ghost use Rattle.cell_core.specs.Grid.{AreRowsOfUnfinishedMap, CellsAreNullOrCategories};
+ghost use Rattle.cell_core.specs.Runs.{AreMaximalRuns, cells_of_runs};
 
 use crate::row::Row;
 use crate::row_view::RowView;
@@ -22,14 +22,14 @@ pub(crate) struct Rows {
 }
 
 impl Model for Rows {
-    ghost use Rattle.cell_core.specs.Grid.{Draft};
-    ghost use Rattle.cell_core.specs.parts.MapRows.{IsFull};
+    ghost use Rattle.cell_core.specs.Grid.{UnfinishedMap};
+    ghost use Rattle.cell_core.specs.parts.MapRows.{RowsFillValidRegion};
 
-    ghost Value = { Draft };
+    ghost Value = { UnfinishedMap };
 
     ghost view = { λ m. record { region = m.region; rows = m.kept.items } };
 
-    ghost invariant = { λ m. IsFull m.region m.kept.items };
+    ghost invariant = { λ m. RowsFillValidRegion m.region m.kept.items };
 }
 
 impl Rows {
@@ -53,8 +53,8 @@ impl Rows {
     // Returns the number of rows.
     pub(crate) fn len(&self) -> u32
         ensures count { result ≡ length self.now.rows }
-        ensures draft { IsDraft self.now.region self.now.rows }
-        ensures cells { AreCells self.now.rows }
+        ensures draft { AreRowsOfUnfinishedMap self.now.region self.now.rows }
+        ensures cells { CellsAreNullOrCategories self.now.rows }
     {
         self.kept.len() as u32
     }
@@ -80,7 +80,7 @@ impl Rows {
     }
 
     // Appends a row given as bytes at the bottom.
-    pub(crate) fn push_bytes(&mut self, row: &[u8]) -> Result<(), Memory>
+    pub(crate) fn push_row_of_bytes(&mut self, row: &[u8]) -> Result<(), Memory>
         requires width { length row.now ≡ self.old.region.cols }
         requires room { length self.old.rows < self.old.region.rows }
         ensures ok { OnOk result
@@ -92,12 +92,12 @@ impl Rows {
     }
 
     // Appends the row that the runs encode.
-    pub(crate) fn push_runs(&mut self, runs: &[(Cell, u32)]) -> Result<(), Memory>
-        requires runs { AreRuns runs.now }
-        requires width { length (written_out runs.now) ≡ self.old.region.cols }
+    pub(crate) fn push_row_of_runs(&mut self, runs: &[(Cell, u32)]) -> Result<(), Memory>
+        requires runs { AreMaximalRuns runs.now }
+        requires width { length (cells_of_runs runs.now) ≡ self.old.region.cols }
         requires room { length self.old.rows < self.old.region.rows }
         ensures ok { OnOk result
-            (self.new ≡ record self.old { rows = self.old.rows ++ written_out runs.now ∷ [] }) }
+            (self.new ≡ record self.old { rows = self.old.rows ++ cells_of_runs runs.now ∷ [] }) }
         ensures err { OnErr result (self.new ≡ self.old) }
     {
         self.kept.push(Row::of_runs(self.alloc, runs)?)?;

@@ -1,7 +1,7 @@
 //! Prints cells.
 
 ghost use Rattle.std.specs.Prelude.{[]};
-ghost use Rattle.cell_core_devices.specs.Blocks.{Appends};
+ghost use Rattle.cell_core_devices.specs.Blocks.{IsTextAppendedThroughBlock};
 ghost use Rattle.cell_core.specs.Text.{cell_text};
 
 use cell_core_devices::block::OutputBlock;
@@ -11,7 +11,8 @@ use itoa::Buffer;
 
 /// Writes a cell: its category in decimal, or the null text. Does not allocate.
 pub fn write_cell<W: Sink>(out: &mut W, block: &mut OutputBlock, cell: Cell, null_text: &[u8])
-    ensures { Appends W.taken W.faults out.old block.old (cell_text null_text.now cell)
+    ensures { IsTextAppendedThroughBlock W.taken W.faults out.old block.old
+        (cell_text null_text.now cell)
         out.new block.new }
 {
     match cell.get() {

@@ -1,24 +1,24 @@
 //! Stores a row of a map.
 
 ghost use Rattle.std.specs.Prelude.{◌≡◌, ◌<◌, ◌^◌, length, All, IfOk};
-ghost use Rattle.cell_core_values.specs.Cell.{IsCell};
+ghost use Rattle.cell_core_values.specs.Cell.{IsNullOrCategory};
 ghost use Rattle.cell_core_values.specs.SmallCells.{cells_of_bytes};
-ghost use Rattle.cell_core.specs.Runs.{AreRuns, written_out};
+ghost use Rattle.cell_core.specs.Runs.{AreMaximalRuns, cells_of_runs};
 
 use crate::byte_runs::{number_of_byte_runs, runs_of_bytes};
 use crate::row_view::RowView;
-use crate::runs::{category_of, number_of_runs, runs_of};
+use crate::runs::{category_of_cell, number_of_runs, runs_of_row};
 use cell_core_values::cell::Cell;
 use cell_core_values::memory::Memory;
-use cell_core_values::small_cells::{are_small, bytes_of};
+use cell_core_values::small_cells::{bytes_of_cells, cells_fit_in_bytes};
 use std::alloc::Global;
 use std::marker::Model;
 
 // A run takes as much memory as this many cells.
-const CELLS_A_RUN: usize = 2;
+const RUN_SIZE_IN_CELLS: usize = 2;
 
 // A run takes as much memory as this many cells stored as bytes.
-const BYTES_A_RUN: usize = 8;
+const RUN_SIZE_IN_BYTES: usize = 8;
 
 /// A row of cells, stored in its smallest form.
 #[derive(Debug, Drop)]
@@ -39,13 +39,13 @@ enum RowForm {
 impl Model for Row {
     ghost use Rattle.std.specs.Prelude.{List};
     ghost use Rattle.cell_core.specs.Grid.{CellValue};
-    ghost use Rattle.cell_core.specs.parts.RowForms.{cells_of_row, IsKept};
+    ghost use Rattle.cell_core.specs.parts.RowForms.{cells_of_stored_row, IsValidStoredRow};
 
     ghost Value = { List CellValue };
 
-    ghost view = { λ row. cells_of_row row.kept };
+    ghost view = { λ row. cells_of_stored_row row.kept };
 
-    ghost invariant = { λ row. IsKept row.kept };
+    ghost invariant = { λ row. IsValidStoredRow row.kept };
 }
 
 impl Row {
@@ -53,14 +53,14 @@ impl Row {
     pub(crate) fn of(alloc: Global, cells: &[Cell]) -> Result<Row, Memory>
         requires { length cells.now < 2 ^ 32 }
         ensures value { IfOk result (λ row. row ≡ cells.now) }
-        ensures cells { IfOk result (λ row. All IsCell row) }
+        ensures cells { IfOk result (λ row. All IsNullOrCategory row) }
     {
         let count = number_of_runs(cells);
-        let are_short = count > cells.len() / BYTES_A_RUN;
-        let kept = if are_short && are_small(cells) {
-            RowForm::Bytes(bytes_of(alloc, cells)?)
-        } else if count <= cells.len() / CELLS_A_RUN {
-            RowForm::Runs(runs_of(alloc, cells, count)?)
+        let are_short = count > cells.len() / RUN_SIZE_IN_BYTES;
+        let kept = if are_short && cells_fit_in_bytes(cells) {
+            RowForm::Bytes(bytes_of_cells(alloc, cells)?)
+        } else if count <= cells.len() / RUN_SIZE_IN_CELLS {
+            RowForm::Runs(runs_of_row(alloc, cells, count)?)
         } else {
             RowForm::Cells(Vec::from_slice(alloc, cells)?)
         };
@@ -71,10 +71,10 @@ impl Row {
     pub(crate) fn of_bytes(alloc: Global, bytes: &[u8]) -> Result<Row, Memory>
         requires { length bytes.now < 2 ^ 32 }
         ensures value { IfOk result (λ row. row ≡ cells_of_bytes bytes.now) }
-        ensures cells { IfOk result (λ row. All IsCell row) }
+        ensures cells { IfOk result (λ row. All IsNullOrCategory row) }
     {
         let count = number_of_byte_runs(bytes);
-        let kept = if count <= bytes.len() / BYTES_A_RUN {
+        let kept = if count <= bytes.len() / RUN_SIZE_IN_BYTES {
             RowForm::Runs(runs_of_bytes(alloc, bytes, count)?)
         } else {
             RowForm::Bytes(Vec::from_slice(alloc, bytes)?)
@@ -84,13 +84,13 @@ impl Row {
 
     // Stores a row given as runs. Allocates at most once.
     pub(crate) fn of_runs(alloc: Global, runs: &[(Cell, u32)]) -> Result<Row, Memory>
-        requires { AreRuns runs.now }
-        ensures value { IfOk result (λ row. row ≡ written_out runs.now) }
-        ensures cells { IfOk result (λ row. All IsCell row) }
+        requires { AreMaximalRuns runs.now }
+        ensures value { IfOk result (λ row. row ≡ cells_of_runs runs.now) }
+        ensures cells { IfOk result (λ row. All IsNullOrCategory row) }
     {
         for run in runs {
             // Reading each category lets the proof use its range.
-            let _ = category_of(run.0);
+            let _ = category_of_cell(run.0);
         }
         let kept = Vec::from_slice(alloc, runs)?;
         Ok(Row {

@@ -2,22 +2,22 @@
 
 ghost use Rattle.std.specs.Prelude.{◌≡◌, ◌<◌, ◌^◌, length, All, None, IfSome, slice_index_or};
 ghost use Rattle.cell_core_values.specs.SmallCells.{cells_of_bytes};
-ghost use Rattle.cell_core.specs.Runs.{AreRuns, written_out};
+ghost use Rattle.cell_core.specs.Runs.{AreMaximalRuns, cells_of_runs};
 
-use crate::runs::{Runs, cell_of_runs, write_out};
-use crate::stretches::Stretches;
+use crate::runs::{Runs, cell_at_column_of_runs, write_cells_of_runs};
+use crate::stretches::RunsOrCells;
 use cell_core_values::cell::Cell;
-use cell_core_values::small_cells::{cell_of_byte, write_byte_cells};
+use cell_core_values::small_cells::{cell_of_byte, write_bytes_as_cells};
 use std::marker::Model;
 
 /// A view of a row in its stored form.
 #[derive(Drop)]
 pub(crate) struct RowView<'a> {
-    form: ViewForm<'a>,
+    form: RowViewForm<'a>,
 }
 
 #[derive(Drop)]
-enum ViewForm<'a> {
+enum RowViewForm<'a> {
     Runs(&'a [(Cell, u32)]),
     Bytes(&'a [u8]),
     Cells(&'a [Cell]),
@@ -26,23 +26,23 @@ enum ViewForm<'a> {
 impl<'a> Model for RowView<'a> {
     ghost use Rattle.std.specs.Prelude.{List};
     ghost use Rattle.cell_core.specs.Grid.{CellValue};
-    ghost use Rattle.cell_core.specs.parts.RowForms.{cells_of_view, IsSeen};
+    ghost use Rattle.cell_core.specs.parts.RowForms.{cells_of_view, IsValidRowView};
 
     ghost Value = { List CellValue };
 
     ghost view = { λ row. cells_of_view row.form };
 
-    ghost invariant = { λ row. IsSeen row.form };
+    ghost invariant = { λ row. IsValidRowView row.form };
 }
 
 impl<'a> RowView<'a> {
     // Returns a view of a row given as runs.
     pub(crate) fn of_runs(runs: &'a [(Cell, u32)]) -> RowView<'a>
-        requires { AreRuns runs.now }
-        ensures { result ≡ written_out runs.now }
+        requires { AreMaximalRuns runs.now }
+        ensures { result ≡ cells_of_runs runs.now }
     {
         RowView {
-            form: ViewForm::Runs(runs),
+            form: RowViewForm::Runs(runs),
         }
     }
 
@@ -52,7 +52,7 @@ impl<'a> RowView<'a> {
         ensures { result ≡ cells_of_bytes bytes.now }
     {
         RowView {
-            form: ViewForm::Bytes(bytes),
+            form: RowViewForm::Bytes(bytes),
         }
     }
 
@@ -62,7 +62,7 @@ impl<'a> RowView<'a> {
         ensures { result ≡ cells.now }
     {
         RowView {
-            form: ViewForm::Cells(cells),
+            form: RowViewForm::Cells(cells),
         }
     }
 
@@ -71,12 +71,12 @@ impl<'a> RowView<'a> {
         ensures { result ≡ slice_index_or self.entry col None }
     {
         match self.form {
-            ViewForm::Runs(runs) => cell_of_runs(runs, col),
-            ViewForm::Bytes(bytes) => match bytes.get(col as usize) {
+            RowViewForm::Runs(runs) => cell_at_column_of_runs(runs, col),
+            RowViewForm::Bytes(bytes) => match bytes.get(col as usize) {
                 Some(byte) => cell_of_byte(*byte),
                 None => Cell::null(),
             },
-            ViewForm::Cells(cells) => match cells.get(col as usize) {
+            RowViewForm::Cells(cells) => match cells.get(col as usize) {
                 Some(cell) => *cell,
                 None => Cell::null(),
             },
@@ -89,21 +89,21 @@ impl<'a> RowView<'a> {
         ensures { cells.new ≡ self.entry }
     {
         match self.form {
-            ViewForm::Runs(runs) => write_out(runs, cells),
-            ViewForm::Bytes(bytes) => write_byte_cells(bytes, cells),
-            ViewForm::Cells(kept) => cells.copy_from_slice(kept),
+            RowViewForm::Runs(runs) => write_cells_of_runs(runs, cells),
+            RowViewForm::Bytes(bytes) => write_bytes_as_cells(bytes, cells),
+            RowViewForm::Cells(kept) => cells.copy_from_slice(kept),
         }
     }
 
     // Returns an iterator over the runs, from left to right.
     pub(crate) fn runs(self) -> Runs<'a>
-        ensures written { written_out result ≡ self.entry }
-        ensures runs { AreRuns result }
+        ensures written { cells_of_runs result ≡ self.entry }
+        ensures runs { AreMaximalRuns result }
     {
         match self.form {
-            ViewForm::Runs(runs) => Runs::over(runs),
-            ViewForm::Bytes(bytes) => Runs::of_bytes(bytes),
-            ViewForm::Cells(cells) => Runs::of_cells(cells),
+            RowViewForm::Runs(runs) => Runs::over(runs),
+            RowViewForm::Bytes(bytes) => Runs::of_bytes(bytes),
+            RowViewForm::Cells(cells) => Runs::of_cells(cells),
         }
     }
 
@@ -112,7 +112,7 @@ impl<'a> RowView<'a> {
         ensures { IfSome result (λ bytes. cells_of_bytes bytes.now ≡ self.entry) }
     {
         match self.form {
-            ViewForm::Bytes(bytes) => Some(bytes),
+            RowViewForm::Bytes(bytes) => Some(bytes),
             _ => None,
         }
     }
@@ -122,20 +122,20 @@ impl<'a> RowView<'a> {
         ensures { IfSome result (λ cells. cells.now ≡ self.entry) }
     {
         match self.form {
-            ViewForm::Cells(cells) => Some(cells),
+            RowViewForm::Cells(cells) => Some(cells),
             _ => None,
         }
     }
 
     // Returns an iterator over the stretches, from left to right.
-    pub(crate) fn stretches(self) -> Stretches<'a>
-        ensures written { written_out result ≡ self.entry }
+    pub(crate) fn stretches(self) -> RunsOrCells<'a>
+        ensures written { cells_of_runs result ≡ self.entry }
         ensures some { All (λ run. 0 < run.1) result }
     {
         match self.form {
-            ViewForm::Runs(runs) => Stretches::of_runs(runs),
-            ViewForm::Bytes(bytes) => Stretches::of_bytes(bytes),
-            ViewForm::Cells(cells) => Stretches::of_cells(cells),
+            RowViewForm::Runs(runs) => RunsOrCells::of_runs(runs),
+            RowViewForm::Bytes(bytes) => RunsOrCells::of_bytes(bytes),
+            RowViewForm::Cells(cells) => RunsOrCells::of_cells(cells),
         }
     }
 }

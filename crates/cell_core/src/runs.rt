@@ -2,13 +2,13 @@
 
 ghost use Rattle.std.specs.Prelude.{◌≡◌, ◌<◌, ◌≤◌, ◌+◌, ◌-◌, ◌++◌, ◌^◌, List, length, take, drop, replicate, All, None, IfOk, OnOk, slice_index_or};
 ghost use Rattle.std.specs.Iterator.{YieldsFirst, item_count};
-ghost use Rattle.cell_core_values.specs.Cell.{IsCell};
+ghost use Rattle.cell_core_values.specs.Cell.{IsNullOrCategory};
 ghost use Rattle.cell_core.specs.Grid.{CellValue};
-ghost use Rattle.cell_core.specs.Runs.{RunValue, AreRuns, written_out};
-ghost use Rattle.cell_core.specs.parts.RowForms.{alike, runs_in, runs_from, flag_bits, mark_bits};
+ghost use Rattle.cell_core.specs.Runs.{RunValue, AreMaximalRuns, cells_of_runs};
+ghost use Rattle.cell_core.specs.parts.RowForms.{alike, runs_of_cells, runs_continuing_first_run, bits_of_nonzero_bytes, run_start_mark_bits};
 ghost use Rattle.cell_core_values.specs.SmallCells.{cells_of_bytes};
 
-use crate::byte_runs::{count_alike_bytes, number_of_byte_runs};
+use crate::byte_runs::{count_leading_bytes_of_cell, number_of_byte_runs};
 use cell_core_values::cell::Cell;
 use cell_core_values::memory::Memory;
 use cell_core_values::small_cells::cell_of_byte;
@@ -17,12 +17,12 @@ use std::marker::Model;
 use std::simd::prelude::*;
 
 // Number of cells compared at a time.
-pub(crate) const BLOCK: usize = 64;
+pub(crate) const CELLS_COMPARED_AT_A_TIME: usize = 64;
 
 // Returns the category of a cell, or `None` for null. The contract states that a cell is null or a category.
-pub(crate) fn category_of(cell: Cell) -> Option<i32>
+pub(crate) fn category_of_cell(cell: Cell) -> Option<i32>
     ensures value { result ≡ cell }
-    ensures cell { IsCell cell }
+    ensures cell { IsNullOrCategory cell }
 {
     cell.get()
 }
@@ -30,8 +30,8 @@ pub(crate) fn category_of(cell: Cell) -> Option<i32>
 // Returns the number of runs in a row. The contract also states that its cells are null or categories.
 pub(crate) fn number_of_runs(row: &[Cell]) -> usize
     requires { length row.now < 2 ^ 32 }
-    ensures count { result ≡ length (runs_in row.now) }
-    ensures cells { All IsCell row.now }
+    ensures count { result ≡ length (runs_of_cells row.now) }
+    ensures cells { All IsNullOrCategory row.now }
 {
     if row.is_empty() {
         return 0;
@@ -42,7 +42,7 @@ pub(crate) fn number_of_runs(row: &[Cell]) -> usize
     let mut last = row[0];
     for cell in row {
         // Reading each category lets the proof use its range. The count only compares cells, several at a time.
-        let _ = category_of(*cell);
+        let _ = category_of_cell(*cell);
         if *cell == last {
             alike = alike.wrapping_add(1);
         }
@@ -53,9 +53,9 @@ pub(crate) fn number_of_runs(row: &[Cell]) -> usize
 
 // Returns a mask of the bytes that are not 0.
 #[inline(always)]
-fn set_bits(flags: &[u8]) -> u64
+fn mask_of_nonzero_bytes(flags: &[u8]) -> u64
     requires { length flags.now ≡ 64 }
-    ensures { result ≡ flag_bits flags.now }
+    ensures { result ≡ bits_of_nonzero_bytes flags.now }
 {
     u8x64::from_slice(flags)
         .simd_ne(u8x64::splat(0))
@@ -64,23 +64,23 @@ fn set_bits(flags: &[u8]) -> u64
 
 // Marks which cells of a block differ from the previous cell, which is `cell` for the first. Bit k is for index k.
 #[inline(always)]
-fn breaks_in(cell: Cell, block: &[Cell]) -> u64
+fn run_start_bits_in_block(cell: Cell, block: &[Cell]) -> u64
     requires { length block.now ≡ 64 }
-    ensures { result ≡ mark_bits cell block.now }
+    ensures { result ≡ run_start_mark_bits cell block.now }
 {
     // One byte per flag lets a vector compare several cells at a time.
     let mut flags = [0u8; 64];
     let mut last = cell;
-    for j in 0..BLOCK {
+    for j in 0..CELLS_COMPARED_AT_A_TIME {
         let next = block[j];
         flags[j] = (next != last) as u8;
         last = next;
     }
-    set_bits(&flags)
+    mask_of_nonzero_bytes(&flags)
 }
 
 // Pushes the runs that end in a block. The first of them may have begun earlier. Returns the run that continues.
-fn push_block(
+fn push_runs_ending_in_block(
     runs: &mut Vec<(Cell, u32)>,
     run: (Cell, u32),
     block: &[Cell],
@@ -88,14 +88,14 @@ fn push_block(
     requires size { length block.now ≡ 64 }
     requires room { run.1 + 64 < 2 ^ 32 }
     ensures runs { IfOk result (λ last. (more : List CellValue)
-        → runs.new.items ++ runs_from last more
-        ≡ runs.old.items ++ runs_from run (block.now ++ more)) }
+        → runs.new.items ++ runs_continuing_first_run last more
+        ≡ runs.old.items ++ runs_continuing_first_run run (block.now ++ more)) }
     ensures count { IfOk result (λ last. last.1 ≤ run.1 + 64) }
 {
     let mut cell = run.0;
     let mut count = run.1;
     let mut at = 0;
-    let mut breaks = breaks_in(run.0, block);
+    let mut breaks = run_start_bits_in_block(run.0, block);
     'breaks: while breaks != 0 {
         let alike = breaks.trailing_zeros();
         runs.push((cell, count + alike))?;
@@ -105,17 +105,18 @@ fn push_block(
         at += 1;
         breaks = (breaks >> alike) >> 1;
     }
-    Ok((cell, count + (BLOCK - at) as u32))
+    Ok((cell, count + (CELLS_COMPARED_AT_A_TIME - at) as u32))
 }
 
 // Pushes the runs of the last cells of a row. The first of them may have begun earlier.
-pub(crate) fn push_last(
+pub(crate) fn push_runs_of_last_cells(
     runs: &mut Vec<(Cell, u32)>,
     run: (Cell, u32),
     cells: &[Cell],
 ) -> Result<(), Memory>
     requires { run.1 + length cells.now < 2 ^ 32 }
-    ensures { OnOk result (runs.new.items ≡ runs.old.items ++ runs_from run cells.now) }
+    ensures { OnOk result (runs.new.items ≡ runs.old.items
+        ++ runs_continuing_first_run run cells.now) }
 {
     let mut cell = run.0;
     let mut count = run.1;
@@ -133,31 +134,35 @@ pub(crate) fn push_last(
 }
 
 // Returns the runs of a row, of which there are `count_of_runs`. Allocates once.
-pub(crate) fn runs_of(
+pub(crate) fn runs_of_row(
     alloc: Global,
     row: &[Cell],
     count_of_runs: usize,
 ) -> Result<Vec<(Cell, u32)>, Memory>
     requires { length row.now < 2 ^ 32 }
-    ensures written { IfOk result (λ runs. written_out runs.items ≡ row.now) }
-    ensures runs { IfOk result (λ runs. AreRuns runs.items) }
+    ensures written { IfOk result (λ runs. cells_of_runs runs.items ≡ row.now) }
+    ensures runs { IfOk result (λ runs. AreMaximalRuns runs.items) }
 {
     let mut runs = Vec::with_capacity(alloc, count_of_runs)?;
     if let Some((first, others)) = row.split_first() {
         let mut run = (*first, 1);
         let mut at = 0;
-        'parts: while others.len() - at >= BLOCK {
-            run = push_block(&mut runs, run, &others[at..at + BLOCK])?;
-            at += BLOCK;
+        'parts: while others.len() - at >= CELLS_COMPARED_AT_A_TIME {
+            run = push_runs_ending_in_block(
+                &mut runs,
+                run,
+                &others[at..at + CELLS_COMPARED_AT_A_TIME],
+            )?;
+            at += CELLS_COMPARED_AT_A_TIME;
         }
-        push_last(&mut runs, run, &others[at..])?;
+        push_runs_of_last_cells(&mut runs, run, &others[at..])?;
     }
     Ok(runs)
 }
 
 // Returns the cell at a column of a row given as runs, or null past the end.
-pub(crate) fn cell_of_runs(runs: &[(Cell, u32)], col: u32) -> Cell
-    ensures { result ≡ slice_index_or (written_out runs.now) col None }
+pub(crate) fn cell_at_column_of_runs(runs: &[(Cell, u32)], col: u32) -> Cell
+    ensures { result ≡ slice_index_or (cells_of_runs runs.now) col None }
 {
     let mut left = col;
     for run in runs {
@@ -171,7 +176,7 @@ pub(crate) fn cell_of_runs(runs: &[(Cell, u32)], col: u32) -> Cell
 
 /// Writes a run to the cells of a row, starting at column `at`.
 #[inline]
-pub fn fill_run(cells: &mut [Cell], at: usize, run: (Cell, u32))
+pub fn write_run_to_cells(cells: &mut [Cell], at: usize, run: (Cell, u32))
     requires { at + run.1 ≤ length cells.old }
     ensures { cells.new
         ≡ take at cells.old ++ replicate run.1 run.0 ++ drop (at + run.1) cells.old }
@@ -180,19 +185,19 @@ pub fn fill_run(cells: &mut [Cell], at: usize, run: (Cell, u32))
 }
 
 // Writes a row given as runs into a slice of the same length.
-pub(crate) fn write_out(runs: &[(Cell, u32)], cells: &mut [Cell])
-    requires { length cells.old ≡ length (written_out runs.now) }
-    ensures { cells.new ≡ written_out runs.now }
+pub(crate) fn write_cells_of_runs(runs: &[(Cell, u32)], cells: &mut [Cell])
+    requires { length cells.old ≡ length (cells_of_runs runs.now) }
+    ensures { cells.new ≡ cells_of_runs runs.now }
 {
     let mut at = 0;
     for run in runs {
-        fill_run(cells, at, *run);
+        write_run_to_cells(cells, at, *run);
         at += run.1 as usize;
     }
 }
 
 // Returns the number of cells at the start that equal `cell`.
-fn count_alike(cell: Cell, cells: &[Cell]) -> usize
+fn count_leading_equal_cells(cell: Cell, cells: &[Cell]) -> usize
     ensures value { result ≡ alike cell cells.now }
     ensures within { result ≤ length cells.now }
 {
@@ -210,12 +215,12 @@ fn count_alike(cell: Cell, cells: &[Cell]) -> usize
 /// at least 1. Adjacent runs have different cells. In contracts, its value is the list of remaining runs.
 #[derive(Drop)]
 pub struct Runs<'a> {
-    rest: Rest<'a>,
+    rest: RemainingRuns<'a>,
 }
 
 // The form in which the remaining runs are stored.
 #[derive(Drop)]
-enum Rest<'a> {
+enum RemainingRuns<'a> {
     Runs(&'a [(Cell, u32)]),
     Bytes(&'a [u8]),
     Cells(&'a [Cell]),
@@ -224,13 +229,13 @@ enum Rest<'a> {
 impl<'a> Model for Runs<'a> {
     ghost use Rattle.std.specs.Prelude.{List};
     ghost use Rattle.cell_core.specs.Runs.{RunValue};
-    ghost use Rattle.cell_core.specs.parts.RowForms.{runs_left, IsShort};
+    ghost use Rattle.cell_core.specs.parts.RowForms.{runs_left, RemainingCellsFitInU32};
 
     ghost Value = { List RunValue };
 
     ghost view = { λ runs. runs_left runs.rest };
 
-    ghost invariant = { λ runs. IsShort runs.rest };
+    ghost invariant = { λ runs. RemainingCellsFitInU32 runs.rest };
 }
 
 impl<'a> Runs<'a> {
@@ -239,7 +244,7 @@ impl<'a> Runs<'a> {
         ensures { result ≡ runs.now }
     {
         Runs {
-            rest: Rest::Runs(runs),
+            rest: RemainingRuns::Runs(runs),
         }
     }
 
@@ -248,29 +253,29 @@ impl<'a> Runs<'a> {
         ensures { result ≡ length self.now }
     {
         match &self.rest {
-            Rest::Runs(runs) => runs.len(),
-            Rest::Bytes(bytes) => number_of_byte_runs(bytes),
-            Rest::Cells(cells) => number_of_runs(cells),
+            RemainingRuns::Runs(runs) => runs.len(),
+            RemainingRuns::Bytes(bytes) => number_of_byte_runs(bytes),
+            RemainingRuns::Cells(cells) => number_of_runs(cells),
         }
     }
 
     // Returns an iterator over the runs of cells stored as bytes.
     pub(crate) fn of_bytes(bytes: &'a [u8]) -> Runs<'a>
         requires { length bytes.now < 2 ^ 32 }
-        ensures { result ≡ runs_in (cells_of_bytes bytes.now) }
+        ensures { result ≡ runs_of_cells (cells_of_bytes bytes.now) }
     {
         Runs {
-            rest: Rest::Bytes(bytes),
+            rest: RemainingRuns::Bytes(bytes),
         }
     }
 
     // Returns an iterator over the runs of cells.
     pub(crate) fn of_cells(cells: &'a [Cell]) -> Runs<'a>
         requires { length cells.now < 2 ^ 32 }
-        ensures { result ≡ runs_in cells.now }
+        ensures { result ≡ runs_of_cells cells.now }
     {
         Runs {
-            rest: Rest::Cells(cells),
+            rest: RemainingRuns::Cells(cells),
         }
     }
 }
@@ -284,22 +289,22 @@ impl<'a> Iterator for Runs<'a> {
 
     fn next(&mut self) -> Option<(Cell, u32)> {
         match &self.rest {
-            Rest::Runs(runs) => {
+            RemainingRuns::Runs(runs) => {
                 let (first, others) = runs.split_first()?;
-                self.rest = Rest::Runs(others);
+                self.rest = RemainingRuns::Runs(others);
                 Some(*first)
             }
-            Rest::Cells(cells) => {
+            RemainingRuns::Cells(cells) => {
                 let (first, others) = cells.split_first()?;
-                let alike = count_alike(*first, others);
-                self.rest = Rest::Cells(&others[alike..]);
+                let alike = count_leading_equal_cells(*first, others);
+                self.rest = RemainingRuns::Cells(&others[alike..]);
                 Some((*first, 1 + alike as u32))
             }
-            Rest::Bytes(bytes) => {
+            RemainingRuns::Bytes(bytes) => {
                 let (first, others) = bytes.split_first()?;
                 let cell = cell_of_byte(*first);
-                let alike = count_alike_bytes(cell, others);
-                self.rest = Rest::Bytes(&others[alike..]);
+                let alike = count_leading_bytes_of_cell(cell, others);
+                self.rest = RemainingRuns::Bytes(&others[alike..]);
                 Some((cell, 1 + alike as u32))
             }
         }

@@ -2,7 +2,7 @@
 
 ghost use Rattle.std.specs.Prelude.{◌≡◌};
 ghost use Rattle.std.specs.Iterator.{YieldsFirst, item_count};
-ghost use Rattle.cell_core.specs.parts.RowForms.{one_by_one};
+ghost use Rattle.cell_core.specs.parts.RowForms.{single_cells_as_runs};
 ghost use Rattle.cell_core_values.specs.SmallCells.{cells_of_bytes};
 
 use cell_core_values::cell::Cell;
@@ -14,58 +14,58 @@ use std::marker::Model;
 /// stretches may have equal cells: if most runs are short, this is faster than finding their ends. In contracts, its
 /// value is the list of remaining stretches.
 #[derive(Drop)]
-pub struct Stretches<'a> {
-    rest: Unread<'a>,
+pub struct RunsOrCells<'a> {
+    rest: RemainingRunsOrCells<'a>,
 }
 
 // The form in which the remaining stretches are stored.
 #[derive(Drop)]
-enum Unread<'a> {
+enum RemainingRunsOrCells<'a> {
     Runs(&'a [(Cell, u32)]),
     Bytes(&'a [u8]),
     Cells(&'a [Cell]),
 }
 
-impl<'a> Model for Stretches<'a> {
+impl<'a> Model for RunsOrCells<'a> {
     ghost use Rattle.std.specs.Prelude.{List};
     ghost use Rattle.cell_core.specs.Runs.{RunValue};
-    ghost use Rattle.cell_core.specs.parts.RowForms.{stretches_left};
+    ghost use Rattle.cell_core.specs.parts.RowForms.{runs_or_cells_left};
 
     ghost Value = { List RunValue };
 
-    ghost view = { λ stretches. stretches_left stretches.rest };
+    ghost view = { λ stretches. runs_or_cells_left stretches.rest };
 }
 
-impl<'a> Stretches<'a> {
+impl<'a> RunsOrCells<'a> {
     // Returns an iterator over given runs.
-    pub(crate) fn of_runs(runs: &'a [(Cell, u32)]) -> Stretches<'a>
+    pub(crate) fn of_runs(runs: &'a [(Cell, u32)]) -> RunsOrCells<'a>
         ensures { result ≡ runs.now }
     {
-        Stretches {
-            rest: Unread::Runs(runs),
+        RunsOrCells {
+            rest: RemainingRunsOrCells::Runs(runs),
         }
     }
 
     // Returns an iterator over cells stored as bytes, one stretch per cell.
-    pub(crate) fn of_bytes(bytes: &'a [u8]) -> Stretches<'a>
-        ensures { result ≡ one_by_one (cells_of_bytes bytes.now) }
+    pub(crate) fn of_bytes(bytes: &'a [u8]) -> RunsOrCells<'a>
+        ensures { result ≡ single_cells_as_runs (cells_of_bytes bytes.now) }
     {
-        Stretches {
-            rest: Unread::Bytes(bytes),
+        RunsOrCells {
+            rest: RemainingRunsOrCells::Bytes(bytes),
         }
     }
 
     // Returns an iterator over cells, one stretch per cell.
-    pub(crate) fn of_cells(cells: &'a [Cell]) -> Stretches<'a>
-        ensures { result ≡ one_by_one cells.now }
+    pub(crate) fn of_cells(cells: &'a [Cell]) -> RunsOrCells<'a>
+        ensures { result ≡ single_cells_as_runs cells.now }
     {
-        Stretches {
-            rest: Unread::Cells(cells),
+        RunsOrCells {
+            rest: RemainingRunsOrCells::Cells(cells),
         }
     }
 }
 
-impl<'a> Iterator for Stretches<'a> {
+impl<'a> Iterator for RunsOrCells<'a> {
     type Item = (Cell, u32);
 
     ghost next_gives = { YieldsFirst (λ s. s) };
@@ -75,19 +75,19 @@ impl<'a> Iterator for Stretches<'a> {
     #[inline]
     fn next(&mut self) -> Option<(Cell, u32)> {
         match &self.rest {
-            Unread::Runs(runs) => {
+            RemainingRunsOrCells::Runs(runs) => {
                 let (first, others) = runs.split_first()?;
-                self.rest = Unread::Runs(others);
+                self.rest = RemainingRunsOrCells::Runs(others);
                 Some(*first)
             }
-            Unread::Bytes(bytes) => {
+            RemainingRunsOrCells::Bytes(bytes) => {
                 let (first, others) = bytes.split_first()?;
-                self.rest = Unread::Bytes(others);
+                self.rest = RemainingRunsOrCells::Bytes(others);
                 Some((cell_of_byte(*first), 1))
             }
-            Unread::Cells(cells) => {
+            RemainingRunsOrCells::Cells(cells) => {
                 let (first, others) = cells.split_first()?;
-                self.rest = Unread::Cells(others);
+                self.rest = RemainingRunsOrCells::Cells(others);
                 Some((*first, 1))
             }
         }

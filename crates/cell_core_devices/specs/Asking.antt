@@ -4,30 +4,30 @@ use Rattle.cell_core_devices.specs.declared.source.Asked.{Asked}
 use Rattle.cell_core_devices.specs.declared.source.Asked.TheVariants.{Going, Ended, Failed, Again}
 
 -- the state after one more call with this result
-abbrev pub after_take : {E : Type 0} → Asked → Result ℕ E → Asked
-after_take Going (Ok n) = if n == 0 then Ended else Going
-after_take Going (Err e) = Failed
-after_take Ended answer = Again
-after_take Failed answer = Again
-after_take Again answer = Again
+abbrev pub progress_after_take : {E : Type 0} → Asked → Result ℕ E → Asked
+progress_after_take Going (Ok n) = if n == 0 then Ended else Going
+progress_after_take Going (Err e) = Failed
+progress_after_take Ended answer = Again
+progress_after_take Failed answer = Again
+progress_after_take Again answer = Again
 
 -- the source is in the state that its reader assumes: not ended, at a reported end, or failed
-abbrev pub is_at : Asked → (ended failed : Bool) → Bool
-is_at Going false false = true
-is_at Ended true false = true
-is_at Failed false true = true
-is_at asked ended failed = false
+abbrev pub source_is_in_assumed_state : Asked → (ended failed : Bool) → Bool
+source_is_in_assumed_state Going false false = true
+source_is_in_assumed_state Ended true false = true
+source_is_in_assumed_state Failed false true = true
+source_is_in_assumed_state asked ended failed = false
 
 -- a reader's knowledge about its source: whether the source is in the assumed state, so that the source was never asked
 -- after its end or an `Err`; and whether the source returned an `Err`
-pub record Heard : Type 0 where
+pub record SourceKnowledge : Type 0 where
   pub sure : Bool
   pub failed : Bool
 
 -- the knowledge after more calls, the last of which may have failed
-abbrev pub hears : Bool → Heard → Heard
-hears fails heard = record { sure = heard.sure; failed = fails }
+abbrev pub source_knowledge_after_calls : Bool → SourceKnowledge → SourceKnowledge
+source_knowledge_after_calls fails heard = record { sure = heard.sure; failed = fails }
 
 -- the knowledge about a source that a reader was just given
-abbrev pub heard_first : Asked → Heard
-heard_first asked = record { sure = is_at asked false false; failed = false }
+abbrev pub knowledge_about_new_source : Asked → SourceKnowledge
+knowledge_about_new_source asked = record { sure = source_is_in_assumed_state asked false false; failed = false }

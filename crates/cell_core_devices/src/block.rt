@@ -2,14 +2,14 @@
 //! callers check for the error only once.
 
 ghost use Rattle.std.specs.Prelude.{◌≡◌, ℕ, ◌+◌, ◌≤◌, List, [], ◌++◌, length, take, Option, false};
-ghost use Rattle.cell_core_devices.specs.Device.{Faults};
-ghost use Rattle.cell_core_devices.specs.Blocks.{BlockValue, room, Appended, Appends, empty_block, settled_block, fault_if};
+ghost use Rattle.cell_core_devices.specs.Device.{SinkFaults};
+ghost use Rattle.cell_core_devices.specs.Blocks.{OutputBlockValue, block_capacity, IsTextAppendedToSink, IsTextAppendedThroughBlock, empty_block, block_after_put, write_fault_if_failed};
 
 use crate::sink::{Sink, WriteFault, put_bytes};
 use std::marker::Model;
 
 // Capacity of a block in bytes.
-const ROOM: usize = 4096;
+const BLOCK_CAPACITY: usize = 4096;
 
 /// Holds bytes until they fill a block, the number of bytes that the sink accepted, and whether a put failed.
 ///
@@ -20,7 +20,7 @@ const ROOM: usize = 4096;
 /// holds.
 #[derive(Drop)]
 pub struct OutputBlock {
-    bytes: [u8; ROOM],
+    bytes: [u8; BLOCK_CAPACITY],
     len: usize,
     written: u64,
     failed: bool,
@@ -28,24 +28,24 @@ pub struct OutputBlock {
 
 impl Model for OutputBlock {
     ghost use Rattle.std.specs.Prelude.{◌≤◌, take};
-    ghost use Rattle.cell_core_devices.specs.Blocks.{BlockValue, room};
+    ghost use Rattle.cell_core_devices.specs.Blocks.{OutputBlockValue, block_capacity};
 
-    ghost Value = { BlockValue };
+    ghost Value = { OutputBlockValue };
 
     ghost view = { λ block. record { held = take block.len block.bytes; written = block.written; failed = block.failed } };
 
-    ghost invariant = { λ block. block.len ≤ room };
+    ghost invariant = { λ block. block.len ≤ block_capacity };
 }
 
 impl OutputBlock {
     /// Returns an empty block.
     pub fn new() -> OutputBlock
         ensures value { result ≡ empty_block }
-        ensures nothing { (before : Option (List ℕ)) (start : Faults)
-            → Appended before start [] before start result }
+        ensures nothing { (before : Option (List ℕ)) (start : SinkFaults)
+            → IsTextAppendedToSink before start [] before start result }
     {
         OutputBlock {
-            bytes: [0; ROOM],
+            bytes: [0; BLOCK_CAPACITY],
             len: 0,
             written: 0,
             failed: false,
@@ -72,7 +72,7 @@ impl OutputBlock {
     ///
     /// `WriteFault` with the total number of bytes that the sink accepted, if a put failed.
     pub fn outcome(&self) -> Result<(), WriteFault>
-        ensures { result ≡ fault_if self.now.failed self.now.written }
+        ensures { result ≡ write_fault_if_failed self.now.failed self.now.written }
     {
         if self.has_failed() {
             return Err(WriteFault {
@@ -85,7 +85,7 @@ impl OutputBlock {
     // Returns the number of held bytes.
     fn len(&self) -> usize
         ensures value { result ≡ length self.now.held }
-        ensures within { result ≤ room }
+        ensures within { result ≤ block_capacity }
     {
         self.len
     }
@@ -99,7 +99,7 @@ impl OutputBlock {
 
     // Appends bytes to the held bytes.
     fn hold_bytes(&mut self, bytes: &[u8])
-        requires { length self.old.held + length bytes.now ≤ room }
+        requires { length self.old.held + length bytes.now ≤ block_capacity }
         ensures { self.new ≡ record {
           held = self.old.held ++ bytes.now;
           written = self.old.written;
@@ -114,7 +114,7 @@ impl OutputBlock {
     // Empties the block after a put, which either wrote `all` bytes or failed.
     fn settle(&mut self, put: Result<(), WriteFault>, all: u64)
         requires { self.old.failed ≡ false }
-        ensures { self.new ≡ settled_block self.old put all }
+        ensures { self.new ≡ block_after_put self.old put all }
     {
         let taken = match put {
             Ok(()) => all,
@@ -129,7 +129,8 @@ impl OutputBlock {
 
     /// Passes the held bytes to the sink, unless a put failed before.
     pub fn empty<W: Sink>(&mut self, out: &mut W)
-        ensures appends { Appends W.taken W.faults out.old self.old [] out.new self.new }
+        ensures appends { IsTextAppendedThroughBlock W.taken W.faults out.old self.old [] out.new
+            self.new }
         ensures held { self.new.failed ≡ false → self.new.held ≡ [] }
     {
         if self.has_failed() {
@@ -141,10 +142,11 @@ impl OutputBlock {
     }
 
     // Passes bytes directly to the sink. The block must be empty.
-    fn put_long<W: Sink>(&mut self, out: &mut W, bytes: &[u8])
+    fn put_directly<W: Sink>(&mut self, out: &mut W, bytes: &[u8])
         requires failed { self.old.failed ≡ false }
         requires held { self.old.held ≡ [] }
-        ensures { Appends W.taken W.faults out.old self.old bytes.now out.new self.new }
+        ensures { IsTextAppendedThroughBlock W.taken W.faults out.old self.old bytes.now out.new
+            self.new }
     {
         let put = put_bytes(out, bytes);
         self.settle(put, bytes.len() as u64);
@@ -152,15 +154,16 @@ impl OutputBlock {
 
     // Passes the held bytes to the sink, then holds the new bytes, or passes them on as well if they exceed a block.
     #[cold]
-    fn push_past<W: Sink>(&mut self, out: &mut W, bytes: &[u8])
-        ensures { Appends W.taken W.faults out.old self.old bytes.now out.new self.new }
+    fn put_held_bytes_then_push<W: Sink>(&mut self, out: &mut W, bytes: &[u8])
+        ensures { IsTextAppendedThroughBlock W.taken W.faults out.old self.old bytes.now out.new
+            self.new }
     {
         self.empty(out);
         if self.has_failed() {
             return;
         }
-        if bytes.len() > ROOM {
-            self.put_long(out, bytes);
+        if bytes.len() > BLOCK_CAPACITY {
+            self.put_directly(out, bytes);
             return;
         }
         self.hold_bytes(bytes);
@@ -170,10 +173,11 @@ impl OutputBlock {
     /// before.
     #[inline]
     pub fn push<W: Sink>(&mut self, out: &mut W, bytes: &[u8])
-        ensures { Appends W.taken W.faults out.old self.old bytes.now out.new self.new }
+        ensures { IsTextAppendedThroughBlock W.taken W.faults out.old self.old bytes.now out.new
+            self.new }
     {
-        if bytes.len() > ROOM - self.len() {
-            self.push_past(out, bytes);
+        if bytes.len() > BLOCK_CAPACITY - self.len() {
+            self.put_held_bytes_then_push(out, bytes);
             return;
         }
         self.hold_bytes(bytes);

@@ -7,21 +7,21 @@ use std::marker::{Model, PhantomData};
 
 /// The bytes recorded so far, in order. It is empty at run time.
 #[derive(Drop)]
-pub struct History {
+pub struct RecordedBytes {
     marker: PhantomData<u8>,
     pub ghost bytes: { List ℕ },
 }
 
-impl Model for History {
+impl Model for RecordedBytes {
     ghost also_owns = { λ _. ftrue };
 }
 
-impl History {
+impl RecordedBytes {
     /// Returns an empty record.
-    pub(crate) fn new() -> History
+    pub(crate) fn new() -> RecordedBytes
         ensures { result.bytes ≡ [] }
     {
-        History {
+        RecordedBytes {
             marker: PhantomData,
         }
     }

@@ -1,16 +1,16 @@
 //! Sinks, which accept bytes: a trait, a loop that writes a full slice, and sinks over std's writers and over memory.
 
 ghost use Rattle.std.specs.Prelude.{◌≡◌, ℕ, ◌+◌, ◌<◌, ◌≤◌, List, [], ◌++◌, length, take, Option, None, IfOk, OnOk, IfErr, OnErr, MatchResult, is_err, true, ◌-◌};
-ghost use Rattle.cell_core_devices.specs.Device.{append_known, Faults, no_faults, after_put, after_flush, flushed_again, Taken, moved_count};
+ghost use Rattle.cell_core_devices.specs.Device.{append_if_known, SinkFaults, faults_of_new_sink, faults_after_put, faults_after_flush, flush_count_after_flush, MemorySinkValue, byte_count_moved_by_call};
 
 use crate::device::DeviceFault;
-use crate::history::History;
+use crate::history::RecordedBytes;
 use std::io::Write;
 use std::marker::Model;
 
 /// The number of times a sink was flushed. An integer would need a clause stating that it cannot overflow.
 #[derive(Clone, Copy, Debug, PartialEq, Eq)]
-pub enum Flushes {
+pub enum FlushCount {
     /// The sink was never flushed.
     Never,
     /// The sink was flushed once.
@@ -19,14 +19,14 @@ pub enum Flushes {
     More,
 }
 
-impl Flushes {
+impl FlushCount {
     /// Returns the count after one more flush.
-    pub fn again(self) -> Flushes
-        ensures { result ≡ flushed_again self }
+    pub fn again(self) -> FlushCount
+        ensures { result ≡ flush_count_after_flush self }
     {
         match self {
-            Flushes::Never => Flushes::Once,
-            Flushes::Once | Flushes::More => Flushes::More,
+            FlushCount::Never => FlushCount::Once,
+            FlushCount::Once | FlushCount::More => FlushCount::More,
         }
     }
 }
@@ -37,7 +37,7 @@ pub trait Sink {
     ghost taken: { Self → Option (List ℕ) };
 
     /// Whether a put failed, whether a flush failed, and how many times the sink was flushed.
-    ghost faults: { Self → Faults };
+    ghost faults: { Self → SinkFaults };
 
     /// Accepts the first bytes of a non-empty slice and returns their number, at least 1.
     ///
@@ -48,9 +48,9 @@ pub trait Sink {
         requires { 0 < length bytes.now }
         ensures count { IfOk result (λ n. (0 < n) × (n ≤ length bytes.now)) }
         ensures ok { IfOk result (λ n. taken self.new
-            ≡ append_known (taken self.old) (take n bytes.now)) }
+            ≡ append_if_known (taken self.old) (take n bytes.now)) }
         ensures err { OnErr result (taken self.new ≡ taken self.old) }
-        ensures faults { faults self.new ≡ after_put (faults self.old) (is_err result) };
+        ensures faults { faults self.new ≡ faults_after_put (faults self.old) (is_err result) };
 
     /// Flushes the sink. Accepts no bytes, and counts one more flush.
     ///
@@ -59,7 +59,7 @@ pub trait Sink {
     /// [`DeviceFault`] if the flush fails. The sink then counts as failed to flush.
     fn flush(&mut self) -> Result<(), DeviceFault>
         ensures taken { taken self.new ≡ taken self.old }
-        ensures faults { faults self.new ≡ after_flush (faults self.old) (is_err result) };
+        ensures faults { faults self.new ≡ faults_after_flush (faults self.old) (is_err result) };
 }
 
 /// The number of bytes that were written before the sink failed.
@@ -76,11 +76,11 @@ pub struct WriteFault {
 ///
 /// [`WriteFault`] if the sink fails; exactly the first `written` bytes were written.
 pub fn put_bytes<W: Sink>(out: &mut W, bytes: &[u8]) -> Result<(), WriteFault>
-    ensures ok { OnOk result (W.taken out.new ≡ append_known (W.taken out.old) bytes.now) }
+    ensures ok { OnOk result (W.taken out.new ≡ append_if_known (W.taken out.old) bytes.now) }
     ensures within { IfErr result (λ fault. fault.written < length bytes.now) }
     ensures err { IfErr result (λ fault. W.taken out.new
-        ≡ append_known (W.taken out.old) (take fault.written bytes.now)) }
-    ensures faults { W.faults out.new ≡ after_put (W.faults out.old) (is_err result) }
+        ≡ append_if_known (W.taken out.old) (take fault.written bytes.now)) }
+    ensures faults { W.faults out.new ≡ faults_after_put (W.faults out.old) (is_err result) }
     ensures empty { bytes.now ≡ [] → out.new ≡ out.old }
 {
     let mut at = 0;
@@ -98,17 +98,17 @@ pub fn put_bytes<W: Sink>(out: &mut W, bytes: &[u8]) -> Result<(), WriteFault>
 #[derive(Drop)]
 pub struct WriteSink<W> {
     writer: W,
-    took: History,
+    took: RecordedBytes,
     refused: bool,
     unflushed: bool,
-    flushes: Flushes,
+    flushes: FlushCount,
 }
 
 impl<W> Model for WriteSink<W> {
     ghost use Rattle.std.specs.Prelude.{ℕ, List};
-    ghost use Rattle.cell_core_devices.specs.Device.{Faults};
+    ghost use Rattle.cell_core_devices.specs.Device.{SinkFaults};
 
-    ghost Value = { (W × List ℕ) × Faults };
+    ghost Value = { (W × List ℕ) × SinkFaults };
 
     ghost view = { λ s. ((s.writer, s.took.bytes), record { refused = s.refused; unflushed = s.unflushed; flushes = s.flushes }) };
 }
@@ -116,23 +116,23 @@ impl<W> Model for WriteSink<W> {
 impl<W: Write + Drop> WriteSink<W> {
     /// Returns a sink that passes its bytes to a writer. Does not allocate.
     pub fn new(writer: W) -> WriteSink<W>
-        ensures value { result ≡ ((writer, []), no_faults) }
+        ensures value { result ≡ ((writer, []), faults_of_new_sink) }
         ensures taken { ⟦<WriteSink<W> as Sink>⟧.taken result ≡ Some [] }
-        ensures faults { ⟦<WriteSink<W> as Sink>⟧.faults result ≡ no_faults }
+        ensures faults { ⟦<WriteSink<W> as Sink>⟧.faults result ≡ faults_of_new_sink }
     {
         WriteSink {
             writer,
-            took: History::new(),
+            took: RecordedBytes::new(),
             refused: false,
             unflushed: false,
-            flushes: Flushes::Never,
+            flushes: FlushCount::Never,
         }
     }
 }
 
 impl<W: Write> Sink for WriteSink<W> {
     ghost use Rattle.std.specs.Prelude.{Some, ◌≡◌, ◌<◌, ◌≤◌, ◌++◌, take, length, IfOk, OnErr, is_err};
-    ghost use Rattle.cell_core_devices.specs.Device.{after_put, after_flush};
+    ghost use Rattle.cell_core_devices.specs.Device.{faults_after_put, faults_after_flush};
     ghost use Rattle.std.specs.Io.KnownBytes.{WriteAppends, Keeps};
 
     ghost taken = { λ s. Some s.0.1 };
@@ -144,7 +144,7 @@ impl<W: Write> Sink for WriteSink<W> {
         ensures count { IfOk result (λ n. (0 < n) × (n ≤ length bytes.now)) }
         ensures ok { IfOk result (λ n. self.new.0.1 ≡ self.old.0.1 ++ take n bytes.now) }
         ensures err { OnErr result (self.new.0.1 ≡ self.old.0.1) }
-        ensures faults { self.new.1 ≡ after_put self.old.1 (is_err result) }
+        ensures faults { self.new.1 ≡ faults_after_put self.old.1 (is_err result) }
         // If the writer's contents are known, they grow by the accepted bytes.
         ensures written { WriteAppends (W.contents self.old.0.0) (W.contents self.new.0.0)
             result bytes.now }
@@ -163,7 +163,7 @@ impl<W: Write> Sink for WriteSink<W> {
 
     fn flush(&mut self) -> Result<(), DeviceFault>
         ensures taken { self.new.0.1 ≡ self.old.0.1 }
-        ensures faults { self.new.1 ≡ after_flush self.old.1 (is_err result) }
+        ensures faults { self.new.1 ≡ faults_after_flush self.old.1 (is_err result) }
         ensures written { Keeps (W.contents self.old.0.0) (W.contents self.new.0.0) }
     {
         self.flushes = self.flushes.again();
@@ -186,14 +186,14 @@ pub struct MemorySink {
     flush_fails: bool,
     refused: bool,
     unflushed: bool,
-    flushes: Flushes,
+    flushes: FlushCount,
 }
 
 impl Model for MemorySink {
     ghost use Rattle.std.specs.Prelude.{take, ◌<◌, ◌≤◌, ◌-◌, length};
-    ghost use Rattle.cell_core_devices.specs.Device.{Faults, Taken};
+    ghost use Rattle.cell_core_devices.specs.Device.{SinkFaults, MemorySinkValue};
 
-    ghost Value = { Taken };
+    ghost Value = { MemorySinkValue };
 
     ghost view = { λ s. record { bytes = take s.at s.room.items; faults = record { refused = s.refused; unflushed = s.unflushed; flushes = s.flushes }; room = length s.room.items - s.at; piece = s.piece; flush_fails = s.flush_fails } };
 
@@ -207,7 +207,7 @@ impl MemorySink {
         requires { 0 < piece }
         ensures { result ≡ record {
           bytes = [];
-          faults = no_faults;
+          faults = faults_of_new_sink;
           room = length room.items;
           piece = piece;
           flush_fails = flush_fails;
@@ -220,7 +220,7 @@ impl MemorySink {
             flush_fails,
             refused: false,
             unflushed: false,
-            flushes: Flushes::Never,
+            flushes: FlushCount::Never,
         }
     }
 
@@ -233,7 +233,7 @@ impl MemorySink {
 }
 
 // Writes bytes into `room`, starting at index `at`.
-fn write_at(room: &mut [u8], at: usize, bytes: &[u8])
+fn write_bytes_at(room: &mut [u8], at: usize, bytes: &[u8])
     requires { at + length bytes.now ≤ length room.old }
     ensures front { take (at + length bytes.now) room.new ≡ take at room.old ++ bytes.now }
     ensures len { length room.new ≡ length room.old }
@@ -243,7 +243,7 @@ fn write_at(room: &mut [u8], at: usize, bytes: &[u8])
 
 impl Sink for MemorySink {
     ghost use Rattle.std.specs.Prelude.{Some, ◌≡◌, ◌<◌, ◌≤◌, ◌-◌, ◌++◌, length, take, IfOk, OnErr, MatchResult, is_err, true};
-    ghost use Rattle.cell_core_devices.specs.Device.{after_put, after_flush, moved_count};
+    ghost use Rattle.cell_core_devices.specs.Device.{faults_after_put, faults_after_flush, byte_count_moved_by_call};
 
     ghost taken = { λ s. Some s.bytes };
 
@@ -253,18 +253,18 @@ impl Sink for MemorySink {
         requires { 0 < length bytes.now }
         ensures count { IfOk result (λ n. (0 < n) × (n ≤ length bytes.now)) }
         ensures moved { IfOk result (λ n. n
-            ≡ moved_count (length bytes.now) self.old.piece self.old.room) }
+            ≡ byte_count_moved_by_call (length bytes.now) self.old.piece self.old.room) }
         ensures full { OnErr result (self.old.room ≡ 0) }
         ensures taken { MatchResult result
             (λ n. self.new ≡ record self.old { bytes = self.old.bytes ++ take n bytes.now; room = self.old.room - n })
-            (λ _. self.new ≡ record self.old { faults = after_put self.old.faults true }) }
+            (λ _. self.new ≡ record self.old { faults = faults_after_put self.old.faults true }) }
     {
         let n = bytes.len().min(self.piece).min(self.room.len() - self.at);
         if n == 0 {
             self.refused = true;
             return Err(DeviceFault);
         }
-        write_at(&mut self.room, self.at, &bytes[..n]);
+        write_bytes_at(&mut self.room, self.at, &bytes[..n]);
         self.at += n;
         Ok(n)
     }
@@ -272,7 +272,7 @@ impl Sink for MemorySink {
     fn flush(&mut self) -> Result<(), DeviceFault>
         ensures fails { is_err result ≡ self.old.flush_fails }
         ensures taken { self.new
-            ≡ record self.old { faults = after_flush self.old.faults (is_err result) } }
+            ≡ record self.old { faults = faults_after_flush self.old.faults (is_err result) } }
     {
         self.flushes = self.flushes.again();
         if self.flush_fails {

@@ -2,12 +2,12 @@
 
 ghost use Rattle.std.specs.Prelude.{◌≡◌, ◌<◌, ◌≤◌, Option, Some, None, [], length, drop, IfOk, IfSome, MatchResult};
 ghost use Rattle.std.specs.Option.{IsSome};
-ghost use Rattle.cell_core_devices.specs.Asking.{after_take};
-ghost use Rattle.cell_core_devices.specs.Device.{Coming, Takes, Keeps, Stored, moved_count};
-ghost use Rattle.cell_core_devices.specs.Supposed.{Supposed, to_come};
+ghost use Rattle.cell_core_devices.specs.Asking.{progress_after_take};
+ghost use Rattle.cell_core_devices.specs.Device.{ComingBytes, IsEffectOfTake, IsSupposedEffectOfTake, MemorySourceValue, byte_count_moved_by_call};
+ghost use Rattle.cell_core_devices.specs.Supposed.{SupposedContent, content_to_come};
 
 use crate::device::DeviceFault;
-use crate::history::History;
+use crate::history::RecordedBytes;
 use std::io::Read;
 use std::marker::Model;
 
@@ -29,8 +29,8 @@ pub enum Asked {
 
 impl Asked {
     /// Returns the state after one more call with this result.
-    pub fn after_answer(self, answer: Result<usize, DeviceFault>) -> Asked
-        ensures { result ≡ after_take self answer }
+    pub fn progress_after_answer(self, answer: Result<usize, DeviceFault>) -> Asked
+        ensures { result ≡ progress_after_take self answer }
     {
         match (self, answer) {
             (Asked::Going, Ok(0)) => Asked::Ended,
@@ -46,14 +46,14 @@ pub trait Source {
     ghost use Rattle.cell_core_devices.specs.declared.source.Asked.{Asked};
 
     /// The bytes to come, and whether the source fails after them; `None` if they are unknown.
-    ghost coming: { Self → Option Coming };
+    ghost coming: { Self → Option ComingBytes };
 
     /// How far the source was read: whether it reported its end or failed, and whether it was asked after that.
     ghost asked: { Self → Asked };
 
-    /// What decides the bytes to come if the full content was supposed to be some bytes (`to_come`): there are none once
+    /// What decides the bytes to come if the full content was supposed to be some bytes (`content_to_come`): there are none once
     /// the source has returned anything else.
-    ghost supposed: { Self → Supposed };
+    ghost supposed: { Self → SupposedContent };
 
     /// Writes the next bytes to the start of a non-empty slice and returns their number, which is 0 only at the end.
     ///
@@ -63,13 +63,14 @@ pub trait Source {
     fn take(&mut self, buf: &mut [u8]) -> Result<usize, DeviceFault>
         requires { 0 < length buf.old }
         ensures count { IfOk result (λ n. n ≤ length buf.new) }
-        ensures bytes { Takes (coming self.old) (coming self.new) result buf.new }
-        ensures supposed { (h : Coming)
-            → Keeps (to_come (supposed self.old) h) (to_come (supposed self.new) h) result buf.new }
-        ensures asked { asked self.new ≡ after_take (asked self.old) result };
+        ensures bytes { IsEffectOfTake (coming self.old) (coming self.new) result buf.new }
+        ensures supposed { (h : ComingBytes)
+            → IsSupposedEffectOfTake (content_to_come (supposed self.old) h)
+            (content_to_come (supposed self.new) h) result buf.new }
+        ensures asked { asked self.new ≡ progress_after_take (asked self.old) result };
 
     /// A law: if the bytes to come are known, they are to come whatever is supposed.
-    ghost known: { (s : Self) (h : Coming) → IfSome (coming s) (λ c. to_come (supposed s) h ≡ Some c) };
+    ghost known: { (s : Self) (h : ComingBytes) → IfSome (coming s) (λ c. content_to_come (supposed s) h ≡ Some c) };
 
     /// A law: if the bytes to come are known of one source of a type, they are known of all sources of this type.
     ghost steady: { (s t : Self) → IsSome (coming s) → IsSome (coming t) };
@@ -80,7 +81,7 @@ pub trait Source {
 #[derive(Drop)]
 pub struct ReadSource<R> {
     reader: R,
-    gave: History,
+    gave: RecordedBytes,
     asked: Asked,
 }
 
@@ -98,13 +99,13 @@ impl<R: Read + Drop> ReadSource<R> {
     pub fn new(reader: R) -> ReadSource<R>
         ensures value { result ≡ ((reader, []), Asked.Going) }
         ensures coming { ⟦<ReadSource<R> as Source>⟧.coming result ≡ None }
-        ensures supposed { (h : Coming)
-            → to_come (⟦<ReadSource<R> as Source>⟧.supposed result) h ≡ Some h }
+        ensures supposed { (h : ComingBytes)
+            → content_to_come (⟦<ReadSource<R> as Source>⟧.supposed result) h ≡ Some h }
         ensures asked { ⟦<ReadSource<R> as Source>⟧.asked result ≡ Asked.Going }
     {
         ReadSource {
             reader,
-            gave: History::new(),
+            gave: RecordedBytes::new(),
             asked: Asked::Going,
         }
     }
@@ -113,7 +114,7 @@ impl<R: Read + Drop> ReadSource<R> {
 impl<R: Read> Source for ReadSource<R> {
     ghost use Rattle.std.specs.Prelude.{None, ◌≡◌, ◌<◌, ◌≤◌, ◌++◌, take, length, IfOk, OnErr};
     ghost use Rattle.std.specs.Io.KnownBytes.{ReadConsumes};
-    ghost use Rattle.cell_core_devices.specs.Asking.{after_take};
+    ghost use Rattle.cell_core_devices.specs.Asking.{progress_after_take};
     ghost use Rattle.cell_core_devices.specs.Supposed.{After};
 
     ghost coming = { λ _. None };
@@ -134,16 +135,16 @@ impl<R: Read> Source for ReadSource<R> {
             result buf.new }
         ensures gave { IfOk result (λ n. self.new.0.1 ≡ self.old.0.1 ++ take n buf.new) }
         ensures kept { OnErr result (self.new.0.1 ≡ self.old.0.1) }
-        ensures asked { self.new.1 ≡ after_take self.old.1 result }
+        ensures asked { self.new.1 ≡ progress_after_take self.old.1 result }
     {
         match self.reader.read(buf) {
             Ok(n) => {
                 self.gave.note(&buf[..n]);
-                self.asked = self.asked.after_answer(Ok(n));
+                self.asked = self.asked.progress_after_answer(Ok(n));
                 Ok(n)
             }
             Err(_) => {
-                self.asked = self.asked.after_answer(Err(DeviceFault));
+                self.asked = self.asked.progress_after_answer(Err(DeviceFault));
                 Err(DeviceFault)
             }
         }
@@ -162,9 +163,9 @@ pub struct MemorySource {
 
 impl Model for MemorySource {
     ghost use Rattle.std.specs.Prelude.{drop, ◌<◌, ◌≤◌, length};
-    ghost use Rattle.cell_core_devices.specs.Device.{Stored};
+    ghost use Rattle.cell_core_devices.specs.Device.{MemorySourceValue};
 
-    ghost Value = { Stored };
+    ghost Value = { MemorySourceValue };
 
     ghost view = { λ s. record { bytes = drop s.at s.bytes.items; fails = s.fails; piece = s.piece; asked = s.asked } };
 
@@ -191,15 +192,15 @@ impl MemorySource {
 
 impl Source for MemorySource {
     ghost use Rattle.std.specs.Prelude.{Some, ◌≡◌, ◌<◌, ◌≤◌, ◌++◌, length, take, drop, IfOk, OnErr, MatchResult, refl};
-    ghost use Rattle.cell_core_devices.specs.Asking.{after_take};
-    ghost use Rattle.cell_core_devices.specs.Device.{Takes, stored_coming, moved_count};
+    ghost use Rattle.cell_core_devices.specs.Asking.{progress_after_take};
+    ghost use Rattle.cell_core_devices.specs.Device.{IsEffectOfTake, bytes_to_come_from_memory, byte_count_moved_by_call};
     ghost use Rattle.cell_core_devices.specs.Supposed.{Known};
 
-    ghost coming = { λ s. Some (stored_coming s) };
+    ghost coming = { λ s. Some (bytes_to_come_from_memory s) };
 
     ghost asked = { λ s. s.asked };
 
-    ghost supposed = { λ s. Known (stored_coming s) };
+    ghost supposed = { λ s. Known (bytes_to_come_from_memory s) };
 
     ghost known = { λ _ _. refl };
 
@@ -208,30 +209,33 @@ impl Source for MemorySource {
     fn take(&mut self, buf: &mut [u8]) -> Result<usize, DeviceFault>
         requires { 0 < length buf.old }
         ensures count { IfOk result (λ n. n ≤ length buf.new) }
-        ensures bytes { Takes (Some (stored_coming self.old)) (Some (stored_coming self.new))
+        ensures bytes { IsEffectOfTake (Some (bytes_to_come_from_memory self.old))
+            (Some (bytes_to_come_from_memory self.new))
             result buf.new }
         ensures moved { IfOk result (λ n. n
-            ≡ moved_count (length self.old.bytes) self.old.piece (length buf.old)) }
+            ≡ byte_count_moved_by_call (length self.old.bytes) self.old.piece (length buf.old)) }
         // The slice is unchanged after the returned bytes.
         ensures slice { IfOk result (λ n. buf.new ≡ take n self.old.bytes ++ drop n buf.old) }
         ensures unchanged { OnErr result (buf.new ≡ buf.old) }
         ensures rest { MatchResult result
             (λ n. self.new ≡ record self.old {
               bytes = drop n self.old.bytes;
-              asked = after_take self.old.asked result;
+              asked = progress_after_take self.old.asked result;
             })
-            (λ _. self.new ≡ record self.old { asked = after_take self.old.asked result }) }
-        ensures asked { self.new.asked ≡ after_take self.old.asked result }
+            (λ _. self.new ≡ record self.old {
+              asked = progress_after_take self.old.asked result;
+            }) }
+        ensures asked { self.new.asked ≡ progress_after_take self.old.asked result }
     {
         let rest = &self.bytes[self.at..];
         if rest.is_empty() && self.fails {
-            self.asked = self.asked.after_answer(Err(DeviceFault));
+            self.asked = self.asked.progress_after_answer(Err(DeviceFault));
             return Err(DeviceFault);
         }
         let n = rest.len().min(self.piece).min(buf.len());
         buf[..n].copy_from_slice(&rest[..n]);
         self.at += n;
-        self.asked = self.asked.after_answer(Ok(n));
+        self.asked = self.asked.progress_after_answer(Ok(n));
         Ok(n)
     }
 }

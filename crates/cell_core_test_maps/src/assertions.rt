@@ -5,18 +5,18 @@ use arrayvec::ArrayString;
 use std::fmt::{Debug, Display, Write};
 
 /// Maximum length of the message of a failed comparison in bytes.
-pub const MESSAGE_BYTES: usize = 1000;
+pub const MOST_FAILURE_MESSAGE_BYTES: usize = 1000;
 
 /// Compares a value with the expected one.
 ///
 /// # Errors
 ///
 /// Returns the note and both values as text if the values differ. The text ends early if it would be too long.
-pub fn compare<N: Display + Drop, T: PartialEq + Debug>(
+pub fn compare_with_expected<N: Display + Drop, T: PartialEq + Debug>(
     note: N,
     found: &T,
     wanted: &T,
-) -> Result<(), ArrayString<MESSAGE_BYTES>> {
+) -> Result<(), ArrayString<MOST_FAILURE_MESSAGE_BYTES>> {
     if *found == *wanted {
         return Ok(());
     }
@@ -32,7 +32,7 @@ macro_rules! assert_same {
         $crate::assert_same!($rt; $found, $wanted, "{}", stringify!($found))
     };
     ($rt:expr; $found:expr, $wanted:expr, $($note:tt)+) => {
-        $crate::assertions::compare(format_args!($($note)+), &$found, &$wanted)
+        $crate::assertions::compare_with_expected(format_args!($($note)+), &$found, &$wanted)
             .expect(&$rt, "assertion failed")
     };
 }

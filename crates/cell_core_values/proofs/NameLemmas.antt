@@ -5,7 +5,7 @@ use Rattle.std.specs.List.{position_from}
 use Rattle.std.proofs.lemmas.List.Quantifiers.{all_pairs_push}
 use Rattle.std.proofs.lemmas.Option.{get_or_from_slice_get, slice_get_within, slice_get_read}
 use Rattle.std.proofs.lemmas.Slice.Eq.{bytes_eq-Decides}
-use Rattle.cell_core_values.specs.Name.{place_of, AreDistinct}
+use Rattle.cell_core_values.specs.Name.{place_of_name, AreDistinctNames}
 
 pub cond-none : (b : Bool) (i : ℕ) (rest : Option ℕ) → cond b (Some i) rest ≡ None → (b ≡ false) × (rest ≡ None)
 cond-none true i rest h = cc
@@ -28,12 +28,15 @@ bytes_eq-differ a b differ = by_cases (bytes_eq a b) (λ same. absurd (differ ((
     by_cases false h = refl
 
 -- names stay distinct if a name that is not among them is appended
-pub AreDistinct-push : (names : List (List ℕ)) (name : List ℕ) → AreDistinct names → place_of name names ≡ None → AreDistinct (names ++ name ∷ [])
+pub AreDistinct-push : (names : List (List ℕ)) (name : List ℕ) → AreDistinctNames names
+    → place_of_name name names ≡ None
+    → AreDistinctNames (names ++ name ∷ [])
 AreDistinct-push names name h none =
     all_pairs_push (λ a b. a ≢ b) names name h (λ k d within. bytes_eq-apart (slice_index_or names k d) name (none_pass (λ n. bytes_eq n name) 0 names none k d within))
 
 -- each name is found at its own place, counted from a start
-pub own_from : (start : ℕ) (names : List (List ℕ)) (k : ℕ) (name : List ℕ) → AreDistinct names → slice_get names k ≡ Some name → position_from (λ n. bytes_eq n name) start names ≡ Some (start + k)
+pub own_from : (start : ℕ) (names : List (List ℕ)) (k : ℕ) (name : List ℕ) → AreDistinctNames names
+    → slice_get names k ≡ Some name → position_from (λ n. bytes_eq n name) start names ≡ Some (start + k)
 own_from start [] k name h at = cc
 own_from start (x ∷ xs) zero name h at =
     let same : bytes_eq x name ≡ true = (bytes_eq-Decides x name).1 cc in
@@ -45,6 +48,7 @@ own_from start (x ∷ xs) (suc k) name h at =
     rw differ (own_from (start + 1) xs k name (λ i j d lt inside. h (suc i) (suc j) d (omega arith) (omega arith)) at ∙ ap Some (omega arith))
 
 -- each name is found at its own place
-pub place_of-own : (names : List (List ℕ)) (i : ℕ) (name : List ℕ) → AreDistinct names → i < length names → name ≡ slice_index_or names i name → place_of name names ≡ Some i
+pub place_of-own : (names : List (List ℕ)) (i : ℕ) (name : List ℕ) → AreDistinctNames names → i < length names
+    → name ≡ slice_index_or names i name → place_of_name name names ≡ Some i
 place_of-own names i name h within read =
     own_from 0 names i name h (slice_get_read names (length names) i name refl within read) ∙ ap Some (omega arith)

@@ -8,8 +8,8 @@ use Rattle.std.specs.List.{position_from}
 use Rattle.std.specs.Map.{lookup, KeepsOthers, IsKeyTest, AreApart}
 use Rattle.std.proofs.lemmas.Map.Text.{is_eq-slice_cmp}
 use Rattle.std.proofs.lemmas.Slice.Eq.{bytes_eq-Decides}
-use Rattle.cell_core_values.specs.Name.{place_of}
-use Rattle.cell_core_values.specs.parts.NamePlaces.{ArePlaces}
+use Rattle.cell_core_values.specs.Name.{place_of_name}
+use Rattle.cell_core_values.specs.parts.NamePlaces.{ArePlacesOfNames}
 use Rattle.cell_core_values.proofs.NameLemmas.{cond-none}
 
 -- a place that is found is within the list
@@ -21,8 +21,9 @@ position_from-within p i (x ∷ xs) k h = by (p x) (position_from-within p (i + 
     by true rest e = let same : i ≡ k = cc in omega (arith, same)
     by false rest e = let inside : k < i + 1 + length xs = rest e in omega (arith, inside)
 
-pub place_of-within : (text : List ℕ) (names : List (List ℕ)) → IfSome (place_of text names) (λ k. k < length names)
-place_of-within text names = by (place_of text names) (position_from-within (λ n. bytes_eq n text) 0 names)
+pub place_of-within : (text : List ℕ) (names : List (List ℕ))
+    → IfSome (place_of_name text names) (λ k. k < length names)
+place_of-within text names = by (place_of_name text names) (position_from-within (λ n. bytes_eq n text) 0 names)
   where
     by : (place : Option ℕ) → ((k : ℕ) → place ≡ Some k → k < 0 + length names) → IfSome place (λ k. k < length names)
     by None inside = tt
@@ -51,17 +52,21 @@ module _ {K : Type 0} (bytes : K → List ℕ) where
       is_eq-slice_cmp text key ∙ nat_list_eq_equiv.symm text key ∙ sym (nat_list_eq_equiv.congr name key text (sym (is_eq-slice_cmp name key) ∙ same)) ∙ differ
 
   -- an appended name is found at the last place, and the other names keep their places
-  pub ArePlaces-push : (names : List (List ℕ)) (name : List ℕ) (old new : List (K × ℕ)) → ArePlaces bytes names old → place_of name names ≡ None
+  pub ArePlacesOfNames-push : (names : List (List ℕ)) (name : List ℕ) (old new : List (K × ℕ))
+      → ArePlacesOfNames bytes names old → place_of_name name names ≡ None
       → lookup (λ key. is_eq (slice_cmp nat_cmp name (bytes key))) new ≡ Some (length names)
       → KeepsOthers (eq_by_cmp (λ x y. slice_cmp nat_cmp (bytes x) (bytes y))) (λ key. is_eq (slice_cmp nat_cmp name (bytes key))) old new
-      → ArePlaces bytes (names ++ name ∷ []) new
-  ArePlaces-push names name old new places none here others text = by (bytes_eq name text) refl
+      → ArePlacesOfNames bytes (names ++ name ∷ []) new
+  ArePlacesOfNames-push names name old new places none here others text = by (bytes_eq name text) refl
     where
-      by : (b : Bool) → bytes_eq name text ≡ b → lookup (λ key. is_eq (slice_cmp nat_cmp text (bytes key))) new ≡ place_of text (names ++ name ∷ [])
+      by : (b : Bool) → bytes_eq name text ≡ b → lookup (λ key. is_eq (slice_cmp nat_cmp text (bytes key))) new
+          ≡ place_of_name text (names ++ name ∷ [])
       by true same =
           let e : name ≡ text = (bytes_eq-Decides name text).0 same in
-          let last : place_of name (names ++ name ∷ []) ≡ Some (0 + length names) = position_from-last (λ n. bytes_eq n name) 0 names name none ((bytes_eq-Decides name name).1 refl) in
-          subst (λ t. lookup (λ key. is_eq (slice_cmp nat_cmp t (bytes key))) new ≡ place_of t (names ++ name ∷ [])) e (here ∙ sym (last ∙ ap Some (omega arith)))
+          let last : place_of_name name (names ++ name ∷ []) ≡ Some (0 + length names) = position_from-last
+          (λ n. bytes_eq n name) 0 names name none ((bytes_eq-Decides name name).1 refl) in
+          subst (λ t. lookup (λ key. is_eq (slice_cmp nat_cmp t (bytes key))) new ≡ place_of_name t (names ++ name
+          ∷ [])) e (here ∙ sym (last ∙ ap Some (omega arith)))
       by false differ =
           keeps (λ key. is_eq (slice_cmp nat_cmp name (bytes key))) old new others (λ key. is_eq (slice_cmp nat_cmp text (bytes key)))
           (λ x y. (eq_by_cmp_equiv nat_list_cmp_total).congr text (bytes x) (bytes y)) (λ key. apart name text (bytes key) differ)

@@ -8,15 +8,15 @@ abbrev pub is_blank : ℕ → Bool
 is_blank b = (b == byte (codes " ") || b == byte (codes "\t")) || b == byte (codes "\r")
 
 -- the text without leading blanks
-abbrev pub after_blanks : List ℕ → List ℕ
-after_blanks [] = []
-after_blanks (b ∷ bs) = if is_blank b then after_blanks bs else b ∷ bs
+abbrev pub without_leading_blanks : List ℕ → List ℕ
+without_leading_blanks [] = []
+without_leading_blanks (b ∷ bs) = if is_blank b then without_leading_blanks bs else b ∷ bs
 
 -- the text without trailing blanks
-abbrev pub before_blanks : List ℕ → List ℕ
-before_blanks [] = []
-before_blanks (b ∷ bs) = if list_all is_blank (b ∷ bs) then [] else b ∷ before_blanks bs
+abbrev pub without_trailing_blanks : List ℕ → List ℕ
+without_trailing_blanks [] = []
+without_trailing_blanks (b ∷ bs) = if list_all is_blank (b ∷ bs) then [] else b ∷ without_trailing_blanks bs
 
 -- the text without leading and trailing blanks
 abbrev pub trimmed_text : List ℕ → List ℕ
-trimmed_text text = before_blanks (after_blanks text)
+trimmed_text text = without_trailing_blanks (without_leading_blanks text)

@@ -12,6 +12,6 @@ abbrev pub value_of_digits : List ℕ → ℕ
 value_of_digits bs = fold (λ n b. n * 10 + (b - byte (codes "0"))) 0 bs
 
 -- the value of one or more digits, or `None` for other texts
-abbrev pub digits_of : List ℕ → Option ℕ
-digits_of [] = None
-digits_of (b ∷ bs) = if list_all is_digit (b ∷ bs) then Some (value_of_digits (b ∷ bs)) else None
+abbrev pub value_if_digits : List ℕ → Option ℕ
+value_if_digits [] = None
+value_if_digits (b ∷ bs) = if list_all is_digit (b ∷ bs) then Some (value_of_digits (b ∷ bs)) else None

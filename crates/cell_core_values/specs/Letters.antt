@@ -1,4 +1,4 @@
--- Letters of texts, written as letters, for example `byte (codes ",")` or `is_one_of (codes "clnN1")`.
+-- Letters of texts, written as letters, for example `byte (codes ",")` or `is_byte_in_text (codes "clnN1")`.
 use Rattle.std.specs.Prelude.{ℕ, Bool, ◌==◌, List, [], ◌∷◌}
 use Rattle.std.specs.List.{list_any}
 
@@ -8,5 +8,5 @@ byte [] = 0
 byte (b ∷ bs) = b
 
 -- the byte occurs in the text
-abbrev pub is_one_of : List ℕ → ℕ → Bool
-is_one_of letters b = list_any (λ letter. letter == b) letters
+abbrev pub is_byte_in_text : List ℕ → ℕ → Bool
+is_byte_in_text letters b = list_any (λ letter. letter == b) letters

@@ -2,7 +2,7 @@
 
 ghost use Rattle.std.specs.Prelude.{◌≡◌, ◌≤◌, length};
 ghost use Rattle.std.specs.List.{before_first, after_first};
-ghost use Rattle.cell_core_values.specs.Blanks.{is_blank, after_blanks, before_blanks, trimmed_text};
+ghost use Rattle.cell_core_values.specs.Blanks.{is_blank, without_leading_blanks, without_trailing_blanks, trimmed_text};
 
 /// Returns whether a byte is a space, a tab or a carriage return. Does not allocate.
 pub fn is_blank(b: u8) -> bool
@@ -12,8 +12,8 @@ pub fn is_blank(b: u8) -> bool
 }
 
 /// Returns the text without leading blanks. Does not allocate.
-pub fn after_blanks<'a>(text: &'a [u8]) -> &'a [u8]
-    ensures text { result.now ≡ after_blanks text.now }
+pub fn without_leading_blanks<'a>(text: &'a [u8]) -> &'a [u8]
+    ensures text { result.now ≡ without_leading_blanks text.now }
     ensures shorter { length result.now ≤ length text.now }
 {
     let mut rest = text;
@@ -23,8 +23,8 @@ pub fn after_blanks<'a>(text: &'a [u8]) -> &'a [u8]
     rest
 }
 
-fn before_blanks<'a>(text: &'a [u8]) -> &'a [u8]
-    ensures { result.now ≡ before_blanks text.now }
+fn without_trailing_blanks<'a>(text: &'a [u8]) -> &'a [u8]
+    ensures { result.now ≡ without_trailing_blanks text.now }
 {
     let mut end = text.len();
     while end > 0 {
@@ -40,11 +40,11 @@ fn before_blanks<'a>(text: &'a [u8]) -> &'a [u8]
 pub fn trimmed_text<'a>(text: &'a [u8]) -> &'a [u8]
     ensures { result.now ≡ trimmed_text text.now }
 {
-    before_blanks(after_blanks(text))
+    without_trailing_blanks(without_leading_blanks(text))
 }
 
 /// Splits a text at its first blank. If there is none, the second part is empty. Does not allocate.
-pub fn around_blank<'a>(text: &'a [u8]) -> (&'a [u8], &'a [u8])
+pub fn split_at_first_blank<'a>(text: &'a [u8]) -> (&'a [u8], &'a [u8])
     ensures before { result.0.now ≡ before_first is_blank text.now }
     ensures after { result.1.now ≡ after_first is_blank text.now }
 {

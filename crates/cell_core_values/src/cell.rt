@@ -16,13 +16,13 @@ pub struct Cell {
 
 impl Model for Cell {
     ghost use Rattle.std.specs.Prelude.{ℤ, Option};
-    ghost use Rattle.cell_core_values.specs.Cell.{cell_of_pattern, pattern_of_cell};
+    ghost use Rattle.cell_core_values.specs.Cell.{cell_of_stored_number, stored_number_of_cell};
 
     ghost Value = { Option ℤ };
 
-    ghost view = { λ c. cell_of_pattern c.pattern };
+    ghost view = { λ c. cell_of_stored_number c.pattern };
 
-    ghost inverse = { λ v. record { pattern = pattern_of_cell v } };
+    ghost inverse = { λ v. record { pattern = stored_number_of_cell v } };
 }
 
 impl Cell {
@@ -89,12 +89,12 @@ impl Eq for Cell {
 }
 
 impl PartialOrd for Cell {
-    ghost use Rattle.cell_core_values.specs.Cell.{cell_cmp, cell_cmp_total};
+    ghost use Rattle.cell_core_values.specs.Cell.{compare_cells_null_last, cell_cmp_total};
     ghost use Rattle.std.specs.Ordering.{as_partial_cmp};
     ghost use Rattle.std.specs.Cmp.{po};
     ghost use Rattle.std.specs.Prelude.{refl};
 
-    ghost partial_cmp = { as_partial_cmp cell_cmp };
+    ghost partial_cmp = { as_partial_cmp compare_cells_null_last };
 
     ghost laws = { po cell_cmp_total (λ x y. refl) };
 
@@ -105,9 +105,9 @@ impl PartialOrd for Cell {
 
 impl Ord for Cell {
     ghost use Rattle.std.specs.Prelude.{refl};
-    ghost use Rattle.cell_core_values.specs.Cell.{cell_cmp, cell_cmp_total};
+    ghost use Rattle.cell_core_values.specs.Cell.{compare_cells_null_last, cell_cmp_total};
 
-    ghost cmp = { cell_cmp };
+    ghost cmp = { compare_cells_null_last };
 
     ghost total = { cell_cmp_total };
 

@@ -2,7 +2,7 @@
 
 ghost use Rattle.std.specs.Prelude.{◌≡◌, ◌↔◌, ℕ, ◌<◌, List, ◌++◌, [], ◌∷◌, Some, None, Ok, Err, IfSome, IfOk, IfErr, OnOk, OnErr, true, false, length, slice_get};
 ghost use Rattle.std.specs.List.{list_all};
-ghost use Rattle.cell_core_values.specs.Name.{is_name, is_name_start, is_name_byte, starts_name, place_of, AreDistinct};
+ghost use Rattle.cell_core_values.specs.Name.{is_name, is_name_start, is_name_byte, starts_like_name, place_of_name, AreDistinctNames};
 
 use crate::memory::Memory;
 use std::alloc::Global;
@@ -10,7 +10,7 @@ use std::collections::BTreeMap;
 use std::marker::Model;
 
 // Maximum length of a name in bytes.
-const MOST_BYTES: usize = 64;
+const MOST_NAME_BYTES: usize = 64;
 
 /// Why bytes could not be read as a name.
 #[derive(Clone, Copy, Debug, PartialEq, Eq)]
@@ -53,8 +53,8 @@ pub fn is_name_byte(b: u8) -> bool
 }
 
 /// Returns whether a name may start with the first byte: an ASCII letter or `_`. Does not allocate.
-pub fn starts_name(text: &[u8]) -> bool
-    ensures { result ≡ starts_name text.now }
+pub fn starts_like_name(text: &[u8]) -> bool
+    ensures { result ≡ starts_like_name text.now }
 {
     match text {
         [] => false,
@@ -65,10 +65,10 @@ pub fn starts_name(text: &[u8]) -> bool
 fn is_name(text: &[u8]) -> bool
     ensures { result ≡ is_name text.now }
 {
-    starts_name(text) && has_name_bytes(text) && text.len() <= MOST_BYTES
+    starts_like_name(text) && has_only_name_bytes(text) && text.len() <= MOST_NAME_BYTES
 }
 
-fn has_name_bytes(text: &[u8]) -> bool
+fn has_only_name_bytes(text: &[u8]) -> bool
     ensures { result ≡ list_all is_name_byte text.now }
 {
     text.iter().all(|b| is_name_byte(*b))
@@ -129,14 +129,14 @@ pub struct Names {
 
 impl Model for Names {
     ghost use Rattle.std.specs.Prelude.{List, ℕ};
-    ghost use Rattle.cell_core_values.specs.Name.{AreDistinct};
-    ghost use Rattle.cell_core_values.specs.parts.NamePlaces.{ArePlaces};
+    ghost use Rattle.cell_core_values.specs.Name.{AreDistinctNames};
+    ghost use Rattle.cell_core_values.specs.parts.NamePlaces.{ArePlacesOfNames};
 
     ghost Value = { List (List ℕ) };
 
     ghost view = { λ n. n.names.items };
 
-    ghost invariant = { λ n. AreDistinct n.names.items × ArePlaces (λ key. key.items) n.names.items n.places.entries };
+    ghost invariant = { λ n. AreDistinctNames n.names.items × ArePlacesOfNames (λ key. key.items) n.names.items n.places.entries };
 }
 
 impl Names {
@@ -154,14 +154,14 @@ impl Names {
     /// Returns the number of names.
     pub fn len(&self) -> usize
         ensures count { result ≡ length self.now }
-        ensures distinct { AreDistinct self.now }
+        ensures distinct { AreDistinctNames self.now }
     {
         self.names.len()
     }
 
     /// Returns the index of a name, or `None` if it is not in the list.
     pub fn find(&self, text: &[u8]) -> Option<usize>
-        ensures place { result ≡ place_of text.now self.now }
+        ensures place { result ≡ place_of_name text.now self.now }
         ensures within { IfSome result (λ i. i < length self.now) }
     {
         self.places.get(text).copied()
@@ -171,7 +171,7 @@ impl Names {
     pub fn name(&self, i: usize) -> &Name
         requires { i < length self.now }
         ensures value { slice_get self.now i ≡ Some result.now }
-        ensures place { place_of result.now self.now ≡ Some i }
+        ensures place { place_of_name result.now self.now ≡ Some i }
     {
         &self.names[i]
     }
@@ -182,7 +182,7 @@ impl Names {
     ///
     /// [`Memory`] if memory runs out; the list is then unchanged, and the new name is dropped.
     pub fn push(&mut self, name: Name) -> Result<(), Memory>
-        requires { place_of name self.old ≡ None }
+        requires { place_of_name name self.old ≡ None }
         ensures ok { OnOk result (self.new ≡ self.old ++ name ∷ []) }
         ensures err { OnErr result (self.new ≡ self.old) }
     {
@@ -194,7 +194,7 @@ impl Names {
 
     /// Appends a new name, or returns it if memory runs out.
     pub fn push_or_return(&mut self, name: Name) -> Result<(), Name>
-        requires { place_of name self.old ≡ None }
+        requires { place_of_name name self.old ≡ None }
         ensures ok { OnOk result (self.new ≡ self.old ++ name ∷ []) }
         ensures err { OnErr result (self.new ≡ self.old) }
         ensures given_back { IfErr result (λ back. back ≡ name) }

@@ -1,7 +1,7 @@
 //! The rectangle that a map covers, divided into rows and columns.
 
 ghost use Rattle.std.specs.Prelude.{◌≡◌, ◌<◌, ◌≤◌, ◌*◌, ◌↔◌, IsTrue, nat_le};
-ghost use Rattle.cell_core_values.specs.Region.{RegionValue, IsRegion, most_side, most_cells, region_fault, is_above, is_side};
+ghost use Rattle.cell_core_values.specs.Region.{RegionValue, IsValidRegion, most_rows_or_columns, most_cells, region_or_first_fault, is_edge_above_within_limits, is_row_or_column_count};
 ghost use Rattle.cell_core_values.specs.SameRegion.{is_same_region};
 
 use std::marker::Model;
@@ -21,10 +21,10 @@ pub enum RegionFault {
 }
 
 // The largest edge, in units of 10^-8. Its negative is the smallest.
-const MOST_EDGE: i64 = 999999999999999999;
+const LARGEST_EDGE_COORDINATE: i64 = 999999999999999999;
 
 // The maximum number of rows and of columns.
-const MOST_SIDE: u32 = 65535;
+const MOST_ROWS_OR_COLUMNS: u32 = 65535;
 
 // The maximum number of cells.
 const MOST_CELLS: u32 = 2147483647;
@@ -43,34 +43,34 @@ pub struct Region {
 }
 
 impl Model for Region {
-    ghost use Rattle.cell_core_values.specs.Region.{RegionValue, IsRegion};
+    ghost use Rattle.cell_core_values.specs.Region.{RegionValue, IsValidRegion};
 
     ghost Value = { RegionValue };
 
     ghost view = { λ r. record { north = r.north; south = r.south; east = r.east; west = r.west; rows = r.rows; cols = r.cols } };
 
-    ghost invariant = { λ r. IsRegion (record { north = r.north; south = r.south; east = r.east; west = r.west; rows = r.rows; cols = r.cols }) };
+    ghost invariant = { λ r. IsValidRegion (record { north = r.north; south = r.south; east = r.east; west = r.west; rows = r.rows; cols = r.cols }) };
 
     ghost inverse = { λ e. record { north = e.north; south = e.south; east = e.east; west = e.west; rows = e.rows; cols = e.cols } };
 }
 
 // Returns whether the first edge is above the second, with both within the limits.
-fn is_above(high: i64, low: i64) -> bool
-    ensures { result ≡ is_above high low }
+fn is_edge_above_within_limits(high: i64, low: i64) -> bool
+    ensures { result ≡ is_edge_above_within_limits high low }
 {
-    low < high && -MOST_EDGE <= low && high <= MOST_EDGE
+    low < high && -LARGEST_EDGE_COORDINATE <= low && high <= LARGEST_EDGE_COORDINATE
 }
 
 // Returns whether a number is valid as a number of rows or columns.
-fn is_side(count: u32) -> bool
-    ensures { result ≡ is_side count }
+fn is_row_or_column_count(count: u32) -> bool
+    ensures { result ≡ is_row_or_column_count count }
 {
-    1 <= count && count <= MOST_SIDE
+    1 <= count && count <= MOST_ROWS_OR_COLUMNS
 }
 
 // Returns whether a map of this size has no more cells than there are categories above 0.
-fn is_countable(rows: u32, cols: u32) -> bool
-    requires { (rows ≤ most_side) × (cols ≤ most_side) }
+fn is_within_cell_limit(rows: u32, cols: u32) -> bool
+    requires { (rows ≤ most_rows_or_columns) × (cols ≤ most_rows_or_columns) }
     ensures { result ≡ nat_le (rows * cols) most_cells }
 {
     rows * cols <= MOST_CELLS
@@ -99,7 +99,7 @@ impl Region {
         cols: u32,
     ) -> Result<Region, RegionFault>
         ensures { result
-            ≡ region_fault (record {
+            ≡ region_or_first_fault (record {
               north = north;
               south = south;
               east = east;
@@ -108,16 +108,16 @@ impl Region {
               cols = cols;
             }) }
     {
-        if !is_above(north, south) || !is_above(east, west) {
+        if !is_edge_above_within_limits(north, south) || !is_edge_above_within_limits(east, west) {
             return Err(RegionFault::BadExtent);
         }
-        if !is_side(rows) {
+        if !is_row_or_column_count(rows) {
             return Err(RegionFault::BadRows);
         }
-        if !is_side(cols) {
+        if !is_row_or_column_count(cols) {
             return Err(RegionFault::BadCols);
         }
-        if !is_countable(rows, cols) {
+        if !is_within_cell_limit(rows, cols) {
             return Err(RegionFault::TooManyCells);
         }
         Ok(Region {
@@ -133,7 +133,7 @@ impl Region {
     /// Returns the upper edge, in units of 10^-8.
     pub fn north(&self) -> i64
         ensures value { result ≡ self.now.north }
-        ensures region { IsRegion self.now }
+        ensures region { IsValidRegion self.now }
     {
         self.north
     }
@@ -141,7 +141,7 @@ impl Region {
     /// Returns the lower edge, in units of 10^-8.
     pub fn south(&self) -> i64
         ensures value { result ≡ self.now.south }
-        ensures region { IsRegion self.now }
+        ensures region { IsValidRegion self.now }
     {
         self.south
     }
@@ -149,7 +149,7 @@ impl Region {
     /// Returns the right edge, in units of 10^-8.
     pub fn east(&self) -> i64
         ensures value { result ≡ self.now.east }
-        ensures region { IsRegion self.now }
+        ensures region { IsValidRegion self.now }
     {
         self.east
     }
@@ -157,7 +157,7 @@ impl Region {
     /// Returns the left edge, in units of 10^-8.
     pub fn west(&self) -> i64
         ensures value { result ≡ self.now.west }
-        ensures region { IsRegion self.now }
+        ensures region { IsValidRegion self.now }
     {
         self.west
     }
@@ -165,7 +165,7 @@ impl Region {
     /// Returns the number of rows, between 1 and 65535.
     pub fn rows(&self) -> u32
         ensures value { result ≡ self.now.rows }
-        ensures region { IsRegion self.now }
+        ensures region { IsValidRegion self.now }
     {
         self.rows
     }
@@ -173,7 +173,7 @@ impl Region {
     /// Returns the number of columns, between 1 and 65535.
     pub fn cols(&self) -> u32
         ensures value { result ≡ self.now.cols }
-        ensures region { IsRegion self.now }
+        ensures region { IsValidRegion self.now }
     {
         self.cols
     }

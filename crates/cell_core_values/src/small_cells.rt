@@ -1,14 +1,14 @@
 //! Stores nulls and small categories in one byte per cell.
 
 ghost use Rattle.std.specs.Prelude.{◌≡◌, length, All, IfOk, true};
-ghost use Rattle.cell_core_values.specs.SmallCells.{byte_cell, cells_of_bytes, IsSmall};
+ghost use Rattle.cell_core_values.specs.SmallCells.{cell_of_stored_byte, cells_of_bytes, CellFitsInByte};
 
 use crate::cell::Cell;
 use crate::memory::Memory;
 use std::alloc::Global;
 
 // The byte that stands for null. Any other byte stands for the category with its value.
-const NULL: u8 = 255;
+const NULL_BYTE: u8 = 255;
 
 // The largest category that has a byte.
 const GREATEST: i32 = 254;
@@ -16,9 +16,9 @@ const GREATEST: i32 = 254;
 /// Returns the cell that a byte stands for: null for 255, otherwise the category with its value.
 #[inline(always)]
 pub fn cell_of_byte(byte: u8) -> Cell
-    ensures { result ≡ byte_cell byte }
+    ensures { result ≡ cell_of_stored_byte byte }
 {
-    if byte == NULL {
+    if byte == NULL_BYTE {
         return Cell::null();
     }
     match Cell::value(i32::from(byte)) {
@@ -29,8 +29,8 @@ pub fn cell_of_byte(byte: u8) -> Cell
 
 // Returns whether a byte stands for the cell.
 #[inline(always)]
-fn is_small(cell: Cell) -> bool
-    ensures { result ≡ true → IsSmall cell }
+fn cell_fits_in_byte(cell: Cell) -> bool
+    ensures { result ≡ true → CellFitsInByte cell }
 {
     match cell.get() {
         Some(category) => category >= 0 && category <= GREATEST,
@@ -41,31 +41,31 @@ fn is_small(cell: Cell) -> bool
 // Returns the byte that stands for the cell.
 #[inline(always)]
 fn byte_of_cell(cell: Cell) -> u8
-    requires { IsSmall cell }
-    ensures { byte_cell result ≡ cell }
+    requires { CellFitsInByte cell }
+    ensures { cell_of_stored_byte result ≡ cell }
 {
     match cell.get() {
         // No category is below 0 here. Repeating this bound avoids a special case for null when a vector converts
         // several cells at a time.
         Some(category) => category.max(-1) as u8,
-        None => NULL,
+        None => NULL_BYTE,
     }
 }
 
 /// Returns whether every cell has a byte.
-pub fn are_small(cells: &[Cell]) -> bool
-    ensures { result ≡ true → All IsSmall cells.now }
+pub fn cells_fit_in_bytes(cells: &[Cell]) -> bool
+    ensures { result ≡ true → All CellFitsInByte cells.now }
 {
     // If a row contains larger categories, its first cell usually does.
     if let Some(first) = cells.first() {
-        if !is_small(*first) {
+        if !cell_fits_in_byte(*first) {
             return false;
         }
     }
     // Checks every cell without stopping early, so that a vector can check several at a time.
     let mut all = true;
     for cell in cells {
-        all = all & is_small(*cell);
+        all = all & cell_fits_in_byte(*cell);
     }
     all
 }
@@ -75,18 +75,18 @@ pub fn are_small(cells: &[Cell]) -> bool
 /// # Errors
 ///
 /// [`Memory`] if memory runs out.
-pub fn bytes_of(alloc: Global, cells: &[Cell]) -> Result<Vec<u8>, Memory>
-    requires { All IsSmall cells.now }
+pub fn bytes_of_cells(alloc: Global, cells: &[Cell]) -> Result<Vec<u8>, Memory>
+    requires { All CellFitsInByte cells.now }
     ensures { IfOk result (λ bytes. cells_of_bytes bytes.items ≡ cells.now) }
 {
-    let mut bytes = vec![in alloc; NULL; cells.len()]?;
-    write_bytes(cells, bytes.as_mut_slice());
+    let mut bytes = vec![in alloc; NULL_BYTE; cells.len()]?;
+    write_cells_as_bytes(cells, bytes.as_mut_slice());
     Ok(bytes)
 }
 
 /// Writes the bytes that stand for cells into a slice of the same length.
-pub fn write_bytes(cells: &[Cell], bytes: &mut [u8])
-    requires small { All IsSmall cells.now }
+pub fn write_cells_as_bytes(cells: &[Cell], bytes: &mut [u8])
+    requires small { All CellFitsInByte cells.now }
     requires size { length bytes.old ≡ length cells.now }
     ensures { cells_of_bytes bytes.new ≡ cells.now }
 {
@@ -96,7 +96,7 @@ pub fn write_bytes(cells: &[Cell], bytes: &mut [u8])
 }
 
 /// Writes the cells that bytes stand for into a slice of the same length.
-pub fn write_byte_cells(bytes: &[u8], cells: &mut [Cell])
+pub fn write_bytes_as_cells(bytes: &[u8], cells: &mut [Cell])
     requires { length cells.old ≡ length bytes.now }
     ensures { cells.new ≡ cells_of_bytes bytes.now }
 {

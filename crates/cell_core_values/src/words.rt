@@ -4,38 +4,41 @@ ghost use Rattle.std.specs.Prelude.{◌≡◌, IfOk, map};
 ghost use Rattle.std.specs.List.{filter, slice_split};
 ghost use Rattle.std.specs.Option.{option_map};
 ghost use Rattle.cell_core_values.specs.Blanks.{is_blank};
-ghost use Rattle.cell_core_values.specs.Words.{is_word, words_of, is_list_gap, list_words_of, parts_of, pair_of};
+ghost use Rattle.cell_core_values.specs.Words.{is_nonempty_word, words_of_line, is_blank_or_comma, words_between_blanks_or_commas, parts_between_commas, texts_around_equals_sign};
 
 use crate::blanks::is_blank;
 use crate::memory::Memory;
 use std::alloc::{AllocError, Global};
 
 // Returns the pieces between blanks, including empty ones.
-fn pieces_of<'a>(alloc: Global, line: &'a [u8]) -> Result<Vec<&'a [u8]>, AllocError>
+fn pieces_between_blanks<'a>(alloc: Global, line: &'a [u8]) -> Result<Vec<&'a [u8]>, AllocError>
     ensures { IfOk result (λ pieces. map (λ w. w.now) pieces.items
         ≡ slice_split is_blank line.now) }
 {
     line.split(|b| is_blank(*b)).collect(alloc)
 }
 
-fn is_list_gap(b: u8) -> bool
-    ensures { result ≡ is_list_gap b }
+fn is_blank_or_comma(b: u8) -> bool
+    ensures { result ≡ is_blank_or_comma b }
 {
     is_blank(b) || b == b','
 }
 
 // Returns the pieces between blanks and commas, including empty ones.
-fn list_pieces_of<'a>(alloc: Global, line: &'a [u8]) -> Result<Vec<&'a [u8]>, AllocError>
+fn pieces_between_blanks_or_commas<'a>(
+    alloc: Global,
+    line: &'a [u8],
+) -> Result<Vec<&'a [u8]>, AllocError>
     ensures { IfOk result (λ pieces. map (λ w. w.now) pieces.items
-        ≡ slice_split is_list_gap line.now) }
+        ≡ slice_split is_blank_or_comma line.now) }
 {
-    line.split(|b| is_list_gap(*b)).collect(alloc)
+    line.split(|b| is_blank_or_comma(*b)).collect(alloc)
 }
 
 // Returns the non-empty pieces.
-fn words_among<'a>(alloc: Global, pieces: &[&'a [u8]]) -> Result<Vec<&'a [u8]>, Memory>
+fn nonempty_pieces<'a>(alloc: Global, pieces: &[&'a [u8]]) -> Result<Vec<&'a [u8]>, Memory>
     ensures { IfOk result (λ words. map (λ w. w.now) words.items
-        ≡ filter is_word (map (λ w. w.now) pieces.now)) }
+        ≡ filter is_nonempty_word (map (λ w. w.now) pieces.now)) }
 {
     let mut words = Vec::new(alloc);
     for piece in pieces {
@@ -51,11 +54,11 @@ fn words_among<'a>(alloc: Global, pieces: &[&'a [u8]]) -> Result<Vec<&'a [u8]>, 
 /// # Errors
 ///
 /// [`Memory`] if memory runs out.
-pub fn words_of<'a>(alloc: Global, line: &'a [u8]) -> Result<Vec<&'a [u8]>, Memory>
-    ensures { IfOk result (λ words. map (λ w. w.now) words.items ≡ words_of line.now) }
+pub fn words_of_line<'a>(alloc: Global, line: &'a [u8]) -> Result<Vec<&'a [u8]>, Memory>
+    ensures { IfOk result (λ words. map (λ w. w.now) words.items ≡ words_of_line line.now) }
 {
-    let pieces = pieces_of(alloc, line)?;
-    words_among(alloc, &pieces)
+    let pieces = pieces_between_blanks(alloc, line)?;
+    nonempty_pieces(alloc, &pieces)
 }
 
 /// Returns the words of a list, in order. Commas count as blanks.
@@ -63,16 +66,23 @@ pub fn words_of<'a>(alloc: Global, line: &'a [u8]) -> Result<Vec<&'a [u8]>, Memo
 /// # Errors
 ///
 /// [`Memory`] if memory runs out.
-pub fn list_words_of<'a>(alloc: Global, line: &'a [u8]) -> Result<Vec<&'a [u8]>, Memory>
-    ensures { IfOk result (λ words. map (λ w. w.now) words.items ≡ list_words_of line.now) }
+pub fn words_between_blanks_or_commas<'a>(
+    alloc: Global,
+    line: &'a [u8],
+) -> Result<Vec<&'a [u8]>, Memory>
+    ensures { IfOk result (λ words. map (λ w. w.now) words.items
+        ≡ words_between_blanks_or_commas line.now) }
 {
-    let pieces = list_pieces_of(alloc, line)?;
-    words_among(alloc, &pieces)
+    let pieces = pieces_between_blanks_or_commas(alloc, line)?;
+    nonempty_pieces(alloc, &pieces)
 }
 
 // Returns the parts between commas, with std's error type.
-fn comma_parts_of<'a>(alloc: Global, text: &'a [u8]) -> Result<Vec<&'a [u8]>, AllocError>
-    ensures { IfOk result (λ parts. map (λ w. w.now) parts.items ≡ parts_of text.now) }
+fn comma_parts_with_std_error<'a>(
+    alloc: Global,
+    text: &'a [u8],
+) -> Result<Vec<&'a [u8]>, AllocError>
+    ensures { IfOk result (λ parts. map (λ w. w.now) parts.items ≡ parts_between_commas text.now) }
 {
     text.split(|b| *b == b',').collect(alloc)
 }
@@ -82,16 +92,17 @@ fn comma_parts_of<'a>(alloc: Global, text: &'a [u8]) -> Result<Vec<&'a [u8]>, Al
 /// # Errors
 ///
 /// [`Memory`] if memory runs out.
-pub fn parts_of<'a>(alloc: Global, text: &'a [u8]) -> Result<Vec<&'a [u8]>, Memory>
-    ensures { IfOk result (λ parts. map (λ w. w.now) parts.items ≡ parts_of text.now) }
+pub fn parts_between_commas<'a>(alloc: Global, text: &'a [u8]) -> Result<Vec<&'a [u8]>, Memory>
+    ensures { IfOk result (λ parts. map (λ w. w.now) parts.items ≡ parts_between_commas text.now) }
 {
-    let parts = comma_parts_of(alloc, text)?;
+    let parts = comma_parts_with_std_error(alloc, text)?;
     Ok(parts)
 }
 
 /// Returns the texts before and after the first equals sign, or `None` if there is none. Does not allocate.
-pub fn pair_of<'a>(text: &'a [u8]) -> Option<(&'a [u8], &'a [u8])>
-    ensures { option_map (λ pair. (pair.0.now, pair.1.now)) result ≡ pair_of text.now }
+pub fn texts_around_equals_sign<'a>(text: &'a [u8]) -> Option<(&'a [u8], &'a [u8])>
+    ensures { option_map (λ pair. (pair.0.now, pair.1.now)) result
+        ≡ texts_around_equals_sign text.now }
 {
     for (i, b) in text.iter().enumerate() {
         if *b == b'=' {

@@ -8,7 +8,7 @@ pub mod SearchLemmas
 pub mod PairLabelLemmas
 pub mod NumberedLemmas
 pub mod StretchStepLemmas
-pub mod AreaLemmas
+pub mod ClumpCellLemmas
 pub mod BlockLemmas
 pub mod CutLemmas
 pub mod GridLemmas

@@ -10,30 +10,32 @@ use Rattle.std.specs.FinMap.Entries.{find}
 use Rattle.std.specs.declared.cmp.Ordering.TheVariants.{Less}
 use Rattle.cell_stats_combinations.specs.Combinations.{Combination, combination_cmp}
 use Rattle.cell_stats_combinations.proofs.OrderLemmas.{combination_cmp-exact, is_equal}
-use Rattle.cell_stats_combinations.specs.Listed.{entry_of, listed_of}
-use Rattle.cell_stats.specs.CategoryTables.{Pairs}
+use Rattle.cell_stats_combinations.specs.Listed.{entry_count_of_combination, listed_count_of_combination}
+use Rattle.cell_stats.specs.CategoryTables.{CombinationsWithCounts}
 use Rattle.cell_stats.proofs.TableLemmas.{found-listed, keys_of, stands}
-use Rattle.cell_join_numbers.specs.TableParts.{count_in, IsMerge}
-use Rattle.cell_join_numbers.specs.Merging.{IsListing, PartGroup, MergesMerge, SumsMerge}
+use Rattle.cell_join_numbers.specs.TableParts.{combination_count_in_table, IsMergeOfTables}
+use Rattle.cell_join_numbers.specs.Merging.{AreAscendingNonzeroEntries, TableGroupWithMerge}
+use Rattle.cell_join_numbers.specs.Merging.{MergingInGroupsIsMergingAll}
+use Rattle.cell_join_numbers.specs.Merging.{SummedCountsAreTheMerge}
 
 -- ---- the count of a combination is its listed count
 
-none-behind : (x : Combination) (es : Pairs) → AllByRecursion (λ y. combination_cmp x y ≡ Less) (keys_of es) → listed_of x es ≡ 0
+none-behind : (x : Combination) (es : CombinationsWithCounts) → AllByRecursion (λ y. combination_cmp x y ≡ Less) (keys_of es) → listed_count_of_combination x es ≡ 0
 none-behind x [] above = refl
 none-behind x (e ∷ es) above =
-    let here : entry_of x e ≡ 0 = ap (λ o. cond (is_eq o) e.1 0) above.0 in
-    omega (arith, sum_by-cons (entry_of x) e es, here, none-behind x es above.1)
+    let here : entry_count_of_combination x e ≡ 0 = ap (λ o. cond (is_eq o) e.1 0) above.0 in
+    omega (arith, sum_by-cons (entry_count_of_combination x) e es, here, none-behind x es above.1)
 
-listed-beside : (k : Combination) (es : Pairs) → IsStrictlySortedBy combination_cmp (keys_of es) → count_in k es ≡ listed_of k es
+listed-beside : (k : Combination) (es : CombinationsWithCounts) → IsStrictlySortedBy combination_cmp (keys_of es) → combination_count_in_table k es ≡ listed_count_of_combination k es
 unfolding IsStrictlySortedBy
 listed-beside k [] up = refl
 listed-beside k (e ∷ es) up =
-    elim (eq_by_cmp combination_cmp k e.0) as (λ b. eq_by_cmp combination_cmp k e.0 ≡ b → unwrap_or (cond b (Some e.1) (find combination_cmp k es)) 0 ≡ cond b e.1 0 + listed_of k es) [
+    elim (eq_by_cmp combination_cmp k e.0) as (λ b. eq_by_cmp combination_cmp k e.0 ≡ b → unwrap_or (cond b (Some e.1) (find combination_cmp k es)) 0 ≡ cond b e.1 0 + listed_count_of_combination k es) [
       | true ↦ λ t.
-          let none : listed_of k es ≡ 0 = ap (λ x. listed_of x es) (combination_cmp-exact k e.0 (is_equal _ t)) ∙ none-behind e.0 es up.0 in
+          let none : listed_count_of_combination k es ≡ 0 = ap (λ x. listed_count_of_combination x es) (combination_cmp-exact k e.0 (is_equal _ t)) ∙ none-behind e.0 es up.0 in
           omega (arith, none)
-      | false ↦ λ t. listed-beside k es up.1 ∙ sym (zero-add (listed_of k es))
-    ] refl ∙ sym (sum_by-cons (entry_of k) e es)
+      | false ↦ λ t. listed-beside k es up.1 ∙ sym (zero-add (listed_count_of_combination k es))
+    ] refl ∙ sym (sum_by-cons (entry_count_of_combination k) e es)
 
 none-or-some : (o : Option ℕ) (n : ℕ) → 0 < n → n ≡ unwrap_or o 0 → o ≡ Some n
 none-or-some None n some is = absurd (omega (arith, some, is))
@@ -41,8 +43,8 @@ none-or-some (Some m) n some is = ap Some (sym is)
 
 -- ---- merges, in terms of the counts of combinations
 
-IsMerge-from : (tables : List Pairs) (merged : Pairs) → IsListing merged → ((k : Combination) → count_in k merged ≡ sum_by (count_in k) tables) → IsMerge tables merged
-IsMerge-from tables merged listing sums = record {
+IsMergeOfTables-from : (tables : List CombinationsWithCounts) (merged : CombinationsWithCounts) → AreAscendingNonzeroEntries merged → ((k : Combination) → combination_count_in_table k merged ≡ sum_by (combination_count_in_table k) tables) → IsMergeOfTables tables merged
+IsMergeOfTables-from tables merged listing sums = record {
   ascending = listing.ascending;
   counted = λ k n. (
     λ c.
@@ -53,10 +55,11 @@ IsMerge-from tables merged listing sums = record {
   );
 }
 
-beside-merge : (tables : List Pairs) (merged : Pairs) → IsMerge tables merged → (k : Combination) → count_in k merged ≡ sum_by (count_in k) tables
-beside-merge tables merged merge k = by (find combination_cmp k merged) refl (sum_by (count_in k) tables) refl
+beside-merge : (tables : List CombinationsWithCounts) (merged : CombinationsWithCounts) → IsMergeOfTables tables merged → (k : Combination) → combination_count_in_table k merged ≡ sum_by (combination_count_in_table k) tables
+beside-merge tables merged merge k = by (find combination_cmp k merged) refl
+    (sum_by (combination_count_in_table k) tables) refl
   where
-    by : (o : Option ℕ) → find combination_cmp k merged ≡ o → (n : ℕ) → sum_by (count_in k) tables ≡ n → unwrap_or o 0 ≡ n
+    by : (o : Option ℕ) → find combination_cmp k merged ≡ o → (n : ℕ) → sum_by (combination_count_in_table k) tables ≡ n → unwrap_or o 0 ≡ n
     by (Some m) is n sum = ((merge.counted k m).0 (stands k m merged is)).1 ∙ sum
     by None is zero sum = refl
     by None is (suc n) sum =
@@ -67,24 +70,25 @@ beside-merge tables merged merge k = by (find combination_cmp k merged) refl (su
 
 -- ---- merges of merges
 
-flat-cons : (group : PartGroup) (groups : List PartGroup) → flat_map (λ (g : PartGroup). g.tables) (group ∷ groups) ≡ group.tables ++ flat_map (λ (g : PartGroup). g.tables) groups
+flat-cons : (group : TableGroupWithMerge) (groups : List TableGroupWithMerge) → flat_map (λ (g : TableGroupWithMerge). g.tables) (group ∷ groups) ≡ group.tables ++ flat_map (λ (g : TableGroupWithMerge). g.tables) groups
 flat-cons group groups = refl
 
-sum-groups : (k : Combination) (groups : List PartGroup) → All (λ group. IsMerge group.tables group.merged) groups → sum_by (count_in k) (map (λ group. group.merged) groups) ≡ sum_by (count_in k) (flat_map (λ group. group.tables) groups)
+sum-groups : (k : Combination) (groups : List TableGroupWithMerge) → All (λ group. IsMergeOfTables group.tables group.merged) groups → sum_by (combination_count_in_table k) (map (λ group. group.merged) groups) ≡ sum_by (combination_count_in_table k) (flat_map (λ group. group.tables) groups)
 sum-groups k [] all = refl
 sum-groups k (group ∷ groups) all =
-    let P : PartGroup → Type 0 = λ g. IsMerge g.tables g.merged in
+    let P : TableGroupWithMerge → Type 0 = λ g. IsMergeOfTables g.tables g.merged in
     let here = beside-merge group.tables group.merged (All-head P group groups all) k in
     omega (
       arith,
-      sum_by-cons (count_in k) group.merged (map (λ (g : PartGroup). g.merged) groups),
-      ap (sum_by (count_in k)) (flat-cons group groups),
-      sum_by-append (count_in k) group.tables (flat_map (λ (g : PartGroup). g.tables) groups),
+      sum_by-cons (combination_count_in_table k) group.merged (map (λ (g : TableGroupWithMerge). g.merged) groups),
+      ap (sum_by (combination_count_in_table k)) (flat-cons group groups),
+      sum_by-append (combination_count_in_table k) group.tables
+          (flat_map (λ (g : TableGroupWithMerge). g.tables) groups),
       here,
       sum-groups k groups (All-tail P group groups all),
     )
 
-pub merges-merge : MergesMerge
+pub merges-merge : MergingInGroupsIsMergingAll
 merges-merge groups all pairs merge = record {
   ascending = merge.ascending;
   counted = λ k n.
@@ -95,19 +99,19 @@ merges-merge groups all pairs merge = record {
 
 -- ---- sums of listed counts
 
-sums-listed : (k : Combination) (tables : List Pairs) → All IsListing tables →
-    sum_by (count_in k) tables ≡ sum_by (listed_of k) tables
+sums-listed : (k : Combination) (tables : List CombinationsWithCounts) → All AreAscendingNonzeroEntries tables →
+    sum_by (combination_count_in_table k) tables ≡ sum_by (listed_count_of_combination k) tables
 sums-listed k [] all = refl
 sums-listed k (table ∷ tables) all =
     omega (
       arith,
-      sum_by-cons (count_in k) table tables,
-      sum_by-cons (listed_of k) table tables,
-      listed-beside k table (All-head IsListing table tables all).ascending,
-      sums-listed k tables (All-tail IsListing table tables all),
+      sum_by-cons (combination_count_in_table k) table tables,
+      sum_by-cons (listed_count_of_combination k) table tables,
+      listed-beside k table (All-head AreAscendingNonzeroEntries table tables all).ascending,
+      sums-listed k tables (All-tail AreAscendingNonzeroEntries table tables all),
     )
 
-pub sums-merge : SumsMerge
+pub sums-merge : SummedCountsAreTheMerge
 sums-merge tables all sums listing same =
-    IsMerge-from tables sums listing
+    IsMergeOfTables-from tables sums listing
     (λ k. listed-beside k sums listing.ascending ∙ same k ∙ sym (sums-listed k tables all))

@@ -7,15 +7,15 @@ use Rattle.std.proofs.lemmas.List.Elements.{Contains-append_left, Contains-push,
 use Rattle.std.proofs.lemmas.List.Quantifiers.{all_pairs_push}
 use Rattle.std.proofs.lemmas.Bool.{cases_lt, cases_Bool, cond-true, cond-false}
 use Rattle.cell_core.specs.Grid.{Grid}
-use Rattle.cell_cats_areas.specs.declared.clump.Joining.{Joining}
-use Rattle.cell_cats_areas.specs.Areas.{Position, cell_at_position, IsEarlierCell, AreAdjacent, AreJoined, IsFirst, HasNumber}
-use Rattle.cell_cats_areas.specs.ClumpLaw.{AreFirsts}
-use Rattle.cell_cats_areas.specs.parts.CellPlaces.{position}
-use Rattle.cell_cats_areas.proofs.PathLemmas.{AreJoined-trans, AreJoined-sym, AreJoined-adjacent, AreJoined-first, AreJoined-along}
-use Rattle.cell_cats_areas.proofs.LawLemmas.{cases_before}
-use Rattle.cell_join_numbers.specs.Labelled.{AreLabelled}
-use Rattle.cell_join_numbers.specs.UnionFind.{LeadTo, after_all}
-use Rattle.cell_join_numbers.specs.LabelNumbers.{is_open, open_below, label_number}
+use Rattle.cell_clumps.specs.declared.clump.Joining.{Joining}
+use Rattle.cell_clumps.specs.Clumps.{Position, cell_at_position, IsEarlierCell, AreAdjacent, AreCellsConnected, IsFirstCellOfClump, HasClumpNumber}
+use Rattle.cell_clumps.specs.ClumpLaw.{AreFirstCellsOfAllClumps}
+use Rattle.cell_clumps.specs.parts.CellPlaces.{position_at_row_and_column}
+use Rattle.cell_clumps.proofs.PathLemmas.{AreJoined-trans, AreJoined-sym, AreJoined-adjacent, AreJoined-first, AreJoined-along}
+use Rattle.cell_clumps.proofs.LawLemmas.{cases_before}
+use Rattle.cell_join_numbers.specs.Labelled.{AreCellsLabelledInOrder}
+use Rattle.cell_join_numbers.specs.UnionFind.{AreRootsOfLabels, roots_after_all_joins}
+use Rattle.cell_join_numbers.specs.LabelNumbers.{is_open, root_labels_below, root_count_up_to_label}
 use Rattle.cell_join_numbers.proofs.UnionLemmas.{IsLinking, after_all-meets, after_all-linked}
 use Rattle.cell_join_numbers.proofs.OpenLemmas.{open-more, open-same}
 
@@ -39,11 +39,11 @@ firsts-more start table k is = cond-true (is_open table k) _ _ is
 firsts-same : (start : ℕ → Position) (table : List ℕ) (k : ℕ) → is_open table k ≡ false → firsts-below start table (suc k) ≡ firsts-below start table k
 firsts-same start table k is = cond-false (is_open table k) _ _ is
 
-firsts-count : (start : ℕ → Position) (table : List ℕ) (n : ℕ) → length (firsts-below start table n) ≡ length (open_below table n)
+firsts-count : (start : ℕ → Position) (table : List ℕ) (n : ℕ) → length (firsts-below start table n) ≡ length (root_labels_below table n)
 firsts-count start table zero = refl
 firsts-count start table (suc n) =
     ⊎_elim
-    (λ yes'. ap (length {A = Position}) (firsts-more start table n yes') ∙ length_push (firsts-below start table n) (start n) ∙ ap (λ (k : ℕ). k + 1) (firsts-count start table n) ∙ sym (ap (length {A = ℕ}) (open-more table n yes') ∙ length_push (open_below table n) n))
+    (λ yes'. ap (length {A = Position}) (firsts-more start table n yes') ∙ length_push (firsts-below start table n) (start n) ∙ ap (λ (k : ℕ). k + 1) (firsts-count start table n) ∙ sym (ap (length {A = ℕ}) (open-more table n yes') ∙ length_push (root_labels_below table n) n))
     (λ no'. ap (length {A = Position}) (firsts-same start table n no') ∙ firsts-count start table n ∙ sym (ap (length {A = ℕ}) (open-same table n no')))
     (cases_Bool (is_open table n))
 
@@ -71,18 +71,18 @@ some-below start table (suc n) i lt is =
     (subst (λ (ps : List Position). Contains ps (start n)) (sym (firsts-more start table n yes')) (Contains-push (firsts-below start table n) (start n))))
     (cases_lt i n)
 
-module _ (j : Joining) (m : Grid) (starts : List Position) (label_of : Position → ℕ) (pairs : List (ℕ × ℕ)) (labelled : AreLabelled j m starts label_of pairs) where
+module _ (j : Joining) (m : Grid) (starts : List Position) (label_of : Position → ℕ) (pairs : List (ℕ × ℕ)) (labelled : AreCellsLabelledInOrder j m starts label_of pairs) where
   abbrev f : ℕ → ℕ
-  f = after_all (λ k. k) pairs
+  f = roots_after_all_joins (λ k. k) pairs
 
   abbrev start : ℕ → Position
-  start k = get_or starts k (position 0 0)
+  start k = get_or starts k (position_at_row_and_column 0 0)
 
   start-is : (k : ℕ) (d : Position) → k < length starts → get_or starts k d ≡ start k
-  start-is k d lt = get_or_default starts k d (position 0 0) lt
+  start-is k d lt = get_or_default starts k d (position_at_row_and_column 0 0) lt
 
-  joined-to : (p : Position) → IsSome (cell_at_position m p) → AreJoined j m (start (label_of p)) p
-  joined-to p some = subst (λ (s : Position). AreJoined j m s p) (start-is (label_of p) p (labelled.few p some)) (labelled.joined p some)
+  joined-to : (p : Position) → IsSome (cell_at_position m p) → AreCellsConnected j m (start (label_of p)) p
+  joined-to p some = subst (λ (s : Position). AreCellsConnected j m s p) (start-is (label_of p) p (labelled.few p some)) (labelled.joined p some)
 
   not-before : (p : Position) → IsSome (cell_at_position m p) → ¬ IsEarlierCell p (start (label_of p))
   not-before p some before = labelled.early p some (subst (λ (s : Position). IsEarlierCell p s) (sym (start-is (label_of p) p (labelled.few p some))) before)
@@ -90,7 +90,7 @@ module _ (j : Joining) (m : Grid) (starts : List Position) (label_of : Position 
   -- ---- the label that each label leads to
 
   abbrev Linked : ℕ → ℕ → Type 0
-  Linked a b = (a ≡ b) ⊎ AreJoined j m (start a) (start b)
+  Linked a b = (a ≡ b) ⊎ AreCellsConnected j m (start a) (start b)
 
   linking : IsLinking Linked
   linking = record {
@@ -107,7 +107,7 @@ module _ (j : Joining) (m : Grid) (starts : List Position) (label_of : Position 
       let step = AreJoined-adjacent j m h.one h.other h.category h.adjacent h.first h.second in
       let joined = AreJoined-trans j m (start (label_of h.one)) h.one (start (label_of h.other)) one
       (AreJoined-trans j m h.one h.other (start (label_of h.other)) step (AreJoined-sym j m (start (label_of h.other)) h.other other)) in
-      inr (subst (λ (n : ℕ). AreJoined j m (start n) (start b)) (sym h.first_label) (subst (λ (n : ℕ). AreJoined j m (start (label_of h.one)) (start n)) (sym h.second_label) joined))
+      inr (subst (λ (n : ℕ). AreCellsConnected j m (start n) (start b)) (sym h.first_label) (subst (λ (n : ℕ). AreCellsConnected j m (start (label_of h.one)) (start n)) (sym h.second_label) joined))
 
   linked : (k : ℕ) → Linked k (f k)
   linked k = after_all-linked Linked linking pairs (λ n. n) (λ n. inl refl) pair-linked k
@@ -118,18 +118,18 @@ module _ (j : Joining) (m : Grid) (starts : List Position) (label_of : Position 
       (λ paired. ⊎_elim (λ c. after_all-meets pairs (λ n. n) (label_of p) (label_of q) c) (λ c. sym (after_all-meets pairs (λ n. n) (label_of q) (label_of p) c)) paired)
       (labelled.meet p q v near one other)
 
-  same-open : (p q : Position) → AreJoined j m p q → f (label_of p) ≡ f (label_of q)
+  same-open : (p q : Position) → AreCellsConnected j m p q → f (label_of p) ≡ f (label_of q)
   same-open p q joined = AreJoined-along j m (λ s. f (label_of s)) met p q joined
 
-  to-first : (p : Position) → IsSome (cell_at_position m p) → AreJoined j m (start (f (label_of p))) p
+  to-first : (p : Position) → IsSome (cell_at_position m p) → AreCellsConnected j m (start (f (label_of p))) p
   to-first p some =
-      ⊎_elim (λ e. subst (λ (n : ℕ). AreJoined j m (start n) p) e (joined-to p some))
+      ⊎_elim (λ e. subst (λ (n : ℕ). AreCellsConnected j m (start n) p) e (joined-to p some))
       (λ far. AreJoined-trans j m (start (f (label_of p))) (start (label_of p)) p (AreJoined-sym j m (start (label_of p)) (start (f (label_of p))) far) (joined-to p some))
       (linked (label_of p))
 
   -- ---- open labels of a table
 
-  module _ (table : List ℕ) (lead : LeadTo table f) (size : length table ≡ length starts) where
+  module _ (table : List ℕ) (lead : AreRootsOfLabels table f) (size : length table ≡ length starts) where
     inside : (p : Position) → IsSome (cell_at_position m p) → label_of p < length table
     inside p some = omega (arith, size, labelled.few p some)
 
@@ -137,13 +137,13 @@ module _ (j : Joining) (m : Grid) (starts : List Position) (label_of : Position 
     low p some = lead.reports.low (label_of p) (inside p some)
 
     start-some : (k : ℕ) → k < length table → IsSome (cell_at_position m (start k))
-    start-some k lt = labelled.cells k (position 0 0) (omega (arith, size, lt))
+    start-some k lt = labelled.cells k (position_at_row_and_column 0 0) (omega (arith, size, lt))
 
     label-own : (k : ℕ) → k < length table → label_of (start k) ≡ k
-    label-own k lt = labelled.own k (position 0 0) (omega (arith, size, lt))
+    label-own k lt = labelled.own k (position_at_row_and_column 0 0) (omega (arith, size, lt))
 
     starts-before : (i n : ℕ) → i < n → n < length table → IsEarlierCell (start i) (start n)
-    starts-before i n lt le = labelled.in_order i n (position 0 0) lt (omega (arith, size, le))
+    starts-before i n lt le = labelled.in_order i n (position_at_row_and_column 0 0) lt (omega (arith, size, le))
 
     open-is-first : (p : Position) → IsSome (cell_at_position m p) → is_open table (f (label_of p)) ≡ true
     open-is-first p some = eq-eqb _ _ (lead.reports.is_open (label_of p) (inside p some))
@@ -158,7 +158,7 @@ module _ (j : Joining) (m : Grid) (starts : List Position) (label_of : Position 
         (cases_lt k (label_of p))))
         (cases_lt (label_of p) k)
 
-    first-from : (k : ℕ) → k < length table → is_open table k ≡ true → IsFirst j m (start k)
+    first-from : (k : ℕ) → k < length table → is_open table k ≡ true → IsFirstCellOfClump j m (start k)
     first-from k lt is =
         let own : f k ≡ k = lead.reports.itself k lt (eqb-true _ _ is) in
         record {
@@ -170,7 +170,7 @@ module _ (j : Joining) (m : Grid) (starts : List Position) (label_of : Position 
               absurd (omega (arith, less, same, low q some));
         }
 
-    first-is : (p : Position) → IsFirst j m p → start (f (label_of p)) ≡ p
+    first-is : (p : Position) → IsFirstCellOfClump j m p → start (f (label_of p)) ≡ p
     first-is p first =
         ⊎_elim (λ e. e)
         (λ apart. ⊎_elim (λ before. absurd (first.none_before (start (f (label_of p))) before (to-first p first.category)))
@@ -190,7 +190,7 @@ module _ (j : Joining) (m : Grid) (starts : List Position) (label_of : Position 
         (cases_Bool (is_open table n))
 
     -- the label of a first cell leads to itself
-    first-own : (p : Position) → IsFirst j m p → label_of p ≡ f (label_of p)
+    first-own : (p : Position) → IsFirstCellOfClump j m p → label_of p ≡ f (label_of p)
     first-own p first =
         let below = low p first.category in
         let in_table = inside p first.category in
@@ -198,7 +198,7 @@ module _ (j : Joining) (m : Grid) (starts : List Position) (label_of : Position 
 
     -- a cell has the number of its label
     pub has-number : (p : Position) → IsSome (cell_at_position m p)
-        → HasNumber j m p (label_number table (f (label_of p)))
+        → HasClumpNumber j m p (root_count_up_to_label table (f (label_of p)))
     has-number p some =
         let g : ℕ = f (label_of p) in
         let below = low p some in
@@ -215,7 +215,7 @@ module _ (j : Joining) (m : Grid) (starts : List Position) (label_of : Position 
               λ within.
                   let s = below-some start table (suc g) q within in
                   let s_in : s.0 < length table = omega (arith, s.1, g_in) in (
-                    subst (λ (x : Position). IsFirst j m x) (sym s.2) (first-from s.0 s_in s.3),
+                    subst (λ (x : Position). IsFirstCellOfClump j m x) (sym s.2) (first-from s.0 s_in s.3),
                     λ before.
                         let back = label-before s.0 (start g) s_in (start-some g g_in) (subst (λ (x : Position). IsEarlierCell (start g) x) s.2 before) in
                         let there = label-own g g_in in
@@ -234,8 +234,8 @@ module _ (j : Joining) (m : Grid) (starts : List Position) (label_of : Position 
           count = firsts-count start table (suc g);
         }
 
-    -- there are as many open labels as areas
-    pub all-firsts : (firsts : List Position) × AreFirsts j m firsts × (length firsts ≡ length (open_below table (length table)))
+    -- there are as many open labels as clumps
+    pub all-firsts : (firsts : List Position) × AreFirstCellsOfAllClumps j m firsts × (length firsts ≡ length (root_labels_below table (length table)))
     all-firsts = (
       firsts-below start table (length table),
       record {
@@ -243,7 +243,7 @@ module _ (j : Joining) (m : Grid) (starts : List Position) (label_of : Position 
         exactly = λ q. (
           λ within.
               let s = below-some start table (length table) q within in
-              subst (λ (x : Position). IsFirst j m x) (sym s.2) (first-from s.0 s.1 s.3),
+              subst (λ (x : Position). IsFirstCellOfClump j m x) (sym s.2) (first-from s.0 s.1 s.3),
           λ first.
               let own = first-own q first in
               let here : start (label_of q) ≡ q = ap start own ∙ first-is q first in

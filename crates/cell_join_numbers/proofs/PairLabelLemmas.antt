@@ -6,9 +6,9 @@ use Rattle.std.proofs.Math.Seq.{take-append_seam}
 use Rattle.std.specs.List.{AllPairs}
 use Rattle.std.proofs.lemmas.List.{get_or_append_left, get_or_push}
 use Rattle.std.proofs.lemmas.List.Elements.{Contains-get_or}
-use Rattle.cell_join_numbers.specs.UnionFind.{LeadTo}
-use Rattle.cell_join_numbers.specs.SparseLabels.{AreTouching}
-use Rattle.cell_join_numbers.specs.SparseNumbers.{labels_of_pairs, AreLabelsOf}
+use Rattle.cell_join_numbers.specs.UnionFind.{AreRootsOfLabels}
+use Rattle.cell_join_numbers.specs.SparseLabels.{IncludesLabelsOfPairs}
+use Rattle.cell_join_numbers.specs.SparseNumbers.{labels_of_pairs, AreLabelsOfPairs}
 
 pub labels-append : (xs ys : List (ℕ × ℕ)) → labels_of_pairs (xs ++ ys) ≡ labels_of_pairs xs ++ labels_of_pairs ys
 labels-append [] ys = refl
@@ -28,7 +28,7 @@ pair-labels (x ∷ pairs) (suc i) d lt =
     let e = t.other in
     record { one = (suc (suc c.0), omega (arith, c.1), c.2); other = (suc (suc e.0), omega (arith, e.1), e.2) }
 
-pub all-paired : (pairs : List (ℕ × ℕ)) (paired : List ℕ) → AreLabelsOf pairs paired → All (λ pair. Contains paired pair.0 × Contains paired pair.1) pairs
+pub all-paired : (pairs : List (ℕ × ℕ)) (paired : List ℕ) → AreLabelsOfPairs pairs paired → All (λ pair. Contains paired pair.0 × Contains paired pair.1) pairs
 all-paired pairs paired are i d lt =
     let t = pair-labels pairs i d lt in
     ((are (get_or pairs i d).0).1 t.one, (are (get_or pairs i d).1).1 t.other)
@@ -40,12 +40,12 @@ labels-few n (x ∷ pairs) few (suc zero) l lt is = let t = few 0 x (omega arith
 labels-few n (x ∷ pairs) few (suc (suc i)) l lt is =
     labels-few n pairs (λ k d inside. few (suc k) d (omega (arith, inside))) i l (omega (arith, lt)) is
 
-pub few-paired : (n : ℕ) (pairs : List (ℕ × ℕ)) (paired : List ℕ) → All (λ pair. (pair.0 < n) × (pair.1 < n)) pairs → AreLabelsOf pairs paired → All (λ l. l < n) paired
+pub few-paired : (n : ℕ) (pairs : List (ℕ × ℕ)) (paired : List ℕ) → All (λ pair. (pair.0 < n) × (pair.1 < n)) pairs → AreLabelsOfPairs pairs paired → All (λ l. l < n) paired
 few-paired n pairs paired few are i d lt =
     let c = (are (get_or paired i d)).0 (Contains-get_or paired i d lt) in
     labels-few n pairs few c.0 (get_or paired i d) c.1 c.2
 
-pub are-touching : (n : ℕ) (pairs : List (ℕ × ℕ)) (paired : List ℕ) → AllPairs ◌<◌ paired → AreLabelsOf pairs paired → All (λ pair. (pair.0 < n) × (pair.1 < n)) pairs → AreTouching n pairs paired
+pub are-touching : (n : ℕ) (pairs : List (ℕ × ℕ)) (paired : List ℕ) → AllPairs ◌<◌ paired → AreLabelsOfPairs pairs paired → All (λ pair. (pair.0 < n) × (pair.1 < n)) pairs → IncludesLabelsOfPairs n pairs paired
 are-touching n pairs paired order are few = record { in_order = order; few = few-paired n pairs paired few are; paired = all-paired pairs paired are }
 
 -- each element of a list is at most the sum of the list
@@ -54,11 +54,11 @@ element-le [] i d lt = absurd (omega (arith, lt))
 element-le (x ∷ xs) zero d lt = omega (arith, sum_by-cons (λ (n : ℕ). n) x xs)
 element-le (x ∷ xs) (suc i) d lt = omega (arith, sum_by-cons (λ (n : ℕ). n) x xs, element-le xs i d (omega (arith, lt)))
 
-pub all-touching : (pairs : List (ℕ × ℕ)) (paired : List ℕ) → AllPairs ◌<◌ paired → AreLabelsOf pairs paired → AreTouching (suc (sum paired)) pairs paired
+pub all-touching : (pairs : List (ℕ × ℕ)) (paired : List ℕ) → AllPairs ◌<◌ paired → AreLabelsOfPairs pairs paired → IncludesLabelsOfPairs (suc (sum paired)) pairs paired
 all-touching pairs paired order are = record { in_order = order; few = λ i d lt. omega (arith, element-le paired i d lt); paired = all-paired pairs paired are }
 
 -- in an empty table, each label leads to itself
-pub no-labels : LeadTo [] (λ k. k)
+pub no-labels : AreRootsOfLabels [] (λ k. k)
 no-labels = record {
   reports = record {
     points = λ k lt. absurd (omega (arith, lt));

@@ -8,27 +8,30 @@ use Rattle.std.proofs.lemmas.Bool.{lt-ltb, le-ltb, cases_lt, cases_order, ne_eqb
 use Rattle.std.proofs.lemmas.List.{get_or_default}
 use Rattle.std.proofs.lemmas.List.Elements.{All-head, All-tail}
 use Rattle.cell_join_numbers.proofs.CountLemmas.{one-if, count_by-cons}
-use Rattle.cell_join_numbers.specs.SparseLabels.{labels_before, is_touching}
+use Rattle.cell_join_numbers.specs.SparseLabels.{paired_label_count_before_label, is_paired_label}
 
 -- ---- one more label
 
-before-cons : (t : ℕ) (ts : List ℕ) (l : ℕ) → labels_before (t ∷ ts) l ≡ one-if (ltb t l) + labels_before ts l
+before-cons : (t : ℕ) (ts : List ℕ) (l : ℕ) → paired_label_count_before_label (t ∷ ts) l
+    ≡ one-if (ltb t l) + paired_label_count_before_label ts l
 before-cons t ts l = count_by-cons (λ k. ltb k l) t ts
 
-before-yes : (t : ℕ) (ts : List ℕ) (l : ℕ) → t < l → labels_before (t ∷ ts) l ≡ labels_before ts l + 1
+before-yes : (t : ℕ) (ts : List ℕ) (l : ℕ) → t < l → paired_label_count_before_label (t ∷ ts) l
+    ≡ paired_label_count_before_label ts l + 1
 before-yes t ts l lt =
     let one : one-if (ltb t l) ≡ 1 = ap one-if (lt-ltb t l lt) in omega (arith, one, before-cons t ts l)
 
-before-no : (t : ℕ) (ts : List ℕ) (l : ℕ) → l ≤ t → labels_before (t ∷ ts) l ≡ labels_before ts l
+before-no : (t : ℕ) (ts : List ℕ) (l : ℕ) → l ≤ t → paired_label_count_before_label (t ∷ ts) l
+    ≡ paired_label_count_before_label ts l
 before-no t ts l le =
     let none : one-if (ltb t l) ≡ 0 = ap one-if (le-ltb t l le) in omega (arith, none, before-cons t ts l)
 
-before-none : (ts : List ℕ) (l : ℕ) → All (λ t. l ≤ t) ts → labels_before ts l ≡ 0
+before-none : (ts : List ℕ) (l : ℕ) → All (λ t. l ≤ t) ts → paired_label_count_before_label ts l ≡ 0
 before-none [] l all = refl
 before-none (t ∷ ts) l all =
     before-no t ts l (All-head (λ k. l ≤ k) t ts all) ∙ before-none ts l (All-tail (λ k. l ≤ k) t ts all)
 
-pub before-all : (ts : List ℕ) (l : ℕ) → All (λ t. t < l) ts → labels_before ts l ≡ length ts
+pub before-all : (ts : List ℕ) (l : ℕ) → All (λ t. t < l) ts → paired_label_count_before_label ts l ≡ length ts
 before-all [] l all = refl
 before-all (t ∷ ts) l all =
     let here = before-yes t ts l (All-head (λ k. k < l) t ts all) in
@@ -43,7 +46,8 @@ later-order t ts order i k d less within = order (suc i) (suc k) d (omega (arith
 
 -- ---- the places of labels
 
-pub place-is : (ts : List ℕ) → AllPairs ◌<◌ ts → (r d : ℕ) → r < length ts → labels_before ts (get_or ts r d) ≡ r
+pub place-is : (ts : List ℕ) → AllPairs ◌<◌ ts → (r d : ℕ) → r < length ts
+    → paired_label_count_before_label ts (get_or ts r d) ≡ r
 place-is [] order r d within = absurd (omega (arith, within))
 place-is (t ∷ ts) order zero d within =
     before-no t ts t (omega arith)
@@ -53,44 +57,46 @@ place-is (t ∷ ts) order (suc r) d within =
     let here = before-yes t ts (get_or ts r d) (later-greater t ts order r d inside) in
     omega (arith, here, place-is ts (later-order t ts order) r d inside)
 
-pub touching-at : (ts : List ℕ) (r d : ℕ) → r < length ts → is_touching ts (get_or ts r d) ≡ true
+pub touching-at : (ts : List ℕ) (r d : ℕ) → r < length ts → is_paired_label ts (get_or ts r d) ≡ true
 touching-at [] r d within = absurd (omega (arith, within))
-touching-at (t ∷ ts) zero d within = ap (λ b. b || is_touching ts t) (eq-eqb t t refl)
+touching-at (t ∷ ts) zero d within = ap (λ b. b || is_paired_label ts t) (eq-eqb t t refl)
 touching-at (t ∷ ts) (suc r) d within =
-    or_right (eqb (get_or ts r d) t) (is_touching ts (get_or ts r d)) (touching-at ts r d (omega (arith, within)))
+    or_right (eqb (get_or ts r d) t) (is_paired_label ts (get_or ts r d)) (touching-at ts r d (omega (arith, within)))
 
 -- a label in the list, with its place
 pub record HasPlace (ts : List ℕ) (l : ℕ) : Type 0 where
-  pub inside : labels_before ts l < length ts
-  pub label : get_or ts (labels_before ts l) 0 ≡ l
+  pub inside : paired_label_count_before_label ts l < length ts
+  pub label : get_or ts (paired_label_count_before_label ts l) 0 ≡ l
 
 pub contained-place : (ts : List ℕ) → AllPairs ◌<◌ ts → (l : ℕ) → Contains ts l → HasPlace ts l
 contained-place ts order l c =
-    let place : labels_before ts l ≡ c.0 = ap (labels_before ts) (sym c.2) ∙ place-is ts order c.0 l c.1 in
+    let place : paired_label_count_before_label ts l ≡ c.0 = ap (paired_label_count_before_label ts) (sym c.2)
+    ∙ place-is ts order c.0 l c.1 in
     record {
       inside = omega (arith, place, c.1);
       label = ap (λ (k : ℕ). get_or ts k 0) place ∙ get_or_default ts c.0 0 l c.1 ∙ c.2;
     }
 
-touching-contained : (ts : List ℕ) (l : ℕ) → is_touching ts l ≡ true → Contains ts l
+touching-contained : (ts : List ℕ) (l : ℕ) → is_paired_label ts l ≡ true → Contains ts l
 touching-contained [] l is = cc
 touching-contained (t ∷ ts) l is = by (touching-contained ts l) (eqb l t) refl is
   where
-    by : (is_touching ts l ≡ true → Contains ts l) → (b : Bool) → eqb l t ≡ b → (b || is_touching ts l) ≡ true →
+    by : (is_paired_label ts l ≡ true → Contains ts l) → (b : Bool) → eqb l t ≡ b → (b || is_paired_label ts l) ≡ true →
         Contains (t ∷ ts) l
     by rest true e either = (0, omega arith, sym (eqb-true l t e))
     by rest false e either = let later = rest either in (suc later.0, omega (arith, later.1), later.2)
 
-pub touching-place : (ts : List ℕ) → AllPairs ◌<◌ ts → (l : ℕ) → is_touching ts l ≡ true → HasPlace ts l
+pub touching-place : (ts : List ℕ) → AllPairs ◌<◌ ts → (l : ℕ) → is_paired_label ts l ≡ true → HasPlace ts l
 touching-place ts order l is = contained-place ts order l (touching-contained ts l is)
 
 -- ---- the next label
 
-not-first : (t : ℕ) (ts : List ℕ) (l : ℕ) → (l ≡ t → ⊥) → one-if (is_touching (t ∷ ts) l) ≡ one-if (is_touching ts l)
-not-first t ts l ne = ap (λ b. one-if (b || is_touching ts l)) (ne_eqb l t ne)
+not-first : (t : ℕ) (ts : List ℕ) (l : ℕ) → (l ≡ t → ⊥) → one-if (is_paired_label (t ∷ ts) l)
+    ≡ one-if (is_paired_label ts l)
+not-first t ts l ne = ap (λ b. one-if (b || is_paired_label ts l)) (ne_eqb l t ne)
 
 pub next-before : (ts : List ℕ) → AllPairs ◌<◌ ts → (l : ℕ) →
-    labels_before ts (suc l) ≡ labels_before ts l + one-if (is_touching ts l)
+    paired_label_count_before_label ts (suc l) ≡ paired_label_count_before_label ts l + one-if (is_paired_label ts l)
 next-before [] order l = refl
 next-before (t ∷ ts) order l =
     let rest = next-before ts (later-order t ts order) l in
@@ -98,8 +104,8 @@ next-before (t ∷ ts) order l =
     (λ same.
     let above : All (λ s. suc l ≤ s) ts = λ k d within.
     let lt = later-greater t ts order k d within in omega (arith, lt, same) in
-    let one : one-if (is_touching (t ∷ ts) l) ≡ 1 =
-    ap (λ b. one-if (b || is_touching ts l)) (eq-eqb l t (sym same)) in
+    let one : one-if (is_paired_label (t ∷ ts) l) ≡ 1 =
+    ap (λ b. one-if (b || is_paired_label ts l)) (eq-eqb l t (sym same)) in
     let there = before-yes t ts (suc l) (omega (arith, same)) in
     let here = before-no t ts l (omega (arith, same)) in
     let none = before-none ts (suc l) above in
@@ -117,13 +123,13 @@ next-before (t ∷ ts) order l =
     apart)
     (cases_order t l)
 
-pub before-zero : (ts : List ℕ) → labels_before ts 0 ≡ 0
+pub before-zero : (ts : List ℕ) → paired_label_count_before_label ts 0 ≡ 0
 before-zero ts = before-none ts 0 (λ k d within. omega arith)
 
-pub few-before : (ts : List ℕ) → AllPairs ◌<◌ ts → (l : ℕ) → labels_before ts l ≤ l
+pub few-before : (ts : List ℕ) → AllPairs ◌<◌ ts → (l : ℕ) → paired_label_count_before_label ts l ≤ l
 few-before ts order zero = omega (arith, before-zero ts)
 few-before ts order (suc l) =
-    omega (arith, next-before ts order l, few-before ts order l, at-most-one (is_touching ts l))
+    omega (arith, next-before ts order l, few-before ts order l, at-most-one (is_paired_label ts l))
   where
     at-most-one : (b : Bool) → one-if b ≤ 1
     at-most-one true = omega arith

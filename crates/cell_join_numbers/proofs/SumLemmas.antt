@@ -7,12 +7,12 @@ use Rattle.std.proofs.lemmas.Bool.{le-leb, leb-true, lt-ltb, le-ltb}
 use Rattle.std.proofs.lemmas.List.Sums.{sum_by-append}
 use Rattle.std.proofs.lemmas.List.Elements.{All-head, All-tail}
 use Rattle.cell_core.specs.Grid.{Grid}
-use Rattle.cell_stats_combinations.specs.Combinations.{Combination, combination_cmp, combination_at}
-use Rattle.cell_stats_counts.specs.Counts.{count_of}
+use Rattle.cell_stats_combinations.specs.Combinations.{Combination, combination_cmp, combination_at_row_and_column}
+use Rattle.cell_stats_counts.specs.Counts.{cell_count_of_combination}
 use Rattle.cell_stats_counts.proofs.CountLemmas.{count-append}
 use Rattle.cell_stats.proofs.TableLemmas.{count_cons}
-use Rattle.cell_join_numbers.specs.Parts.{Rectangle, is_in, IsPart}
-use Rattle.cell_join_numbers.specs.TableParts.{Part, combinations_of_part, PartsAddUp}
+use Rattle.cell_join_numbers.specs.Parts.{Rectangle, cell_is_in_rectangle, MapsAreTileOfFullMaps}
+use Rattle.cell_join_numbers.specs.TableParts.{TileOfMaps, combinations_of_tile, TileCountsAddUp}
 use Rattle.cell_join_numbers.proofs.BlockLemmas.{block, part-block}
 
 -- ---- sums along a line
@@ -86,16 +86,16 @@ line-within g a n total fits =
 abbrev total : (ℕ → ℕ → ℕ) → ℕ → ℕ → ℕ → ℕ → ℕ
 total f top rows left cols = line (λ row. line (f row) left cols) top rows
 
-total-within : (f : ℕ → ℕ → ℕ) (r : Rectangle) (rows cols : ℕ) → r.top + r.rows ≤ rows → r.left + r.cols ≤ cols → total f r.top r.rows r.left r.cols ≡ total (λ row col. cond (is_in r row col) (f row col) 0) 0 rows 0 cols
+total-within : (f : ℕ → ℕ → ℕ) (r : Rectangle) (rows cols : ℕ) → r.top + r.rows ≤ rows → r.left + r.cols ≤ cols → total f r.top r.rows r.left r.cols ≡ total (λ row col. cond (cell_is_in_rectangle r row col) (f row col) 0) 0 rows 0 cols
 total-within f r rows cols high wide =
     line-within (λ row. line (f row) r.left r.cols) r.top r.rows rows high
-    ∙ line-same (λ row. cond (among r.top r.rows row) (line (f row) r.left r.cols) 0) (λ row. line (λ col. cond (is_in r row col) (f row col) 0) 0 cols) 0 rows (λ row le lt. by row (among r.top r.rows row) refl)
+    ∙ line-same (λ row. cond (among r.top r.rows row) (line (f row) r.left r.cols) 0) (λ row. line (λ col. cond (cell_is_in_rectangle r row col) (f row col) 0) 0 cols) 0 rows (λ row le lt. by row (among r.top r.rows row) refl)
   where
-    by : (row : ℕ) (b : Bool) → among r.top r.rows row ≡ b → cond b (line (f row) r.left r.cols) 0 ≡ line (λ col. cond (is_in r row col) (f row col) 0) 0 cols
+    by : (row : ℕ) (b : Bool) → among r.top r.rows row ≡ b → cond b (line (f row) r.left r.cols) 0 ≡ line (λ col. cond (cell_is_in_rectangle r row col) (f row col) 0) 0 cols
     by row true e =
         line-within (f row) r.left r.cols cols wide
-        ∙ line-same (λ col. cond (among r.left r.cols col) (f row col) 0) (λ col. cond (is_in r row col) (f row col) 0) 0 cols (λ col le lt. ap (λ b. cond (b && among r.left r.cols col) (f row col) 0) (sym e))
-    by row false e = sym (line-none (λ col. cond (is_in r row col) (f row col) 0) 0 cols (λ col le lt. ap (λ b. cond (b && among r.left r.cols col) (f row col) 0) e))
+        ∙ line-same (λ col. cond (among r.left r.cols col) (f row col) 0) (λ col. cond (cell_is_in_rectangle r row col) (f row col) 0) 0 cols (λ col le lt. ap (λ b. cond (b && among r.left r.cols col) (f row col) 0) (sym e))
+    by row false e = sym (line-none (λ col. cond (cell_is_in_rectangle r row col) (f row col) 0) 0 cols (λ col le lt. ap (λ b. cond (b && among r.left r.cols col) (f row col) 0) e))
 
 total-same : (f h : ℕ → ℕ → ℕ) (rows cols : ℕ) → ((row col : ℕ) → row < rows → col < cols → f row col ≡ h row col) → total f 0 rows 0 cols ≡ total h 0 rows 0 cols
 total-same f h rows cols same =
@@ -113,20 +113,21 @@ total-add f h rows cols =
 -- ---- counts as sums
 
 abbrev one-at : (whole : List Grid) (picks : List ℕ) (k : Combination) → ℕ → ℕ → ℕ
-one-at whole picks k row col = cond (eq_by_cmp combination_cmp k (combination_at whole picks row col)) 1 0
+one-at whole picks k row col = cond (eq_by_cmp combination_cmp k
+    (combination_at_row_and_column whole picks row col)) 1 0
 
-pub count-line : (f : ℕ → Combination) (k : Combination) (a n : ℕ) → count_of k (map f (range_with_len a n)) ≡ line (λ i. cond (eq_by_cmp combination_cmp k (f i)) 1 0) a n
+pub count-line : (f : ℕ → Combination) (k : Combination) (a n : ℕ) → cell_count_of_combination k (map f (range_with_len a n)) ≡ line (λ i. cond (eq_by_cmp combination_cmp k (f i)) 1 0) a n
 count-line f k a zero = refl
 count-line f k a (suc n) = count_cons k (f a) (map f (range_with_len (a + 1) n)) ∙ ap (λ m. cond (eq_by_cmp combination_cmp k (f a)) 1 0 + m) (count-line f k (a + 1) n)
 
-pub count-lines : (f : ℕ → List Combination) (k : Combination) (a n : ℕ) → count_of k (flat_map f (range_with_len a n)) ≡ line (λ i. count_of k (f i)) a n
+pub count-lines : (f : ℕ → List Combination) (k : Combination) (a n : ℕ) → cell_count_of_combination k (flat_map f (range_with_len a n)) ≡ line (λ i. cell_count_of_combination k (f i)) a n
 count-lines f k a zero = refl
-count-lines f k a (suc n) = count-append k (f a) (flat_map f (range_with_len (a + 1) n)) ∙ ap (λ m. count_of k (f a) + m) (count-lines f k (a + 1) n)
+count-lines f k a (suc n) = count-append k (f a) (flat_map f (range_with_len (a + 1) n)) ∙ ap (λ m. cell_count_of_combination k (f a) + m) (count-lines f k (a + 1) n)
 
-count-block : (whole : List Grid) (picks : List ℕ) (k : Combination) (top rows left cols : ℕ) → count_of k (block whole picks top rows left cols) ≡ total (one-at whole picks k) top rows left cols
+count-block : (whole : List Grid) (picks : List ℕ) (k : Combination) (top rows left cols : ℕ) → cell_count_of_combination k (block whole picks top rows left cols) ≡ total (one-at whole picks k) top rows left cols
 count-block whole picks k top rows left cols =
-    count-lines (λ row. map (combination_at whole picks row) (range_with_len left cols)) k top rows
-    ∙ line-same (λ row. count_of k (map (combination_at whole picks row) (range_with_len left cols))) (λ row. line (one-at whole picks k row) left cols) top rows (λ row le lt. count-line (combination_at whole picks row) k left cols)
+    count-lines (λ row. map (combination_at_row_and_column whole picks row) (range_with_len left cols)) k top rows
+    ∙ line-same (λ row. cell_count_of_combination k (map (combination_at_row_and_column whole picks row) (range_with_len left cols))) (λ row. line (one-at whole picks k row) left cols) top rows (λ row le lt. count-line (combination_at_row_and_column whole picks row) k left cols)
 
 -- ---- parts
 
@@ -135,45 +136,46 @@ sum-cons f x xs = sum_by-append f (x ∷ []) xs ∙ ap (λ n. n + sum_by f xs) (
 
 module _ (rows cols : ℕ) (whole : List Grid) (picks : List ℕ) (k : Combination) where
   -- the value that a part adds at a cell
-  abbrev adds : ℕ → ℕ → Part → ℕ
-  adds row col part = cond (is_in part.place row col) (one-at whole picks k row col) 0
+  abbrev adds : ℕ → ℕ → TileOfMaps → ℕ
+  adds row col part = cond (cell_is_in_rectangle part.place row col) (one-at whole picks k row col) 0
 
-  part-total : (part : Part) → (part.place.top + part.place.rows ≤ rows) × (part.place.left + part.place.cols ≤ cols) → IsPart part.place whole part.maps → count_of k (combinations_of_part picks part) ≡ total (λ row col. adds row col part) 0 rows 0 cols
+  part-total : (part : TileOfMaps) → (part.place.top + part.place.rows ≤ rows) × (part.place.left + part.place.cols ≤ cols) → MapsAreTileOfFullMaps part.place whole part.maps → cell_count_of_combination k (combinations_of_tile picks part) ≡ total (λ row col. adds row col part) 0 rows 0 cols
   part-total part fits is =
-      ap (count_of k) (part-block part.place.top part.place.left part.place.rows part.place.cols whole part.maps is picks)
+      ap (cell_count_of_combination k) (part-block part.place.top part.place.left part.place.rows part.place.cols whole part.maps is picks)
       ∙ count-block whole picks k part.place.top part.place.rows part.place.left part.place.cols
       ∙ total-within (one-at whole picks k) part.place rows cols fits.0 fits.1
 
-  parts-total : (parts : List Part) → All (λ r. (r.top + r.rows ≤ rows) × (r.left + r.cols ≤ cols)) (map (λ part. part.place) parts) → All (λ part. IsPart part.place whole part.maps) parts → sum_by (λ part. count_of k (combinations_of_part picks part)) parts ≡ total (λ row col. sum_by (adds row col) parts) 0 rows 0 cols
+  parts-total : (parts : List TileOfMaps) → All (λ r. (r.top + r.rows ≤ rows) × (r.left + r.cols ≤ cols)) (map (λ part. part.place) parts) → All (λ part. MapsAreTileOfFullMaps part.place whole part.maps) parts → sum_by (λ part. cell_count_of_combination k (combinations_of_tile picks part)) parts ≡ total (λ row col. sum_by (adds row col) parts) 0 rows 0 cols
   parts-total [] fits are = sym (total-none rows cols)
   parts-total (part ∷ parts) fits are =
-      let here = part-total part (All-head (λ r. (r.top + r.rows ≤ rows) × (r.left + r.cols ≤ cols)) part.place (map (λ part. part.place) parts) fits) (All-head (λ part. IsPart part.place whole part.maps) part parts are) in
-      let rest = parts-total parts (All-tail (λ r. (r.top + r.rows ≤ rows) × (r.left + r.cols ≤ cols)) part.place (map (λ part. part.place) parts) fits) (All-tail (λ part. IsPart part.place whole part.maps) part parts are) in
-      sum-cons (λ part. count_of k (combinations_of_part picks part)) part parts
-      ∙ ap (λ n. n + sum_by (λ part. count_of k (combinations_of_part picks part)) parts) here
+      let here = part-total part (All-head (λ r. (r.top + r.rows ≤ rows) × (r.left + r.cols ≤ cols)) part.place (map (λ part. part.place) parts) fits) (All-head (λ part. MapsAreTileOfFullMaps part.place whole part.maps) part parts are) in
+      let rest = parts-total parts (All-tail (λ r. (r.top + r.rows ≤ rows) × (r.left + r.cols ≤ cols)) part.place (map (λ part. part.place) parts) fits) (All-tail (λ part. MapsAreTileOfFullMaps part.place whole part.maps) part parts are) in
+      sum-cons (λ part. cell_count_of_combination k (combinations_of_tile picks part)) part parts
+      ∙ ap (λ n. n + sum_by (λ part. cell_count_of_combination k (combinations_of_tile picks part)) parts) here
       ∙ ap (λ n. total (λ row col. adds row col part) 0 rows 0 cols + n) rest
       ∙ sym (total-add (λ row col. adds row col part) (λ row col. sum_by (adds row col) parts) rows cols)
       ∙ total-same (λ row col. adds row col part + sum_by (adds row col) parts) (λ row col. sum_by (adds row col) (part ∷ parts)) rows cols (λ row col h w. sym (sum-cons (adds row col) part parts))
 
   -- at a cell, all parts together add the value of the part that contains the cell
-  adds-all : (row col : ℕ) (b : Bool) (parts : List Part) → sum_by (λ part. cond (is_in part.place row col) (cond b 1 0) 0) parts ≡ cond b (count_by (λ r. is_in r row col) (map (λ part. part.place) parts)) 0
+  adds-all : (row col : ℕ) (b : Bool) (parts : List TileOfMaps) → sum_by (λ part. cond (cell_is_in_rectangle part.place row col) (cond b 1 0) 0) parts ≡ cond b (count_by (λ r. cell_is_in_rectangle r row col) (map (λ part. part.place) parts)) 0
   adds-all row col true [] = refl
   adds-all row col false [] = refl
   adds-all row col true (part ∷ parts) =
-      sum-cons (λ part. cond (is_in part.place row col) 1 0) part parts
-      ∙ ap (λ n. cond (is_in part.place row col) 1 0 + n) (adds-all row col true parts)
-      ∙ sym (sum-cons (λ r. cond (is_in r row col) 1 0) part.place (map (λ part. part.place) parts))
+      sum-cons (λ part. cond (cell_is_in_rectangle part.place row col) 1 0) part parts
+      ∙ ap (λ n. cond (cell_is_in_rectangle part.place row col) 1 0 + n) (adds-all row col true parts)
+      ∙ sym (sum-cons (λ r. cond (cell_is_in_rectangle r row col) 1 0) part.place (map (λ part. part.place) parts))
   adds-all row col false (part ∷ parts) =
-      sum-cons (λ part. cond (is_in part.place row col) 0 0) part parts
-      ∙ ap (λ n. n + sum_by (λ part. cond (is_in part.place row col) 0 0) parts) (none (is_in part.place row col))
-      ∙ zero-add (sum_by (λ part. cond (is_in part.place row col) 0 0) parts)
+      sum-cons (λ part. cond (cell_is_in_rectangle part.place row col) 0 0) part parts
+      ∙ ap (λ n. n + sum_by (λ part. cond (cell_is_in_rectangle part.place row col) 0 0) parts)
+      (none (cell_is_in_rectangle part.place row col))
+      ∙ zero-add (sum_by (λ part. cond (cell_is_in_rectangle part.place row col) 0 0) parts)
       ∙ adds-all row col false parts
     where
       none : (b : Bool) → ◌≡◌ {A = ℕ} (cond b 0 0) 0
       none true = refl
       none false = refl
 
-pub parts-add-up : PartsAddUp
+pub parts-add-up : TileCountsAddUp
 parts-add-up rows cols whole parts are picks k =
     count-block whole picks k 0 rows 0 cols
     ∙ total-same (one-at whole picks k) (λ row col. sum_by (adds rows cols whole picks k row col) parts) rows cols (λ row col h w. sym (once row col h w))
@@ -181,5 +183,5 @@ parts-add-up rows cols whole parts are picks k =
   where
     once : (row col : ℕ) → row < rows → col < cols → sum_by (adds rows cols whole picks k row col) parts ≡ one-at whole picks k row col
     once row col h w =
-        let b = eq_by_cmp combination_cmp k (combination_at whole picks row col) in
+        let b = eq_by_cmp combination_cmp k (combination_at_row_and_column whole picks row col) in
         adds-all rows cols whole picks k row col b parts ∙ ap (λ n. cond b n 0) (are.tiling.once row col h w)

@@ -6,10 +6,11 @@ abbrev pub is_open : List ℕ → ℕ → Bool
 is_open table k = nat_eq (slice_index table k) k
 
 -- the open labels below a label
-abbrev pub open_below : List ℕ → ℕ → List ℕ
-open_below table zero = []
-open_below table (suc k) = if is_open table k then open_below table k ++ k ∷ [] else open_below table k
+abbrev pub root_labels_below : List ℕ → ℕ → List ℕ
+root_labels_below table zero = []
+root_labels_below table (suc k) = if is_open table k then root_labels_below table k ++ k
+    ∷ [] else root_labels_below table k
 
 -- the number of open labels up to and including `k`
-abbrev pub label_number : List ℕ → ℕ → ℕ
-label_number table k = length (open_below table (suc k))
+abbrev pub root_count_up_to_label : List ℕ → ℕ → ℕ
+root_count_up_to_label table k = length (root_labels_below table (suc k))

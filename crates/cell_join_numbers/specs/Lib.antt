@@ -5,7 +5,7 @@ pub mod LabelNumbers
 pub mod SparseLabels
 pub mod SparseNumbers
 pub mod Stretches
-pub mod AreaParts
+pub mod ClumpParts
 pub mod Merging
 pub mod Parts
 pub mod TableParts

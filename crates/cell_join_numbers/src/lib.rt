@@ -4,17 +4,17 @@
 //! that two of them are one clump of the full map. Only paired labels are held, with 24 bytes each; the numbers of all
 //! other labels follow by counting.
 //!
-//! - `numbers`: `number_pairs` computes `SparseNumbers` from pairs
+//! - `numbers`: `numbers_of_paired_labels` computes `SparseNumbers` from pairs
 //! - `sparse`: the paired labels, each once and in order; `place_of` counts the paired labels before a label
-//! - `stretch`: `Stretch`, a run: clumps of a tile with consecutive numbers in the full map
+//! - `stretch`: `ConsecutiveClumps`, a run: clumps of a tile with consecutive numbers in the full map
 //! - `union_find`: a table of the paired labels' nodes, two of which can be united
-//! - `law`: `sparse_labels_number`: the numbers equal the full map's clump numbers
+//! - `law`: `paired_labels_give_clump_numbers`: the numbers equal the full map's clump numbers
 //! - `tiles_law`: laws about tiles
 //!
 //! The main laws, in `tiles_law`, concern rectangles that cover each cell once:
-//! - `tables_merge`: the merge of the tables of the tiles is the table of the full map, and no
+//! - `merged_tile_tables_are_full_table`: the merge of the tables of the tiles is the table of the full map, and no
 //!   other list is
-//! - `areas_join`: two cells are in the same clump of the full map if and only if a chain of links
+//! - `paths_are_chains_of_tile_links`: two cells are in the same clump of the full map if and only if a chain of links
 //!   leads from one to the other; a link is a path within a tile, or a step across a seam
 //!
 //! specs/Parts.antt defines tiles, specs/Merging.antt merges, and specs/AreaParts.antt links.

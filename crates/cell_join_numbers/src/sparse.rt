@@ -1,12 +1,12 @@
 //! The paired labels, each once and in order, and the table of their nodes.
 
 ghost use Rattle.std.specs.Prelude.{◌≡◌, ◌<◌, AllPairs, IfOk, length, map};
-ghost use Rattle.cell_cats_areas.specs.parts.Labels.{PointDown};
-ghost use Rattle.cell_join_numbers.specs.UnionFind.{JoinsEach};
-ghost use Rattle.cell_join_numbers.specs.SparseLabels.{labels_before, pair_places};
-ghost use Rattle.cell_join_numbers.specs.SparseNumbers.{AreLabelsOf, labels_of_pairs};
+ghost use Rattle.cell_clumps.specs.parts.Labels.{LabelsPointToSmallerOrSelf};
+ghost use Rattle.cell_join_numbers.specs.UnionFind.{JoinsLabelsOfEachPair};
+ghost use Rattle.cell_join_numbers.specs.SparseLabels.{paired_label_count_before_label, places_of_label_pair};
+ghost use Rattle.cell_join_numbers.specs.SparseNumbers.{AreLabelsOfPairs, labels_of_pairs};
 
-use crate::union_find::unite;
+use crate::union_find::unite_nodes;
 use cell_core::memory::Memory;
 use std::alloc::Global;
 
@@ -25,7 +25,7 @@ fn labels_of_pairs(alloc: Global, pairs: &[(u64, u64)]) -> Result<Vec<u64>, Memo
 // Returns each paired label once, in order.
 pub(crate) fn paired_labels(alloc: Global, pairs: &[(u64, u64)]) -> Result<Vec<u64>, Memory>
     ensures ascending { IfOk result (λ paired. AllPairs ◌<◌ paired.items) }
-    ensures same { IfOk result (λ paired. AreLabelsOf pairs.now paired.items) }
+    ensures same { IfOk result (λ paired. AreLabelsOfPairs pairs.now paired.items) }
 {
     let mut paired = labels_of_pairs(alloc, pairs)?;
     paired.sort_unstable();
@@ -34,9 +34,9 @@ pub(crate) fn paired_labels(alloc: Global, pairs: &[(u64, u64)]) -> Result<Vec<u
 }
 
 /// Returns the number of labels in an ordered list that are less than a label.
-pub fn place_of(paired: &[u64], label: u64) -> usize
+pub fn place_in_paired_labels(paired: &[u64], label: u64) -> usize
     requires { AllPairs ◌<◌ paired.now }
-    ensures { result ≡ labels_before paired.now label }
+    ensures { result ≡ paired_label_count_before_label paired.now label }
 {
     match paired.binary_search(&label) {
         Ok(place) => place,
@@ -45,19 +45,20 @@ pub fn place_of(paired: &[u64], label: u64) -> usize
 }
 
 // Unites the nodes of each pair.
-pub(crate) fn unite_pairs(table: &mut [u64], paired: &[u64], pairs: &[(u64, u64)])
+pub(crate) fn unite_nodes_of_pairs(table: &mut [u64], paired: &[u64], pairs: &[(u64, u64)])
     requires in_order { AllPairs ◌<◌ paired.now }
     requires long { length table.old ≡ length paired.now }
-    requires all { AreLabelsOf pairs.now paired.now }
-    requires down { PointDown table.old }
-    ensures down { PointDown table.new }
-    ensures leads { JoinsEach (map (pair_places paired.now) pairs.now) table.old table.new }
+    requires all { AreLabelsOfPairs pairs.now paired.now }
+    requires down { LabelsPointToSmallerOrSelf table.old }
+    ensures down { LabelsPointToSmallerOrSelf table.new }
+    ensures leads { JoinsLabelsOfEachPair (map
+        (places_of_label_pair paired.now) pairs.now) table.old table.new }
 {
     for pair in pairs {
-        unite(
+        unite_nodes(
             table,
-            place_of(paired, pair.0) as u64,
-            place_of(paired, pair.1) as u64,
+            place_in_paired_labels(paired, pair.0) as u64,
+            place_in_paired_labels(paired, pair.1) as u64,
         );
     }
 }

@@ -4,7 +4,7 @@ ghost use Rattle.std.specs.Prelude.{◌≡◌, ◌==◌, ◌+◌};
 
 /// Clumps of a tile, from a first to a last clump, with consecutive numbers in the full map.
 #[derive(Clone, Copy, Debug, PartialEq, Eq)]
-pub struct Stretch {
+pub struct ConsecutiveClumps {
     /// The index of the tile, counted from 1.
     pub tile: u64,
     /// The number of the first clump in the tile, counted from 1.
@@ -16,7 +16,7 @@ pub struct Stretch {
 }
 
 /// Returns whether a number is one more than another number.
-pub fn is_next(previous: u64, number: u64) -> bool
+pub fn is_next_number(previous: u64, number: u64) -> bool
     ensures { result ≡ (number == previous + 1) }
 {
     match previous.checked_add(1) {

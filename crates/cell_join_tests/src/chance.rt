@@ -1,7 +1,7 @@
 //! Pseudo-random maps.
 
 use cell_core::memory::Memory;
-use cell_core_test_maps::maps::NULL;
+use cell_core_test_maps::maps::NULL_CATEGORY;
 use std::alloc::Global;
 
 /// Returns the next pseudo-random number (Knuth's multiplier).
@@ -21,7 +21,11 @@ pub(crate) fn categories_by(
     for _ in 0..count {
         *seed = next_random(*seed);
         let kind = (*seed >> 33) % kinds.max(1);
-        categories.push(if kind == 3 { NULL } else { kind as i32 })?;
+        categories.push(if kind == 3 {
+            NULL_CATEGORY
+        } else {
+            kind as i32
+        })?;
     }
     Ok(categories)
 }

@@ -3,7 +3,7 @@
 use crate::chance::categories_by;
 use crate::cuts::{pieces, ways};
 use crate::tiles::{Whole, expect_numbers, whole_numbers};
-use cell_cats_areas::clump::Joining;
+use cell_clumps::clump::Joining;
 use std::alloc::AllocGlobal;
 use std::process::Abort;
 use std::test::Fail;

@@ -2,7 +2,7 @@
 
 use crate::random::expect_as_whole;
 use crate::tiles::{Whole, joined_numbers};
-use cell_cats_areas::clump::Joining;
+use cell_clumps::clump::Joining;
 use cell_core_test_maps::assert_same;
 use std::alloc::AllocGlobal;
 use std::test::Fail;

@@ -2,13 +2,13 @@
 
 ghost use Rattle.std.specs.Prelude.{◌<◌, ◌≡◌};
 
-use cell_cats_areas::clump::{Joining, clump_with};
+use cell_clumps::clump::{Joining, clump_with};
 use cell_core::map::CellMap;
 use cell_core_test_maps::assert_same;
-use cell_core_test_maps::maps::{NULL, categories_of, map_of};
-use cell_join_numbers::stretch::Stretch;
-use cell_join_tiles::begun::begun_by_row;
-use cell_join_tiles::border::{Border, Side};
+use cell_core_test_maps::maps::{NULL_CATEGORY, categories_of_map, map_of_categories};
+use cell_join_numbers::stretch::ConsecutiveClumps;
+use cell_join_tiles::begun::begun_clump_counts_by_row;
+use cell_join_tiles::border::{TileBorder, TileSide};
 use cell_join_tiles::joiner::{JoinerFault, TileJoiner};
 use std::alloc::{AllocGlobal, Global};
 use std::process::Abort;
@@ -46,7 +46,13 @@ fn cut_out(
             let place = (top.saturating_add(row) as usize)
                 .saturating_mul(whole.cols as usize)
                 .saturating_add(left.saturating_add(col) as usize);
-            cells.push(whole.categories.get(place).copied().unwrap_or(NULL))?;
+            cells.push(
+                whole
+                    .categories
+                    .get(place)
+                    .copied()
+                    .unwrap_or(NULL_CATEGORY),
+            )?;
         }
     }
     Ok(cells)
@@ -59,10 +65,10 @@ fn side_of(
     numbers: &CellMap,
     row: Option<u32>,
     col: Option<u32>,
-) -> Result<Side, Fail>
+) -> Result<TileSide, Fail>
     requires { numbers.now.region ≡ map.now.region }
 {
-    let mut side = Side {
+    let mut side = TileSide {
         cells: Vec::new(alloc),
         numbers: Vec::new(alloc),
     };
@@ -83,21 +89,21 @@ fn tile_of(
     categories: &[i32],
     cols: u32,
     joining: Joining,
-) -> Result<(Border, Vec<i32>), Fail>
+) -> Result<(TileBorder, Vec<i32>), Fail>
     requires { 0 < cols }
 {
-    let map = map_of(alloc, categories, cols)?.ok_or("no map")?;
+    let map = map_of_categories(alloc, categories, cols)?.ok_or("no map")?;
     let clumps = clump_with(alloc, &map, joining)?;
     let last_row = map.region().rows().saturating_sub(1);
     let last_col = map.region().cols().saturating_sub(1);
-    let border = Border {
+    let border = TileBorder {
         first: side_of(alloc, &map, &clumps, Some(0), None)?,
         last: side_of(alloc, &map, &clumps, Some(last_row), None)?,
         left: side_of(alloc, &map, &clumps, None, Some(0))?,
         right: side_of(alloc, &map, &clumps, None, Some(last_col))?,
-        begun: begun_by_row(alloc, &clumps)?,
+        begun: begun_clump_counts_by_row(alloc, &clumps)?,
     };
-    Ok((border, categories_of(alloc, &clumps)?))
+    Ok((border, categories_of_map(alloc, &clumps)?))
 }
 
 // Returns the borders of the tiles in a row of tiles. Numbers the tiles after the previous tiles.
@@ -109,7 +115,7 @@ fn row_of_tiles(
     widths: &[u32],
     joining: Joining,
     numbered: &mut Vec<Numbered>,
-) -> Result<Vec<Border>, Fail> {
+) -> Result<Vec<TileBorder>, Fail> {
     let mut tiles = Vec::new(alloc);
     let mut left: u32 = 0;
     for width in widths {
@@ -131,7 +137,7 @@ fn row_of_tiles(
 }
 
 // Returns the full map's number for a tile's clump, from the runs of a numbering.
-fn number_in(runs: &[Stretch], part: u64, clump: u64) -> u64 {
+fn number_in(runs: &[ConsecutiveClumps], part: u64, clump: u64) -> u64 {
     for run in runs {
         if run.tile == part && run.first <= clump && clump <= run.last {
             return run.number.saturating_add(clump.saturating_sub(run.first));
@@ -141,7 +147,7 @@ fn number_in(runs: &[Stretch], part: u64, clump: u64) -> u64 {
 }
 
 // Writes the numbers of a tile's cells to their positions in the full map.
-fn put_numbers(found: &mut [u64], cols: u32, tile: &Numbered, runs: &[Stretch]) {
+fn put_numbers(found: &mut [u64], cols: u32, tile: &Numbered, runs: &[ConsecutiveClumps]) {
     let mut at: u32 = 0;
     for number in tile.numbers.as_slice() {
         let row = tile.top.saturating_add(at / tile.cols.max(1));
@@ -203,11 +209,11 @@ pub(crate) fn whole_numbers(
     if cols == 0 {
         return Err(Fail::from("no columns"));
     }
-    let map = map_of(alloc, whole.categories, cols)?.ok_or("no map")?;
+    let map = map_of_categories(alloc, whole.categories, cols)?.ok_or("no map")?;
     let clumps = clump_with(alloc, &map, joining)?;
     let mut found = Vec::new(alloc);
     let mut most = 0;
-    for number in &categories_of(alloc, &clumps)? {
+    for number in &categories_of_map(alloc, &clumps)? {
         let number = u64::try_from(*number).unwrap_or(0);
         most = most.max(number);
         found.push(number)?;

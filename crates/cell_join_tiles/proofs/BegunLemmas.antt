@@ -4,8 +4,8 @@ use Rattle.std.specs.Prelude.{sum, count_by, ◌==◌}
 use Rattle.std.specs.List.{AllPairs}
 use Rattle.std.proofs.lemmas.Bool.{cases_lt, cases_order, lt-ltb, le-ltb, eq-eqb, ne_eqb}
 use Rattle.std.proofs.lemmas.List.Sums.{sum_by-cons}
-use Rattle.cell_cats_areas.specs.Areas.{Position, IsEarlierCell}
-use Rattle.cell_join_tiles.specs.Beginnings.{Begun, begun_before}
+use Rattle.cell_clumps.specs.Clumps.{Position, IsEarlierCell}
+use Rattle.cell_join_tiles.specs.Beginnings.{BegunClumpCountsByRow, begun_clump_count_before_row}
 use Rattle.cell_join_tiles.proofs.StretchLemmas.{Lies}
 use Rattle.cell_join_tiles.proofs.LabelSums.{begun-next, all-of}
 
@@ -54,7 +54,7 @@ above-next (p ∷ firsts) i = by (above-next firsts i) (cases_order p.row i)
         omega (arith, rest, among-cons p firsts i, own, above-out p firsts (suc i) (omega (arith, more)), above-out p firsts i (omega (arith, more)))
 
 -- the counts of first cells per row add up to the number of first cells above a row
-pub counted-above : (firsts : List Position) (begun : Begun) (rows : ℕ) → ((i : ℕ) → i < rows → get_or begun i 0 ≡ among firsts i) → (i : ℕ) → i ≤ rows → begun_before begun i ≡ above firsts i
+pub counted-above : (firsts : List Position) (begun : BegunClumpCountsByRow) (rows : ℕ) → ((i : ℕ) → i < rows → get_or begun i 0 ≡ among firsts i) → (i : ℕ) → i ≤ rows → begun_clump_count_before_row begun i ≡ above firsts i
 counted-above firsts begun rows counts zero le = omega (arith, above-none firsts)
 counted-above firsts begun rows counts (suc i) le =
     omega (arith, begun-next begun i, above-next firsts i, counts i (omega (arith, le)), counted-above firsts begun rows counts i (omega (arith, le)))
@@ -94,7 +94,7 @@ parts (p ∷ firsts) order (suc k) i d lt =
 -- ---- the row of a clump
 
 -- the row in which a clump begins is the row of its first cell
-pub begun-at : (firsts : List Position) → AllPairs IsEarlierCell firsts → (begun : Begun) (rows : ℕ) → length begun ≡ rows → ((i : ℕ) → i < rows → get_or begun i 0 ≡ among firsts i) → (k : ℕ) (d : Position) → k < length firsts → (get_or firsts k d).row < rows → Lies begun k (get_or firsts k d).row
+pub begun-at : (firsts : List Position) → AllPairs IsEarlierCell firsts → (begun : BegunClumpCountsByRow) (rows : ℕ) → length begun ≡ rows → ((i : ℕ) → i < rows → get_or begun i 0 ≡ among firsts i) → (k : ℕ) (d : Position) → k < length firsts → (get_or firsts k d).row < rows → Lies begun k (get_or firsts k d).row
 begun-at firsts order begun rows long counts k d lt inside =
     let p : Position = get_or firsts k d in
     let own = parts firsts order k p.row d lt in
@@ -111,7 +111,7 @@ all-above [] i within = refl
 all-above (p ∷ firsts) i within =
     omega (arith, above-in p firsts i (within 0 p (omega arith)), all-above firsts i (λ k d lt. within (suc k) d (omega (arith, lt))))
 
-pub sum-begun : (firsts : List Position) (begun : Begun) (rows : ℕ) → length begun ≡ rows → ((i : ℕ) → i < rows → get_or begun i 0 ≡ among firsts i) → ((k : ℕ) (d : Position) → k < length firsts → (get_or firsts k d).row < rows) → sum begun ≡ length firsts
+pub sum-begun : (firsts : List Position) (begun : BegunClumpCountsByRow) (rows : ℕ) → length begun ≡ rows → ((i : ℕ) → i < rows → get_or begun i 0 ≡ among firsts i) → ((k : ℕ) (d : Position) → k < length firsts → (get_or firsts k d).row < rows) → sum begun ≡ length firsts
 sum-begun firsts begun rows long counts within =
     omega (
       arith,

@@ -4,15 +4,15 @@ use Rattle.std.specs.Prelude.{sum}
 use Rattle.std.specs.List.{AllPairs}
 use Rattle.std.proofs.lemmas.List.{get_or_default, get_or-map, length-map}
 use Rattle.cell_core.specs.Grid.{Grid, CellValue}
-use Rattle.cell_cats_areas.specs.declared.clump.Joining.{Joining}
-use Rattle.cell_cats_areas.specs.Areas.{Position, cell_at_position, IsEarlierCell, AreJoined}
-use Rattle.cell_cats_areas.specs.parts.CellPlaces.{position}
+use Rattle.cell_clumps.specs.declared.clump.Joining.{Joining}
+use Rattle.cell_clumps.specs.Clumps.{Position, cell_at_position, IsEarlierCell, AreCellsConnected}
+use Rattle.cell_clumps.specs.parts.CellPlaces.{position_at_row_and_column}
 use Rattle.cell_join_numbers.specs.Parts.{Rectangle}
-use Rattle.cell_join_numbers.specs.AreaParts.{moved_position}
-use Rattle.cell_join_numbers.specs.Labelled.{AreLabelled}
+use Rattle.cell_join_numbers.specs.ClumpParts.{position_in_full_map}
+use Rattle.cell_join_numbers.specs.Labelled.{AreCellsLabelledInOrder}
 use Rattle.cell_join_tiles.proofs.ListedAtLemmas.{ListedAt, listed_at-of, listed_at-own, first-some}
 use Rattle.cell_join_tiles.proofs.MovedLemmas.{before-moved, joined-moved}
-use Rattle.cell_join_tiles.specs.Beginnings.{Begun, stretch_of, clumps_in_grid, clump_label, IsCutIntoTiles, HasBegun, HaveBegun, BearLabels, ArePaired, LabelsFollowFirstCells, ClumpLabelsAreLabels, tile_place}
+use Rattle.cell_join_tiles.specs.Beginnings.{BegunClumpCountsByRow, place_of_interval_containing, clump_count_of_tile_grid, label_of_clump_in_tile_grid, MapIsCutIntoTiles, TileHasClumpBeginnings, TilesHaveClumpBeginnings, CellsHaveClumpLabels, AreMeetingLabelsPaired, LabelsFollowFirstCells, ClumpLabelsFitJoiningByPairs, rectangle_of_tile_in_grid}
 use Rattle.cell_join_tiles.proofs.StretchLemmas.{Lies, lies, stretch-is, ends-before}
 use Rattle.cell_join_tiles.proofs.LabelSums.{begun-next}
 use Rattle.cell_join_tiles.proofs.LabelLemmas.{IsBefore, IsClump, line_of, label-within, one-clump, before-of, labels}
@@ -20,21 +20,22 @@ use Rattle.cell_join_tiles.proofs.BegunLemmas.{begun-at, sum-begun}
 use Rattle.cell_join_tiles.proofs.ListLemmas.{Found, found}
 use Rattle.std.proofs.lemmas.List.Sums.{sum_by-take-le}
 
-moved-before : (r : Rectangle) (p q : Position) → IsEarlierCell p q → IsEarlierCell (moved_position r p) (moved_position r q)
+moved-before : (r : Rectangle) (p q : Position) → IsEarlierCell p q → IsEarlierCell (position_in_full_map r p) (position_in_full_map r q)
 moved-before r p q (inl h) = inl (omega (arith, h))
 moved-before r p q (inr h) = inr (ap (λ i. r.top + i) h.0, omega (arith, h.1))
 
-module _ (j : Joining) (whole : Grid) (heights widths : List ℕ) (map_of numbers_of : ℕ → ℕ → Grid) (firsts_of : ℕ → ℕ → List Position) (grid : List (List Begun)) (cut : IsCutIntoTiles whole heights widths map_of) (report : HaveBegun j heights widths map_of numbers_of firsts_of grid) where
+module _ (j : Joining) (whole : Grid) (heights widths : List ℕ) (map_of numbers_of : ℕ → ℕ → Grid) (firsts_of : ℕ → ℕ → List Position) (grid : List (List BegunClumpCountsByRow)) (cut : MapIsCutIntoTiles whole heights widths map_of) (report : TilesHaveClumpBeginnings j heights widths map_of numbers_of firsts_of grid) where
   abbrev high_of : ℕ → ℕ
   high_of r = get_or heights r 0
 
-  abbrev begun_of : (r c : ℕ) → Begun
-  begun_of r c = get_or (get_or grid r []) c []
+  abbrev begun_clump_counts_of_tile_row : (r c : ℕ) → BegunClumpCountsByRow
+  begun_clump_counts_of_tile_row r c = get_or (get_or grid r []) c []
 
   abbrev place : (r c : ℕ) → Rectangle
-  place r c = tile_place heights widths r c
+  place r c = rectangle_of_tile_in_grid heights widths r c
 
-  short : (r c : ℕ) → r < length grid → c < length (get_or grid r []) → length (begun_of r c) ≤ high_of r
+  short : (r c : ℕ) → r < length grid → c < length (get_or grid r [])
+      → length (begun_clump_counts_of_tile_row r c) ≤ high_of r
   short r c r_lt c_lt =
       let r_in : r < length heights = omega (arith, r_lt, report.high) in
       let c_in : c < length widths = omega (arith, c_lt, report.wide r r_in) in
@@ -49,17 +50,18 @@ module _ (j : Joining) (whole : Grid) (heights widths : List ℕ) (map_of number
     pub k_in : k < length (firsts_of r c)
 
   abbrev first_in : (r c k : ℕ) → Position
-  first_in r c k = get_or (firsts_of r c) k (position 0 0)
+  first_in r c k = get_or (firsts_of r c) k (position_at_row_and_column 0 0)
 
   abbrev first_of : (r c k : ℕ) → Position
-  first_of r c k = moved_position (place r c) (first_in r c k)
+  first_of r c k = position_in_full_map (place r c) (first_in r c k)
 
   pub record At (r c k : ℕ) : Type 0 where
-    pub reports : HasBegun j (get_or heights r 0) (map_of r c) (numbers_of r c) (firsts_of r c) (begun_of r c)
+    pub reports : TileHasClumpBeginnings j (get_or heights r 0) (map_of r c) (numbers_of r c) (firsts_of r c)
+        (begun_clump_counts_of_tile_row r c)
     pub some : IsSome (cell_at_position (map_of r c) (first_in r c k))
     pub row : (first_in r c k).row < high_of r
     pub col : (first_in r c k).col < get_or widths c 0
-    pub begins : Lies (begun_of r c) k (first_in r c k).row
+    pub begins : Lies (begun_clump_counts_of_tile_row r c) k (first_in r c k).row
     pub line : line_of grid r c k ≡ (first_in r c k).row
     pub clump : IsClump grid r c k
 
@@ -67,21 +69,22 @@ module _ (j : Joining) (whole : Grid) (heights widths : List ℕ) (map_of number
   at-of r c k x =
       let t = report.tiles r c x.r_in x.c_in in
       let tile = cut.tiles r c x.r_in x.c_in in
-      let some = first-some j (map_of r c) (firsts_of r c) t.all (numbers_of r c) t.clumping k (position 0 0) x.k_in in
+      let some = first-some j (map_of r c) (firsts_of r c) t.all (numbers_of r c) t.clumping k
+      (position_at_row_and_column 0 0) x.k_in in
       let inside = tile.outside (first_in r c k) some in
       let all = t.all in
-      let b = begun-at (firsts_of r c) all.in_order (begun_of r c) (high_of r) t.long t.counts k (position 0 0) x.k_in inside.0 in
+      let b = begun-at (firsts_of r c) all.in_order (begun_clump_counts_of_tile_row r c) (high_of r) t.long t.counts k (position_at_row_and_column 0 0) x.k_in inside.0 in
       record {
         reports = t;
         some = some;
         row = inside.0;
         col = inside.1;
         begins = b;
-        line = stretch-is (begun_of r c) (first_in r c k).row k b;
+        line = stretch-is (begun_clump_counts_of_tile_row r c) (first_in r c k).row k b;
         clump = record {
           r_in = omega (arith, x.r_in, report.high);
           c_in = omega (arith, x.c_in, report.wide r x.r_in);
-          k_in = omega (arith, b.high, begun-next (begun_of r c) (first_in r c k).row, sum_by-take-le (λ (n : ℕ). n) (begun_of r c) (suc (first_in r c k).row));
+          k_in = omega (arith, b.high, begun-next (begun_clump_counts_of_tile_row r c) (first_in r c k).row, sum_by-take-le (λ (n : ℕ). n) (begun_clump_counts_of_tile_row r c) (suc (first_in r c k).row));
         };
       }
 
@@ -96,14 +99,15 @@ module _ (j : Joining) (whole : Grid) (heights widths : List ℕ) (map_of number
       )
   in-order r c k s d l x y a b (inr (e, inr (f, inr (g, h)))) =
       let all = (a.reports).all in
-      let same : get_or (firsts_of r c) l (position 0 0) ≡ get_or (firsts_of s d) l (position 0 0) = ap (λ (n : ℕ). get_or (firsts_of n c) l (position 0 0)) e ∙ ap (λ (n : ℕ). get_or (firsts_of s n) l (position 0 0)) g in
+      let same : get_or (firsts_of r c) l (position_at_row_and_column 0 0) ≡ get_or (firsts_of s d) l (position_at_row_and_column 0 0) = ap (λ (n : ℕ). get_or (firsts_of n c) l (position_at_row_and_column 0 0)) e ∙ ap (λ (n : ℕ). get_or (firsts_of s n) l (position_at_row_and_column 0 0)) g in
       let places : place r c ≡ place s d = ap (λ (n : ℕ). place n c) e ∙ ap (place s) g in
       let l_in : l < length (firsts_of r c) = subst (λ (n : ℕ). l < length (firsts_of n c)) (sym e) (subst (λ (n : ℕ). l < length (firsts_of s n)) (sym g) y.k_in) in
-      let less = moved-before (place r c) (first_in r c k) (first_in r c l) (all.in_order k l (position 0 0) h l_in) in
-      subst (λ (q : Rectangle). IsEarlierCell (first_of r c k) (moved_position q (first_in s d l))) places
-      (subst (λ (q : Position). IsEarlierCell (first_of r c k) (moved_position (place r c) q)) same less)
+      let less = moved-before (place r c) (first_in r c k) (first_in r c l)
+      (all.in_order k l (position_at_row_and_column 0 0) h l_in) in
+      subst (λ (q : Rectangle). IsEarlierCell (first_of r c k) (position_in_full_map q (first_in s d l))) places
+      (subst (λ (q : Position). IsEarlierCell (first_of r c k) (position_in_full_map (place r c) q)) same less)
 
-  pub follow : (r c k s d l : ℕ) → Clump r c k → Clump s d l → clump_label grid r c k < clump_label grid s d l → IsEarlierCell (first_of r c k) (first_of s d l)
+  pub follow : (r c k s d l : ℕ) → Clump r c k → Clump s d l → label_of_clump_in_tile_grid grid r c k < label_of_clump_in_tile_grid grid s d l → IsEarlierCell (first_of r c k) (first_of s d l)
   follow r c k s d l x y less =
       let a = at-of r c k x in
       let b = at-of s d l y in
@@ -123,7 +127,7 @@ module _ (j : Joining) (whole : Grid) (heights widths : List ℕ) (map_of number
       let r_in : r < length heights = omega (arith, x.r_in, report.high) in
       let c_in : c < length widths = omega (arith, x.c_in, report.wide r r_in) in
       let t = report.tiles r c r_in c_in in
-      let many = sum-begun (firsts_of r c) (begun_of r c) (high_of r) t.long t.counts (λ i d lt. first-inside r c i d r_in c_in lt) in
+      let many = sum-begun (firsts_of r c) (begun_clump_counts_of_tile_row r c) (high_of r) t.long t.counts (λ i d lt. first-inside r c i d r_in c_in lt) in
       record { r_in = r_in; c_in = c_in; k_in = omega (arith, x.k_in, many) }
 
   -- a clump, named by its tile and its number
@@ -137,16 +141,16 @@ module _ (j : Joining) (whole : Grid) (heights widths : List ℕ) (map_of number
 
   pub record IsNamed (l : ℕ) (x : Name) : Type 0 where
     pub clump : Clump x.r x.c x.k
-    pub is : clump_label grid x.r x.c x.k ≡ l
+    pub is : label_of_clump_in_tile_grid grid x.r x.c x.k ≡ l
 
-  named : (l : ℕ) → l < clumps_in_grid grid → (x : Name) × IsNamed l x
+  named : (l : ℕ) → l < clump_count_of_tile_grid grid → (x : Name) × IsNamed l x
   named l lt =
       let t = labels grid high_of short l lt in
       (record { r = t.r; c = t.c; k = t.k }, record { clump = clump-of t.r t.c t.k t.clump; is = t.is })
 
   -- the clumps in the order of their labels, with their first cells
-  pub chosen : Found IsNamed (clumps_in_grid grid)
-  chosen = found IsNamed (clumps_in_grid grid) named
+  pub chosen : Found IsNamed (clump_count_of_tile_grid grid)
+  chosen = found IsNamed (clump_count_of_tile_grid grid) named
 
   pub no_name : Name
   no_name = record { r = 0; c = 0; k = 0 }
@@ -154,16 +158,16 @@ module _ (j : Joining) (whole : Grid) (heights widths : List ℕ) (map_of number
   abbrev pub starts : List Position
   starts = map cell_of chosen.all
 
-  pub many-starts : length starts ≡ clumps_in_grid grid
+  pub many-starts : length starts ≡ clump_count_of_tile_grid grid
   many-starts = length-map chosen.all cell_of ∙ chosen.many
 
   pub record Start (l : ℕ) : Type 0 where
     pub name : Name
     pub clump : Clump name.r name.c name.k
-    pub label : clump_label grid name.r name.c name.k ≡ l
+    pub label : label_of_clump_in_tile_grid grid name.r name.c name.k ≡ l
     pub is : (d : Position) → get_or starts l d ≡ cell_of name
 
-  start : (l : ℕ) → l < clumps_in_grid grid → Start l
+  start : (l : ℕ) → l < clump_count_of_tile_grid grid → Start l
   start l lt =
       let n = chosen.each l no_name lt in
       record {
@@ -175,7 +179,7 @@ module _ (j : Joining) (whole : Grid) (heights widths : List ℕ) (map_of number
 
   starts-order : AllPairs IsEarlierCell starts
   starts-order i k d lt inside =
-      let k_in : k < clumps_in_grid grid = omega (arith, inside, many-starts) in
+      let k_in : k < clump_count_of_tile_grid grid = omega (arith, inside, many-starts) in
       let a = start i (omega (arith, lt, k_in)) in
       let b = start k k_in in
       subst (λ (p : Position). IsEarlierCell p (get_or starts k d)) (sym (a.is d))
@@ -192,7 +196,7 @@ module _ (j : Joining) (whole : Grid) (heights widths : List ℕ) (map_of number
       subst (λ (p : Position). IsSome (cell_at_position whole p)) (sym (s.is d))
       (subst (λ (v : CellValue). IsSome v) (tile.cells (first_in x.r x.c x.k) a.row a.col) a.some)
 
-  module _ (label_of : Position → ℕ) (bear : BearLabels heights widths numbers_of grid label_of) where
+  module _ (label_of : Position → ℕ) (bear : CellsHaveClumpLabels heights widths numbers_of grid label_of) where
     -- the tile and the place in it of a cell of the full map, and the cell's clump in that tile
     pub record InTile (p : Position) : Type 0 where
       pub r : ℕ
@@ -200,27 +204,27 @@ module _ (j : Joining) (whole : Grid) (heights widths : List ℕ) (map_of number
       pub a : Position
       pub r_in : r < length heights
       pub c_in : c < length widths
-      pub is : p ≡ moved_position (tile_place heights widths r c) a
-      pub reports : HasBegun j (get_or heights r 0) (map_of r c) (numbers_of r c) (firsts_of r c) (get_or (get_or grid r []) c [])
+      pub is : p ≡ position_in_full_map (rectangle_of_tile_in_grid heights widths r c) a
+      pub reports : TileHasClumpBeginnings j (get_or heights r 0) (map_of r c) (numbers_of r c) (firsts_of r c) (get_or (get_or grid r []) c [])
       pub listed_at : ListedAt j (map_of r c) (firsts_of r c) reports.all (numbers_of r c) reports.clumping a
-      pub label : label_of p ≡ clump_label grid r c listed_at.place
+      pub label : label_of p ≡ label_of_clump_in_tile_grid grid r c listed_at.place
 
-    listed_at-label : (r c : ℕ) (r_in : r < length heights) (c_in : c < length widths) (a : Position) → a.row < high_of r → a.col < get_or widths c 0 → (k : ℕ) → cell_at_position (numbers_of r c) a ≡ Some (pos (k + 1)) → label_of (moved_position (tile_place heights widths r c) a) ≡ clump_label grid r c k
+    listed_at-label : (r c : ℕ) (r_in : r < length heights) (c_in : c < length widths) (a : Position) → a.row < high_of r → a.col < get_or widths c 0 → (k : ℕ) → cell_at_position (numbers_of r c) a ≡ Some (pos (k + 1)) → label_of (position_in_full_map (rectangle_of_tile_in_grid heights widths r c) a) ≡ label_of_clump_in_tile_grid grid r c k
     listed_at-label r c r_in c_in a row col k number =
         let same : k + 1 - 1 ≡ k = omega arith in
-        bear r c r_in c_in a row col (k + 1) number ∙ ap (clump_label grid r c) same
+        bear r c r_in c_in a row col (k + 1) number ∙ ap (label_of_clump_in_tile_grid grid r c) same
 
     in-tile : (p : Position) → IsSome (cell_at_position whole p) → InTile p
     in-tile p some =
         let inside = cut.within p some in
-        let r = stretch_of heights p.row in
-        let c = stretch_of widths p.col in
+        let r = place_of_interval_containing heights p.row in
+        let c = place_of_interval_containing widths p.col in
         let lr = lies heights p.row inside.0 in
         let lc = lies widths p.col inside.1 in
-        let a : Position = position (p.row - sum (take r heights)) (p.col - sum (take c widths)) in
+        let a : Position = position_at_row_and_column (p.row - sum (take r heights)) (p.col - sum (take c widths)) in
         let row_is : p.row ≡ sum (take r heights) + (p.row - sum (take r heights)) = omega (arith, lr.low) in
         let col_is : p.col ≡ sum (take c widths) + (p.col - sum (take c widths)) = omega (arith, lc.low) in
-        let is : p ≡ moved_position (tile_place heights widths r c) a = λ i. record { row = row_is i; col = col_is i } in
+        let is : p ≡ position_in_full_map (rectangle_of_tile_in_grid heights widths r c) a = λ i. record { row = row_is i; col = col_is i } in
         let row : a.row < high_of r = omega (arith, lr.low, lr.high) in
         let col : a.col < get_or widths c 0 = omega (arith, lc.low, lc.high) in
         let reports = report.tiles r c lr.inside lc.inside in
@@ -250,7 +254,7 @@ module _ (j : Joining) (whole : Grid) (heights widths : List ℕ) (map_of number
         omega (arith, t.label, label-within grid high_of short t.r t.c s.place a.clump, many-starts)
 
     -- the listed first cell of a cell's label is the first cell of its clump in its tile
-    first-at : (p : Position) (some : IsSome (cell_at_position whole p)) (t : InTile p) → get_or starts (label_of p) p ≡ moved_position (tile_place heights widths t.r t.c) (get_or (firsts_of t.r t.c) (t.listed_at).place t.a)
+    first-at : (p : Position) (some : IsSome (cell_at_position whole p)) (t : InTile p) → get_or starts (label_of p) p ≡ position_in_full_map (rectangle_of_tile_in_grid heights widths t.r t.c) (get_or (firsts_of t.r t.c) (t.listed_at).place t.a)
     first-at p some t =
         let s = t.listed_at in
         let a = at-of t.r t.c s.place (clump-at p t) in
@@ -262,34 +266,34 @@ module _ (j : Joining) (whole : Grid) (heights widths : List ℕ) (map_of number
         ∙ ap (λ (n : ℕ). first_of n x.c x.k) same.rows
         ∙ ap (λ (n : ℕ). first_of t.r n x.k) same.cols
         ∙ ap (λ (n : ℕ). first_of t.r t.c n) same.numbers
-        ∙ ap (moved_position (tile_place heights widths t.r t.c)) (get_or_default (firsts_of t.r t.c) s.place (position 0 0) t.a s.inside)
+        ∙ ap (position_in_full_map (rectangle_of_tile_in_grid heights widths t.r t.c)) (get_or_default (firsts_of t.r t.c) s.place (position_at_row_and_column 0 0) t.a s.inside)
 
     starts-joined : (p : Position) → IsSome (cell_at_position whole p)
-        → AreJoined j whole (get_or starts (label_of p) p) p
+        → AreCellsConnected j whole (get_or starts (label_of p) p) p
     starts-joined p some =
         let t = in-tile p some in
         let s = t.listed_at in
-        let first : Position = moved_position (tile_place heights widths t.r t.c) (get_or (firsts_of t.r t.c) s.place t.a) in
-        let inner = joined-moved j whole (record { place = tile_place heights widths t.r t.c; map = map_of t.r t.c }) (cut.tiles t.r t.c t.r_in t.c_in) (get_or (firsts_of t.r t.c) s.place t.a) t.a s.joined in
-        subst (λ (q : Position). AreJoined j whole q p) (sym (first-at p some t)) (subst (λ (q : Position). AreJoined j whole first q) (sym t.is) inner)
+        let first : Position = position_in_full_map (rectangle_of_tile_in_grid heights widths t.r t.c) (get_or (firsts_of t.r t.c) s.place t.a) in
+        let inner = joined-moved j whole (record { place = rectangle_of_tile_in_grid heights widths t.r t.c; map = map_of t.r t.c }) (cut.tiles t.r t.c t.r_in t.c_in) (get_or (firsts_of t.r t.c) s.place t.a) t.a s.joined in
+        subst (λ (q : Position). AreCellsConnected j whole q p) (sym (first-at p some t)) (subst (λ (q : Position). AreCellsConnected j whole first q) (sym t.is) inner)
 
     starts-early : (p : Position) → IsSome (cell_at_position whole p) → ¬ IsEarlierCell p (get_or starts (label_of p) p)
     starts-early p some behind =
         let t = in-tile p some in
         let s = t.listed_at in
-        let place = tile_place heights widths t.r t.c in
+        let place = rectangle_of_tile_in_grid heights widths t.r t.c in
         let first : Position = get_or (firsts_of t.r t.c) s.place t.a in
         s.early (before-moved place t.a first
-        (subst (λ (q : Position). IsEarlierCell q (moved_position place first)) t.is (subst (λ (q : Position). IsEarlierCell p q) (first-at p some t) behind)))
+        (subst (λ (q : Position). IsEarlierCell q (position_in_full_map place first)) t.is (subst (λ (q : Position). IsEarlierCell p q) (first-at p some t) behind)))
 
     -- a first cell bears its own label
-    own-label : (r c k : ℕ) → Clump r c k → label_of (first_of r c k) ≡ clump_label grid r c k
+    own-label : (r c k : ℕ) → Clump r c k → label_of (first_of r c k) ≡ label_of_clump_in_tile_grid grid r c k
     own-label r c k x =
         let a = at-of r c k x in
         let t = a.reports in
         let listed_at = listed_at-of j (map_of r c) (firsts_of r c) t.all (numbers_of r c) t.clumping (first_in r c k) a.some in
-        let place = listed_at-own j (map_of r c) (firsts_of r c) t.all (numbers_of r c) t.clumping k (position 0 0) x.k_in listed_at in
-        listed_at-label r c x.r_in x.c_in (first_in r c k) a.row a.col listed_at.place listed_at.number ∙ ap (clump_label grid r c) place
+        let place = listed_at-own j (map_of r c) (firsts_of r c) t.all (numbers_of r c) t.clumping k (position_at_row_and_column 0 0) x.k_in listed_at in
+        listed_at-label r c x.r_in x.c_in (first_in r c k) a.row a.col listed_at.place listed_at.number ∙ ap (label_of_clump_in_tile_grid grid r c) place
 
     starts-own : (k : ℕ) (d : Position) → k < length starts → label_of (get_or starts k d) ≡ k
     starts-own k d lt =
@@ -297,7 +301,7 @@ module _ (j : Joining) (whole : Grid) (heights widths : List ℕ) (map_of number
         let x = s.name in
         ap label_of (s.is d) ∙ own-label x.r x.c x.k s.clump ∙ s.label
 
-    pub are-labelled : (pairs : List (ℕ × ℕ)) → ArePaired j whole label_of pairs → AreLabelled j whole starts label_of pairs
+    pub are-labelled : (pairs : List (ℕ × ℕ)) → AreMeetingLabelsPaired j whole label_of pairs → AreCellsLabelledInOrder j whole starts label_of pairs
     are-labelled pairs paired = record {
       in_order = starts-order;
       cells = starts-cells;
@@ -312,9 +316,9 @@ module _ (j : Joining) (whole : Grid) (heights widths : List ℕ) (map_of number
 pub labels-follow-first-cells : LabelsFollowFirstCells
 labels-follow-first-cells j whole heights widths map_of numbers_of firsts_of grid cut report r c k s d l one other r_in c_in k_in s_in d_in l_in one_is other_is less =
     let h = follow j whole heights widths map_of numbers_of firsts_of grid cut report r c k s d l (record { r_in = r_in; c_in = c_in; k_in = k_in }) (record { r_in = s_in; c_in = d_in; k_in = l_in }) less in
-    subst (λ (p : Position). IsEarlierCell p other) (sym one_is) (subst (λ (p : Position). IsEarlierCell (moved_position (tile_place heights widths r c) (get_or (firsts_of r c) k (position 0 0))) p) (sym other_is) h)
+    subst (λ (p : Position). IsEarlierCell p other) (sym one_is) (subst (λ (p : Position). IsEarlierCell (position_in_full_map (rectangle_of_tile_in_grid heights widths r c) (get_or (firsts_of r c) k (position_at_row_and_column 0 0))) p) (sym other_is) h)
 
-pub clump-labels-are-labels : ClumpLabelsAreLabels
+pub clump-labels-are-labels : ClumpLabelsFitJoiningByPairs
 clump-labels-are-labels j whole heights widths map_of numbers_of firsts_of grid cut report label_of bear = (
   starts j whole heights widths map_of numbers_of firsts_of grid cut report,
   many-starts j whole heights widths map_of numbers_of firsts_of grid cut report,

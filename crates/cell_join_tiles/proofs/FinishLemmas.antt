@@ -10,23 +10,27 @@ use Rattle.std.proofs.lemmas.List.Sums.{sum_by-cons}
 use Rattle.std.proofs.lemmas.List.Elements.{Contains-get_or}
 use Rattle.std.proofs.lemmas.Grind.{flat_map-append}
 use Rattle.cell_core.specs.Grid.{Grid}
-use Rattle.cell_cats_areas.specs.declared.clump.Joining.{Joining}
-use Rattle.cell_cats_areas.specs.Areas.{Position, cell_at_position, HasNumber}
-use Rattle.cell_join_numbers.specs.AreaParts.{moved_position}
-use Rattle.cell_join_numbers.specs.Stretches.{stretches_from, stretches_in, stretches_of}
-use Rattle.cell_join_numbers.specs.declared.stretch.Stretch.{Stretch}
-use Rattle.cell_join_numbers.specs.Labelled.{HasAreas}
+use Rattle.cell_clumps.specs.declared.clump.Joining.{Joining}
+use Rattle.cell_clumps.specs.Clumps.{Position, cell_at_position, HasClumpNumber}
+use Rattle.cell_join_numbers.specs.ClumpParts.{position_in_full_map}
+use Rattle.cell_join_numbers.specs.Stretches.{consecutive_clumps_from_tile, consecutive_clumps_of_tile}
+use Rattle.cell_join_numbers.specs.Stretches.{consecutive_clumps_of_all_tiles}
+use Rattle.cell_join_numbers.specs.declared.stretch.ConsecutiveClumps.{ConsecutiveClumps}
+use Rattle.cell_join_numbers.specs.Labelled.{MapHasClumpCount}
 use Rattle.cell_join_numbers.proofs.NumberLemmas.{is-some}
-use Rattle.cell_join_numbers.specs.SparseNumbers.{AreBelow, NumberPairs}
-use Rattle.cell_join_tiles.specs.Beginnings.{Begun, IsCutIntoTiles, clumps_in_grid, clump_label, tile_place}
-use Rattle.cell_join_tiles.specs.Borders.{cell_label, ArePairedAtSeams}
-use Rattle.cell_join_tiles.specs.Values.{BorderValue, no_border}
-use Rattle.cell_join_tiles.specs.JoinedBorders.{HaveBorders, begun_in, left_line, right_line, first_seam_line, last_line}
-use Rattle.cell_join_tiles.specs.JoinedTiles.{TileJoinerValue, AreJoinedTiles, tile_row_at, base_at, tiles_of, tiles_at, clumps_by_tile, GridClumps, AreRunsOf}
-use Rattle.cell_join_tiles.specs.TileNumbers.{numbers_of_tile, numbers_of_row, numbers_by_tile, clumps_before_tile}
-use Rattle.cell_join_tiles.specs.parts.RowLabels.{labels_in_tile, row_label}
-use Rattle.cell_join_tiles.specs.parts.RowMarks.{begun_of, border_in}
-use Rattle.cell_join_tiles.specs.parts.LabelRuns.{runs_of_tiles}
+use Rattle.cell_join_numbers.specs.SparseNumbers.{ArePairLabelsBelowLabelCount, AreNumbersOfPairedLabels}
+use Rattle.cell_join_tiles.specs.Beginnings.{BegunClumpCountsByRow, MapIsCutIntoTiles, clump_count_of_tile_grid}
+use Rattle.cell_join_tiles.specs.Beginnings.{label_of_clump_in_tile_grid}
+use Rattle.cell_join_tiles.specs.Beginnings.{rectangle_of_tile_in_grid}
+use Rattle.cell_join_tiles.specs.Borders.{label_of_full_map_cell, AreLabelsPairedAtSeams}
+use Rattle.cell_join_tiles.specs.Values.{TileBorderValue, empty_tile_border}
+use Rattle.cell_join_tiles.specs.JoinedBorders.{TilesHaveBorders, begun_clump_counts_of_grid, labelled_first_column_of_tile, labelled_last_column_of_tile, labelled_first_row_of_tile_row, labelled_last_row_of_tile_row}
+use Rattle.cell_join_tiles.specs.JoinedTiles.{TileJoinerValue, JoinerHasJoinedTileRows, tile_row_at, first_label_of_tile_row, clump_labels_of_tiles_in_row, clump_labels_of_tiles_in_row_at, clump_counts_by_tile, IsClumpCountOfTileGrid, AreConsecutiveClumpsOfTiles}
+use Rattle.cell_join_tiles.specs.TileNumbers.{clump_numbers_of_tile, clump_numbers_of_tile_row}
+use Rattle.cell_join_tiles.specs.TileNumbers.{clump_numbers_of_all_tiles, clump_count_before_tile}
+use Rattle.cell_join_tiles.specs.parts.RowLabels.{labels_of_clumps_in_tile, label_of_clump_in_row_of_tiles}
+use Rattle.cell_join_tiles.specs.parts.RowMarks.{begun_clump_counts_of_tile_row, border_of_tile_in_row}
+use Rattle.cell_join_tiles.specs.parts.LabelRuns.{consecutive_clumps_by_labels}
 use Rattle.cell_join_tiles.proofs.SeamLemmas.{seam-lines-pair}
 use Rattle.cell_join_tiles.proofs.NumberLemmas.{borders-are-labelled, borders-number-the-whole, borders-count-the-whole}
 use Rattle.cell_join_tiles.proofs.TileNumberLemmas.{tile-numbers-are-listed}
@@ -67,7 +71,7 @@ singles f (x ∷ xs) = ap (λ l. f x ∷ l) (singles f xs) ∙ sym (flat_map-con
 
 -- ---- runs of numbers
 
-pub runs-are : (number : ℕ → ℕ) (part : ℕ) (tiles : List (List ℕ)) → runs_of_tiles number part tiles ≡ stretches_from part (map (λ t. length t) tiles) (flat_map (map number) tiles)
+pub runs-are : (number : ℕ → ℕ) (part : ℕ) (tiles : List (List ℕ)) → consecutive_clumps_by_labels number part tiles ≡ consecutive_clumps_from_tile part (map (λ t. length t) tiles) (flat_map (map number) tiles)
 runs-are number part [] = refl
 runs-are number part (t ∷ tiles) =
     let own : List ℕ = map number t in
@@ -76,9 +80,10 @@ runs-are number part (t ∷ tiles) =
     let long : length own ≡ length t = length-map t number in
     let first : take (length t) (own ++ rest) ≡ own = ap (λ (n : ℕ). take n (own ++ rest)) (sym long) ∙ take-append_seam own rest in
     let later : drop (length t) (own ++ rest) ≡ rest = ap (λ (n : ℕ). drop n (own ++ rest)) (sym long) ∙ drop-seam own rest in
-    ap (λ (l : List Stretch). stretches_in part own ++ l) (runs-are number (part + 1) tiles)
-    ∙ sym (ap (λ (ns : List ℕ). stretches_from part (length t ∷ map (λ s. length s) tiles) ns) all
-    ∙ (λ i. stretches_in part (first i) ++ stretches_from (part + 1) (map (λ s. length s) tiles) (later i)))
+    ap (λ (l : List ConsecutiveClumps). consecutive_clumps_of_tile part own ++ l) (runs-are number (part + 1) tiles)
+    ∙ sym (ap (λ (ns : List ℕ). consecutive_clumps_from_tile part (length t ∷ map (λ s. length s) tiles) ns) all
+    ∙ (λ i. consecutive_clumps_of_tile part (first i) ++ consecutive_clumps_from_tile (part + 1)
+    (map (λ s. length s) tiles) (later i)))
   where
     drop-seam : (xs ys : List ℕ) → drop (length xs) (xs ++ ys) ≡ ys
     drop-seam [] ys = refl
@@ -90,70 +95,82 @@ sum-lengths number (t ∷ tiles) =
     let all = ap (λ (l : List ℕ). length l) (flat_map-cons (map number) t tiles) in
     omega (arith, all, length-append (map number t) (flat_map (map number) tiles), length-map t number, sum-lengths number tiles, sum_by-cons (λ (n : ℕ). n) (length t) (map (λ s. length s) tiles))
 
-module _ (grid : List (List BorderValue)) (joiner : TileJoinerValue) (are : AreJoinedTiles grid joiner) where
-  abbrev g : List (List Begun)
-  g = begun_in grid
+module _ (grid : List (List TileBorderValue)) (joiner : TileJoinerValue)
+    (are : JoinerHasJoinedTileRows grid joiner) where
+  abbrev g : List (List BegunClumpCountsByRow)
+  g = begun_clump_counts_of_grid grid
 
   -- a tile has as many labels as clumps
-  tile-length : (base : ℕ) (row : List BorderValue) (c : ℕ) → c < length row → length (labels_in_tile base (begun_of row) c) ≡ sum (border_in row c).begun
+  tile-length : (base : ℕ) (row : List TileBorderValue) (c : ℕ) → c < length row → length (labels_of_clumps_in_tile base (begun_clump_counts_of_tile_row row) c) ≡ sum (border_of_tile_in_row row c).begun
   tile-length base row c lt =
-      length-map-range_with_len (row_label base (begun_of row) c) 0 (sum (get_or (begun_of row) c []))
-      ∙ ap (λ (begun : List ℕ). sum begun) (get_or-map (λ (border : BorderValue). border.begun) row c no_border [] lt)
+      length-map-range_with_len (label_of_clump_in_row_of_tiles base (begun_clump_counts_of_tile_row row) c) 0
+      (sum (get_or (begun_clump_counts_of_tile_row row) c []))
+      ∙ ap (λ (begun : List ℕ). sum begun) (get_or-map (λ (border : TileBorderValue). border.begun) row c
+      empty_tile_border []
+      lt)
 
-  row-lengths : (base : ℕ) (row : List BorderValue) → map (λ t. length t) (tiles_of base row) ≡ map (λ border. sum border.begun) row
+  row-lengths : (base : ℕ) (row : List TileBorderValue) → map (λ t. length t) (clump_labels_of_tiles_in_row base row) ≡ map (λ border. sum border.begun) row
   row-lengths base row =
-      map-twice (λ t. length t) (labels_in_tile base (begun_of row)) (range_with_len 0 (length row))
-      ∙ maps-same (λ c. length (labels_in_tile base (begun_of row) c)) (λ c. sum (border_in row c).begun) 0 (length row) (λ c lt. tile-length base row c (omega (arith, lt)))
-      ∙ singles (λ c. sum (border_in row c).begun) (range_with_len 0 (length row))
-      ∙ by-place (λ (border : BorderValue). sum border.begun ∷ []) row no_border
-      ∙ sym (singles-of (λ (border : BorderValue). sum border.begun) row)
+      map-twice (λ t. length t) (labels_of_clumps_in_tile base (begun_clump_counts_of_tile_row row))
+      (range_with_len 0 (length row))
+      ∙ maps-same (λ c. length (labels_of_clumps_in_tile base (begun_clump_counts_of_tile_row row) c)) (λ c. sum (border_of_tile_in_row row c).begun) 0 (length row) (λ c lt. tile-length base row c (omega (arith, lt)))
+      ∙ singles (λ c. sum (border_of_tile_in_row row c).begun) (range_with_len 0 (length row))
+      ∙ by-place (λ (border : TileBorderValue). sum border.begun ∷ []) row empty_tile_border
+      ∙ sym (singles-of (λ (border : TileBorderValue). sum border.begun) row)
     where
-      singles-of : (f : BorderValue → ℕ) (xs : List BorderValue) → map f xs ≡ flat_map (λ x. f x ∷ []) xs
+      singles-of : (f : TileBorderValue → ℕ) (xs : List TileBorderValue) → map f xs ≡ flat_map (λ x. f x ∷ []) xs
       singles-of f [] = refl
       singles-of f (x ∷ xs) = ap (λ l. f x ∷ l) (singles-of f xs) ∙ sym (flat_map-cons (λ x. f x ∷ []) x xs)
 
-  counts : map (λ t. length t) joiner.tiles ≡ clumps_by_tile grid
+  counts : map (λ t. length t) joiner.tiles ≡ clump_counts_by_tile grid
   counts =
       ap (map (λ (t : List ℕ). length t)) are.tiles
-      ∙ map-lists (λ (t : List ℕ). length t) (tiles_at grid) (range_with_len 0 (length grid))
-      ∙ lists-same (λ r. map (λ (t : List ℕ). length t) (tiles_at grid r)) (λ r. map (λ border. sum border.begun) (tile_row_at grid r)) 0 (length grid) (λ r lt. row-lengths (base_at grid r) (tile_row_at grid r))
-      ∙ by-place (λ (row : List BorderValue). map (λ border. sum border.begun) row) grid []
+      ∙ map-lists (λ (t : List ℕ). length t) (clump_labels_of_tiles_in_row_at grid) (range_with_len 0 (length grid))
+      ∙ lists-same (λ r. map (λ (t : List ℕ). length t) (clump_labels_of_tiles_in_row_at grid r)) (λ r. map (λ border. sum border.begun) (tile_row_at grid r)) 0 (length grid) (λ r lt. row-lengths (first_label_of_tile_row grid r) (tile_row_at grid r))
+      ∙ by-place (λ (row : List TileBorderValue). map (λ border. sum border.begun) row) grid []
 
   module _ (number : ℕ → ℕ) where
     abbrev pub numbers : List ℕ
     numbers = flat_map (map number) joiner.tiles
 
-    pub many : length numbers ≡ sum (clumps_by_tile grid)
+    pub many : length numbers ≡ sum (clump_counts_by_tile grid)
     many = sum-lengths number joiner.tiles ∙ ap (λ (l : List ℕ). sum l) counts
 
-    pub runs : runs_of_tiles number 1 joiner.tiles ≡ stretches_of (clumps_by_tile grid) numbers
-    runs = runs-are number 1 joiner.tiles ∙ ap (λ (l : List ℕ). stretches_from 1 l numbers) counts
+    pub runs : consecutive_clumps_by_labels number 1 joiner.tiles
+        ≡ consecutive_clumps_of_all_tiles (clump_counts_by_tile grid) numbers
+    runs = runs-are number 1 joiner.tiles ∙ ap (λ (l : List ℕ). consecutive_clumps_from_tile 1 l numbers) counts
 
     -- the numbers of the labels of a tile are the tile's numbers
-    tile-numbers : (r c : ℕ) → r < length grid → map number (labels_in_tile (base_at grid r) (begun_of (tile_row_at grid r)) c) ≡ numbers_of_tile number g r c
+    tile-numbers : (r c : ℕ) → r < length grid → map number (labels_of_clumps_in_tile (first_label_of_tile_row grid r) (begun_clump_counts_of_tile_row (tile_row_at grid r)) c) ≡ clump_numbers_of_tile number g r c
     tile-numbers r c r_in =
-        let row : get_or g r [] ≡ begun_of (tile_row_at grid r) = get_or-map begun_of grid r [] [] r_in in
-        (λ i. map number (labels_in_tile (base_at grid r) (sym row i) c))
-        ∙ map-twice number (row_label (base_at grid r) (get_or g r []) c) (range_with_len 0 (sum (get_or (get_or g r []) c [])))
+        let row : get_or g r [] ≡ begun_clump_counts_of_tile_row
+        (tile_row_at grid r) = get_or-map begun_clump_counts_of_tile_row
+        grid r [] [] r_in in
+        (λ i. map number (labels_of_clumps_in_tile (first_label_of_tile_row grid r) (sym row i) c))
+        ∙ map-twice number (label_of_clump_in_row_of_tiles (first_label_of_tile_row grid r) (get_or g r []) c) (range_with_len 0 (sum (get_or (get_or g r []) c [])))
 
-    row-numbers : (r : ℕ) → r < length grid → flat_map (map number) (tiles_at grid r) ≡ numbers_of_row number g r
+    row-numbers : (r : ℕ) → r < length grid → flat_map (map number) (clump_labels_of_tiles_in_row_at grid r)
+        ≡ clump_numbers_of_tile_row number g r
     row-numbers r r_in =
-        let row : get_or g r [] ≡ begun_of (tile_row_at grid r) = get_or-map begun_of grid r [] [] r_in in
-        let long : length (get_or g r []) ≡ length (tile_row_at grid r) = ap (λ (l : List Begun). length l) row ∙ length-map (tile_row_at grid r) (λ (border : BorderValue). border.begun) in
-        flat-of-map (map number) (labels_in_tile (base_at grid r) (begun_of (tile_row_at grid r))) (range_with_len 0 (length (tile_row_at grid r)))
-        ∙ lists-same (λ c. map number (labels_in_tile (base_at grid r) (begun_of (tile_row_at grid r)) c)) (numbers_of_tile number g r) 0 (length (tile_row_at grid r)) (λ c lt. tile-numbers r c r_in)
-        ∙ ap (λ (n : ℕ). flat_map (numbers_of_tile number g r) (range_with_len 0 n)) (sym long)
+        let row : get_or g r [] ≡ begun_clump_counts_of_tile_row
+        (tile_row_at grid r) = get_or-map begun_clump_counts_of_tile_row
+        grid r [] [] r_in in
+        let long : length (get_or g r []) ≡ length (tile_row_at grid r) = ap (λ (l : List BegunClumpCountsByRow). length l) row ∙ length-map (tile_row_at grid r) (λ (border : TileBorderValue). border.begun) in
+        flat-of-map (map number) (labels_of_clumps_in_tile (first_label_of_tile_row grid r) (begun_clump_counts_of_tile_row (tile_row_at grid r))) (range_with_len 0 (length (tile_row_at grid r)))
+        ∙ lists-same (λ c. map number (labels_of_clumps_in_tile (first_label_of_tile_row grid r) (begun_clump_counts_of_tile_row (tile_row_at grid r)) c)) (clump_numbers_of_tile number g r) 0 (length (tile_row_at grid r)) (λ c lt. tile-numbers r c r_in)
+        ∙ ap (λ (n : ℕ). flat_map (clump_numbers_of_tile number g r) (range_with_len 0 n)) (sym long)
       where
         flat-of-map : (h : List ℕ → List ℕ) (f : ℕ → List ℕ) (xs : List ℕ) → flat_map h (map f xs) ≡ flat_map (λ k. h (f k)) xs
         flat-of-map h f [] = refl
         flat-of-map h f (x ∷ xs) = flat_map-cons h (f x) (map f xs) ∙ ap (λ (l : List ℕ). h (f x) ++ l) (flat-of-map h f xs) ∙ sym (flat_map-cons (λ k. h (f k)) x xs)
 
-    pub numbers-are : numbers ≡ numbers_by_tile number g
+    pub numbers-are : numbers ≡ clump_numbers_of_all_tiles number g
     numbers-are =
         ap (flat_map (map number)) are.tiles
-        ∙ flat-twice (map number) (tiles_at grid) (range_with_len 0 (length grid))
-        ∙ lists-same (λ r. flat_map (map number) (tiles_at grid r)) (numbers_of_row number g) 0 (length grid) (λ r lt. row-numbers r (omega (arith, lt)))
-        ∙ ap (λ (n : ℕ). flat_map (numbers_of_row number g) (range_with_len 0 n)) (sym (length-map grid begun_of))
+        ∙ flat-twice (map number) (clump_labels_of_tiles_in_row_at grid) (range_with_len 0 (length grid))
+        ∙ lists-same (λ r. flat_map (map number) (clump_labels_of_tiles_in_row_at grid r)) (clump_numbers_of_tile_row number g) 0 (length grid) (λ r lt. row-numbers r (omega (arith, lt)))
+        ∙ ap (λ (n : ℕ). flat_map (clump_numbers_of_tile_row number g) (range_with_len 0 n))
+        (sym (length-map grid begun_clump_counts_of_tile_row))
       where
         flat-twice : (h : List ℕ → List ℕ) (f : ℕ → List (List ℕ)) (xs : List ℕ) → flat_map h (flat_map f xs) ≡ flat_map (λ k. flat_map h (f k)) xs
         flat-twice h f [] = refl
@@ -163,23 +180,24 @@ module _ (grid : List (List BorderValue)) (joiner : TileJoinerValue) (are : AreJ
 
 -- ---- a map that is cut into these tiles
 
-module _ (grid : List (List BorderValue)) (joiner : TileJoinerValue) (are : AreJoinedTiles grid joiner) (whole : Grid) (heights widths : List ℕ) (map_of numbers_of : ℕ → ℕ → Grid) (cut : IsCutIntoTiles whole heights widths map_of) (have : HaveBorders joiner.joining heights widths map_of numbers_of grid) where
+module _ (grid : List (List TileBorderValue)) (joiner : TileJoinerValue) (are : JoinerHasJoinedTileRows grid joiner) (whole : Grid) (heights widths : List ℕ) (map_of numbers_of : ℕ → ℕ → Grid) (cut : MapIsCutIntoTiles whole heights widths map_of) (have : TilesHaveBorders joiner.joining heights widths map_of numbers_of grid) where
   abbrev j : Joining
   j = joiner.joining
 
-  abbrev counts_in : List (List Begun)
-  counts_in = begun_in grid
+  abbrev counts_in : List (List BegunClumpCountsByRow)
+  counts_in = begun_clump_counts_of_grid grid
 
-  at-seams : ArePairedAtSeams j whole heights widths (cell_label heights widths numbers_of counts_in) joiner.pairs
+  at-seams : AreLabelsPairedAtSeams j whole heights widths (label_of_full_map_cell heights widths numbers_of
+      counts_in) joiner.pairs
   at-seams =
-      seam-lines-pair j whole heights widths (cell_label heights widths numbers_of counts_in) (left_line grid) (right_line grid) (first_seam_line grid) (last_line grid) joiner.pairs have.some_rows have.some_cols cut.within
+      seam-lines-pair j whole heights widths (label_of_full_map_cell heights widths numbers_of counts_in) (labelled_first_column_of_tile grid) (labelled_last_column_of_tile grid) (labelled_first_row_of_tile_row grid) (labelled_last_row_of_tile_row grid) joiner.pairs have.some_rows have.some_cols cut.within
       (lines j whole heights widths map_of numbers_of grid cut have)
       (λ x. (
         λ h. to-seams j whole heights widths map_of numbers_of grid cut have x ((are.pairs x).0 h),
         λ h. (are.pairs x).1 (from-seams j whole heights widths map_of numbers_of grid cut have x h),
       ))
 
-  below : AreBelow (clumps_in_grid counts_in) joiner.pairs
+  below : ArePairLabelsBelowLabelCount (clump_count_of_tile_grid counts_in) joiner.pairs
   below i d lt =
       let labelled = borders-are-labelled j whole heights widths map_of numbers_of counts_in cut (borders j whole heights widths map_of numbers_of grid cut have) joiner.pairs at-seams in
       let l = labelled.2 in
@@ -189,26 +207,28 @@ module _ (grid : List (List BorderValue)) (joiner : TileJoinerValue) (are : AreJ
       let other = l.few meets.other (is-some whole meets.other meets.category meets.second) in
       (omega (arith, one, labelled.1, meets.first_label), omega (arith, other, labelled.1, meets.second_label))
 
-  module _ (paired list roots : List ℕ) (h : NumberPairs joiner.pairs paired list roots) where
-    pub reports : (r c : ℕ) → r < length heights → c < length widths → (p : Position) (k : ℕ) → cell_at_position (numbers_of r c) p ≡ Some (pos k) → HasNumber j whole (moved_position (tile_place heights widths r c) p) (get_or (numbers grid joiner are h.number) (clumps_before_tile counts_in r c + (k - 1)) 0)
+  module _ (paired list roots : List ℕ) (h : AreNumbersOfPairedLabels joiner.pairs paired list roots) where
+    pub reports : (r c : ℕ) → r < length heights → c < length widths → (p : Position) (k : ℕ) → cell_at_position (numbers_of r c) p ≡ Some (pos k) → HasClumpNumber j whole (position_in_full_map (rectangle_of_tile_in_grid heights widths r c) p) (get_or (numbers grid joiner are h.number) (clump_count_before_tile counts_in r c + (k - 1)) 0)
     reports r c r_in c_in p k is =
         let b = borders j whole heights widths map_of numbers_of grid cut have in
-        let number = borders-number-the-whole j whole heights widths map_of numbers_of counts_in cut b joiner.pairs at-seams h.number (h.right (clumps_in_grid counts_in) below) r c r_in c_in p k is in
+        let number = borders-number-the-whole j whole heights widths map_of numbers_of counts_in cut b joiner.pairs at-seams h.number (h.right (clump_count_of_tile_grid counts_in) below) r c r_in c_in p k is in
         let inside = number-inside j whole heights widths map_of numbers_of grid cut have r c r_in c_in p k is in
         let listed = tile-numbers-are-listed h.number counts_in r c (k - 1) (omega (arith, r_in, b.high)) (omega (arith, c_in, b.wide r r_in)) inside in
-        let value : h.number (clump_label counts_in r c (k - 1)) ≡ get_or (numbers grid joiner are h.number) (clumps_before_tile counts_in r c + (k - 1)) 0 =
-        sym listed ∙ ap (λ (l : List ℕ). get_or l (clumps_before_tile counts_in r c + (k - 1)) 0) (sym (numbers-are grid joiner are h.number)) in
-        subst (HasNumber j whole (moved_position (tile_place heights widths r c) p)) value number
+        let value : h.number (label_of_clump_in_tile_grid counts_in r c (k - 1)) ≡ get_or (numbers grid joiner are h.number) (clump_count_before_tile counts_in r c + (k - 1)) 0 =
+        sym listed ∙ ap (λ (l : List ℕ). get_or l (clump_count_before_tile counts_in r c + (k - 1)) 0) (sym (numbers-are grid joiner are h.number)) in
+        subst (HasClumpNumber j whole (position_in_full_map (rectangle_of_tile_in_grid heights widths r c) p)) value
+        number
 
-    pub counts-clumps : HasAreas j whole ((joiner.clumps - length paired) + get_or roots (length paired) 0)
+    pub counts-clumps : MapHasClumpCount j whole ((joiner.clumps - length paired) + get_or roots (length paired) 0)
     counts-clumps =
         let b = borders j whole heights widths map_of numbers_of grid cut have in
-        let all = borders-count-the-whole j whole heights widths map_of numbers_of counts_in cut b joiner.pairs at-seams ((clumps_in_grid counts_in - length paired) + get_or roots (length paired) 0) (h.count (clumps_in_grid counts_in) below) in
-        subst (λ (n : ℕ). HasAreas j whole ((n - length paired) + get_or roots (length paired) 0)) (sym are.clumps) all
+        let all = borders-count-the-whole j whole heights widths map_of numbers_of counts_in cut b joiner.pairs at-seams ((clump_count_of_tile_grid counts_in - length paired) + get_or roots (length paired) 0) (h.count (clump_count_of_tile_grid counts_in) below) in
+        subst (λ (n : ℕ). MapHasClumpCount j whole ((n - length paired) + get_or roots (length paired) 0))
+        (sym are.clumps) all
 
 -- ---- the result of a joiner
 
-pub grid-runs : (grid : List (List BorderValue)) (joiner : TileJoinerValue) → AreJoinedTiles grid joiner → (paired list roots : List ℕ) (h : NumberPairs joiner.pairs paired list roots) (all : List Stretch) → all ≡ runs_of_tiles h.number 1 joiner.tiles → AreRunsOf joiner.joining grid all
+pub grid-runs : (grid : List (List TileBorderValue)) (joiner : TileJoinerValue) → JoinerHasJoinedTileRows grid joiner → (paired list roots : List ℕ) (h : AreNumbersOfPairedLabels joiner.pairs paired list roots) (all : List ConsecutiveClumps) → all ≡ consecutive_clumps_by_labels h.number 1 joiner.tiles → AreConsecutiveClumpsOfTiles joiner.joining grid all
 grid-runs grid joiner are paired list roots h all is = record {
   numbers = numbers grid joiner are h.number;
   many = many grid joiner are h.number;
@@ -216,6 +236,6 @@ grid-runs grid joiner are paired list roots h all is = record {
   are = is ∙ runs grid joiner are h.number;
 }
 
-pub grid-clumps : (grid : List (List BorderValue)) (joiner : TileJoinerValue) → AreJoinedTiles grid joiner → (paired list roots : List ℕ) (h : NumberPairs joiner.pairs paired list roots) (n : ℕ) → n ≡ (joiner.clumps - length paired) + get_or roots (length paired) 0 → GridClumps joiner.joining grid n
+pub grid-clumps : (grid : List (List TileBorderValue)) (joiner : TileJoinerValue) → JoinerHasJoinedTileRows grid joiner → (paired list roots : List ℕ) (h : AreNumbersOfPairedLabels joiner.pairs paired list roots) (n : ℕ) → n ≡ (joiner.clumps - length paired) + get_or roots (length paired) 0 → IsClumpCountOfTileGrid joiner.joining grid n
 grid-clumps grid joiner are paired list roots h n is whole heights widths map_of numbers_of cut have =
-    subst (HasAreas joiner.joining whole) (sym is) (counts-clumps grid joiner are whole heights widths map_of numbers_of cut have paired list roots h)
+    subst (MapHasClumpCount joiner.joining whole) (sym is) (counts-clumps grid joiner are whole heights widths map_of numbers_of cut have paired list roots h)

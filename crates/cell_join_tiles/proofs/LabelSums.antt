@@ -3,7 +3,9 @@ use Rattle.std.proofs.Common.{◌≡◌, ℕ, zero, suc, ◌+◌, ◌<◌, ◌�
 use Rattle.std.specs.Prelude.{sum, sum_by}
 use Rattle.std.proofs.lemmas.Bool.{cases_lt}
 use Rattle.std.proofs.lemmas.List.Sums.{sum_by-cons}
-use Rattle.cell_join_tiles.specs.Beginnings.{Begun, clumps_in_row, begun_before, begun_above}
+use Rattle.cell_join_tiles.specs.Beginnings.{BegunClumpCountsByRow, clump_count_of_tile_row}
+use Rattle.cell_join_tiles.specs.Beginnings.{begun_clump_count_before_row}
+use Rattle.cell_join_tiles.specs.Beginnings.{begun_clump_count_above_in_tiles}
 use Rattle.cell_join_tiles.proofs.StretchLemmas.{sum-cons}
 
 -- ---- sums of any terms
@@ -44,49 +46,57 @@ between f (suc n) x low high =
 -- ---- clumps that begin
 
 -- the count before the next row is the count before this row plus the count in this row
-pub begun-next : (begun : Begun) (i : ℕ) → begun_before begun (suc i) ≡ begun_before begun i + get_or begun i 0
+pub begun-next : (begun : BegunClumpCountsByRow) (i : ℕ) → begun_clump_count_before_row begun (suc i)
+    ≡ begun_clump_count_before_row begun i + get_or begun i 0
 begun-next [] zero = omega arith
 begun-next [] (suc i) = omega arith
 begun-next (n ∷ begun) zero = omega (arith, sum-cons n (take 0 begun))
 begun-next (n ∷ begun) (suc i) = omega (arith, sum-cons n (take (suc i) begun), sum-cons n (take i begun), begun-next begun i)
 
-abbrev pub in_line : List Begun → ℕ → ℕ
+abbrev pub in_line : List BegunClumpCountsByRow → ℕ → ℕ
 in_line tiles i = sum_by (λ begun. get_or begun i 0) tiles
 
-pub above-next : (tiles : List Begun) (i : ℕ) → begun_above tiles (suc i) ≡ begun_above tiles i + in_line tiles i
+pub above-next : (tiles : List BegunClumpCountsByRow) (i : ℕ)
+    → begun_clump_count_above_in_tiles tiles (suc i) ≡ begun_clump_count_above_in_tiles tiles i + in_line tiles i
 above-next [] i = omega arith
 above-next (t ∷ tiles) i =
     omega (
       arith,
-      sum_by-cons (λ (begun : Begun). begun_before begun (suc i)) t tiles,
-      sum_by-cons (λ (begun : Begun). begun_before begun i) t tiles,
-      sum_by-cons (λ (begun : Begun). get_or begun i 0) t tiles,
+      sum_by-cons (λ (begun : BegunClumpCountsByRow). begun_clump_count_before_row begun (suc i)) t tiles,
+      sum_by-cons (λ (begun : BegunClumpCountsByRow). begun_clump_count_before_row begun i) t tiles,
+      sum_by-cons (λ (begun : BegunClumpCountsByRow). get_or begun i 0) t tiles,
       begun-next t i,
       above-next tiles i,
     )
 
-pub above-le : (tiles : List Begun) (i k : ℕ) → i ≤ k → begun_above tiles i ≤ begun_above tiles k
+pub above-le : (tiles : List BegunClumpCountsByRow) (i k : ℕ) → i ≤ k
+    → begun_clump_count_above_in_tiles tiles i ≤ begun_clump_count_above_in_tiles tiles k
 above-le [] i k le = omega arith
 above-le (t ∷ tiles) i k le =
     omega (
       arith,
-      sum_by-cons (λ (begun : Begun). begun_before begun i) t tiles,
-      sum_by-cons (λ (begun : Begun). begun_before begun k) t tiles,
+      sum_by-cons (λ (begun : BegunClumpCountsByRow). begun_clump_count_before_row begun i) t tiles,
+      sum_by-cons (λ (begun : BegunClumpCountsByRow). begun_clump_count_before_row begun k) t tiles,
       more-le (λ (n : ℕ). n) t i k le,
       above-le tiles i k le,
     )
 
-pub above-none : (tiles : List Begun) → begun_above tiles 0 ≡ 0
+pub above-none : (tiles : List BegunClumpCountsByRow) → begun_clump_count_above_in_tiles tiles 0 ≡ 0
 above-none [] = omega arith
-above-none (t ∷ tiles) = omega (arith, sum_by-cons (λ (begun : Begun). begun_before begun 0) t tiles, above-none tiles)
+above-none (t ∷ tiles) = omega (
+  arith,
+  sum_by-cons (λ (begun : BegunClumpCountsByRow). begun_clump_count_before_row begun
+      0) t tiles,
+  above-none tiles,
+)
 
-pub above-whole : (tiles : List Begun) (n : ℕ) → ((c : ℕ) → c < length tiles → length (get_or tiles c []) ≤ n) → begun_above tiles n ≡ clumps_in_row tiles
+pub above-whole : (tiles : List BegunClumpCountsByRow) (n : ℕ) → ((c : ℕ) → c < length tiles → length (get_or tiles c []) ≤ n) → begun_clump_count_above_in_tiles tiles n ≡ clump_count_of_tile_row tiles
 above-whole [] n short = omega arith
 above-whole (t ∷ tiles) n short =
     omega (
       arith,
-      sum_by-cons (λ (begun : Begun). begun_before begun n) t tiles,
-      sum_by-cons (λ (begun : Begun). sum begun) t tiles,
+      sum_by-cons (λ (begun : BegunClumpCountsByRow). begun_clump_count_before_row begun n) t tiles,
+      sum_by-cons (λ (begun : BegunClumpCountsByRow). sum begun) t tiles,
       all-of (λ (k : ℕ). k) t n (short 0 (omega arith)),
       above-whole tiles n (λ c lt. short (suc c) (omega (arith, lt))),
     )

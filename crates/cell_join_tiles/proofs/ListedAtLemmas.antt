@@ -5,18 +5,18 @@ use Rattle.std.proofs.lemmas.Bool.{cases_lt}
 use Rattle.std.proofs.lemmas.List.{get_or-take, get_or_default, length-take-le}
 use Rattle.std.proofs.lemmas.List.Elements.{Contains-get_or}
 use Rattle.cell_core.specs.Grid.{Grid}
-use Rattle.cell_cats_areas.specs.declared.clump.Joining.{Joining}
-use Rattle.cell_cats_areas.specs.Areas.{Position, cell_at_position, IsEarlierCell, AreJoined, IsFirst, AreFirstsUpTo, IsClumping}
-use Rattle.cell_cats_areas.specs.ClumpLaw.{AreFirsts}
-use Rattle.cell_cats_areas.proofs.PathLemmas.{AreJoined-sym}
-use Rattle.cell_cats_areas.proofs.LawLemmas.{IsBefore-asym, within_le}
+use Rattle.cell_clumps.specs.declared.clump.Joining.{Joining}
+use Rattle.cell_clumps.specs.Clumps.{Position, cell_at_position, IsEarlierCell, AreCellsConnected, IsFirstCellOfClump, AreFirstCellsOfClumpsUpTo, IsClumpMapOf}
+use Rattle.cell_clumps.specs.ClumpLaw.{AreFirstCellsOfAllClumps}
+use Rattle.cell_clumps.proofs.PathLemmas.{AreJoined-sym}
+use Rattle.cell_clumps.proofs.LawLemmas.{IsBefore-asym, within_le}
 
-module _ (j : Joining) (m : Grid) (firsts : List Position) (all : AreFirsts j m firsts) where
+module _ (j : Joining) (m : Grid) (firsts : List Position) (all : AreFirstCellsOfAllClumps j m firsts) where
   before-itself : (p : Position) → ¬ IsEarlierCell p p
   before-itself p before = IsBefore-asym p p before before
 
   -- the number of first cells up to the i-th one is i + 1
-  count-firsts : (i : ℕ) (d : Position) (up_to : List Position) → i < length firsts → AreFirstsUpTo j m (get_or firsts i d) up_to → length up_to ≡ i + 1
+  count-firsts : (i : ℕ) (d : Position) (up_to : List Position) → i < length firsts → AreFirstCellsOfClumpsUpTo j m (get_or firsts i d) up_to → length up_to ≡ i + 1
   count-firsts i d up_to lt are =
       let f : Position = get_or firsts i d in
       let long : length (take (i + 1) firsts) ≡ i + 1 = length-take-le (i + 1) firsts (omega (arith, lt)) in
@@ -48,13 +48,13 @@ module _ (j : Joining) (m : Grid) (firsts : List Position) (all : AreFirsts j m 
       )) in
       omega (arith, most, least, long)
 
-  module _ (numbers : Grid) (clumping : IsClumping j m numbers) where
+  module _ (numbers : Grid) (clumping : IsClumpMapOf j m numbers) where
     -- the place at which the first cell of a cell's clump is listed
     pub record ListedAt (p : Position) : Type 0 where
       pub place : ℕ
       pub inside : place < length firsts
       pub number : cell_at_position numbers p ≡ Some (pos (place + 1))
-      pub joined : AreJoined j m (get_or firsts place p) p
+      pub joined : AreCellsConnected j m (get_or firsts place p) p
       pub early : ¬ IsEarlierCell p (get_or firsts place p)
 
     pub listed_at-of : (p : Position) → IsSome (cell_at_position m p) → ListedAt p
@@ -63,12 +63,12 @@ module _ (j : Joining) (m : Grid) (firsts : List Position) (all : AreFirsts j m 
         let h = t.1 in
         let found = (all.exactly h.first).1 h.is_first in
         let is : get_or firsts found.0 p ≡ h.first = get_or_default firsts found.0 p h.first found.1 ∙ found.2 in
-        let count : length h.firsts ≡ found.0 + 1 = count-firsts found.0 p h.firsts found.1 (subst (λ (f : Position). AreFirstsUpTo j m f h.firsts) (sym is) h.up_to) in
+        let count : length h.firsts ≡ found.0 + 1 = count-firsts found.0 p h.firsts found.1 (subst (λ (f : Position). AreFirstCellsOfClumpsUpTo j m f h.firsts) (sym is) h.up_to) in
         record {
           place = found.0;
           inside = found.1;
           number = t.2 ∙ ap (λ (n : ℕ). Some (pos n)) (sym h.count ∙ count);
-          joined = subst (λ (f : Position). AreJoined j m f p) (sym is) h.joined;
+          joined = subst (λ (f : Position). AreCellsConnected j m f p) (sym is) h.joined;
           early = λ before. h.is_first.none_before p (subst (λ (f : Position). IsEarlierCell p f) is before) (AreJoined-sym j m h.first p h.joined);
         }
 
@@ -77,7 +77,7 @@ module _ (j : Joining) (m : Grid) (firsts : List Position) (all : AreFirsts j m 
     listed_at-own i d lt s =
         let p : Position = get_or firsts i d in
         let f : Position = get_or firsts s.place p in
-        let p_first : IsFirst j m p = (all.exactly p).0 (Contains-get_or firsts i d lt) in
+        let p_first : IsFirstCellOfClump j m p = (all.exactly p).0 (Contains-get_or firsts i d lt) in
         let same_p : (e : Position) → get_or firsts i e ≡ p = λ e. get_or_default firsts i e d lt in
         ⊎_elim
         (λ less. absurd (p_first.none_before f (subst (λ (q : Position). IsEarlierCell f q) (same_p p) (all.in_order s.place i p less lt)) s.joined))

@@ -10,27 +10,31 @@ use Rattle.std.proofs.lemmas.List.Concat.{flat_map-cons}
 use Rattle.std.proofs.lemmas.List.Elements.{Contains-append_left, Contains-append_right, Contains-append_cases}
 use Rattle.std.proofs.lemmas.List.FromFn.{map-range_with_len_more}
 use Rattle.std.proofs.lemmas.Grind.{flat_map-append}
-use Rattle.cell_cats_areas.specs.declared.clump.Joining.{Joining}
-use Rattle.cell_cats_areas.specs.declared.clump.Joining.TheVariants.{Edges, EdgesAndCorners}
-use Rattle.cell_cats_areas.specs.Areas.{AreNeighbours}
+use Rattle.cell_clumps.specs.declared.clump.Joining.{Joining}
+use Rattle.cell_clumps.specs.declared.clump.Joining.TheVariants.{Edges, EdgesAndCorners}
+use Rattle.cell_clumps.specs.Clumps.{DifferByOne}
 use Rattle.cell_join_tiles.specs.declared.marks.Mark.{Mark}
-use Rattle.cell_join_tiles.specs.SeamLines.{Line, line_meeting, line_meetings, line_meetings_at}
+use Rattle.cell_join_tiles.specs.SeamLines.{UnfinishedConsecutiveClumps, label_pair_of_equal_cells}
+use Rattle.cell_join_tiles.specs.SeamLines.{label_pairs_of_adjacent_lines}
+use Rattle.cell_join_tiles.specs.SeamLines.{label_pairs_of_opposite_cells}
 
 -- the places in two adjacent lines whose cells touch
 abbrev pub Touch : Joining → ℕ → ℕ → Type 0
 Touch Edges c d = c ≡ d
-Touch EdgesAndCorners c d = (c ≡ d) ⊎ AreNeighbours c d
+Touch EdgesAndCorners c d = (c ≡ d) ⊎ DifferByOne c d
 
 -- ---- two marks
 
-pub line_meeting-alike : (a b : Mark) → int_eq a.category b.category ≡ true → line_meeting (Some a) (Some b) ≡ (a.label, b.label) ∷ []
-line_meeting-alike a b t = cond-true (int_eq a.category b.category) ((a.label, b.label) ∷ []) [] t
+pub label_pair_of_equal_cells-alike : (a b : Mark) → int_eq a.category b.category ≡ true → label_pair_of_equal_cells (Some a) (Some b) ≡ (a.label, b.label) ∷ []
+label_pair_of_equal_cells-alike a b t = cond-true (int_eq a.category b.category) ((a.label, b.label) ∷ []) [] t
 
-pub line_meeting-unlike : (a b : Mark) → int_eq a.category b.category ≡ false → line_meeting (Some a) (Some b) ≡ []
-line_meeting-unlike a b f = cond-false (int_eq a.category b.category) ((a.label, b.label) ∷ []) [] f
+pub label_pair_of_equal_cells-unlike : (a b : Mark) → int_eq a.category b.category ≡ false
+    → label_pair_of_equal_cells (Some a) (Some b) ≡ []
+label_pair_of_equal_cells-unlike a b f = cond-false (int_eq a.category b.category) ((a.label, b.label) ∷ []) [] f
 
-line_meeting-same : (a b : Mark) → a.category ≡ b.category → line_meeting (Some a) (Some b) ≡ (a.label, b.label) ∷ []
-line_meeting-same a b e = line_meeting-alike a b ((Decides-int_eq a.category b.category).1 e)
+label_pair_of_equal_cells-same : (a b : Mark) → a.category ≡ b.category
+    → label_pair_of_equal_cells (Some a) (Some b) ≡ (a.label, b.label) ∷ []
+label_pair_of_equal_cells-same a b e = label_pair_of_equal_cells-alike a b ((Decides-int_eq a.category b.category).1 e)
 
 -- ---- one more place
 
@@ -62,45 +66,47 @@ places-only f x a (suc n) h =
     (Contains-append_cases (f a) (flat_map f (range_with_len (a + 1) n)) x (subst (λ ps. Contains ps x) split h))
 
 -- a place with a mark is inside the line
-pub mark-inside : (line : Line) (k : ℕ) (x : Mark) → get_or line k None ≡ Some x → k < length line
+pub mark-inside : (line : UnfinishedConsecutiveClumps) (k : ℕ) (x : Mark) → get_or line k None ≡ Some x
+    → k < length line
 mark-inside line k x e =
     ⊎_elim (λ lt. lt)
     (λ past. absurd (let none : get_or line k None ≡ None = get_or_past line k None past in let both : None ≡ Some x = sym none ∙ e in cc))
     (cases_lt k (length line))
 
-one-has : (o p : Option Mark) (x y : Mark) → o ≡ Some x → p ≡ Some y → x.category ≡ y.category → Contains (line_meeting o p) (x.label, y.label)
+one-has : (o p : Option Mark) (x y : Mark) → o ≡ Some x → p ≡ Some y → x.category ≡ y.category → Contains (label_pair_of_equal_cells o p) (x.label, y.label)
 one-has o p x y one other same =
-    let is : line_meeting o p ≡ (x.label, y.label) ∷ [] = ap (λ z. line_meeting z p) one ∙ ap (line_meeting (Some x)) other ∙ line_meeting-same x y same in
+    let is : label_pair_of_equal_cells o p ≡ (x.label, y.label) ∷ [] = ap (λ z. label_pair_of_equal_cells z p) one ∙ ap (label_pair_of_equal_cells (Some x)) other ∙ label_pair_of_equal_cells-same x y same in
     subst (λ ps. Contains ps (x.label, y.label)) (sym is) (0, omega arith, refl)
 
-module _ (one other : Line) where
+module _ (one other : UnfinishedConsecutiveClumps) where
   abbrev here : ℕ → Option Mark
   here k = get_or one k None
 
   abbrev there : ℕ → Option Mark
   there k = get_or other k None
 
-  pub line_meetings-have : (j : Joining) (c d : ℕ) (x y : Mark) → Touch j c d → here c ≡ Some x → there d ≡ Some y → x.category ≡ y.category → Contains (line_meetings j one other) (x.label, y.label)
-  line_meetings-have Edges c d x y touch first second same =
-      places-have (line_meetings_at Edges one other) (x.label, y.label) 0 (length one) c (omega arith) (omega (arith, mark-inside one c x first))
+  pub label_pairs_of_adjacent_lines-have : (j : Joining) (c d : ℕ) (x y : Mark) → Touch j c d → here c ≡ Some x → there d ≡ Some y → x.category ≡ y.category → Contains (label_pairs_of_adjacent_lines j one other) (x.label, y.label)
+  label_pairs_of_adjacent_lines-have Edges c d x y touch first second same =
+      places-have (label_pairs_of_opposite_cells Edges one other) (x.label, y.label) 0 (length one) c (omega arith) (omega (arith, mark-inside one c x first))
       (one-has (here c) (there c) x y first (ap there touch ∙ second) same)
-  line_meetings-have EdgesAndCorners c d x y touch first second same = by touch
+  label_pairs_of_adjacent_lines-have EdgesAndCorners c d x y touch first second same = by touch
     where
       inside : c < length one
       inside = mark-inside one c x first
 
-      by : (c ≡ d) ⊎ AreNeighbours c d → Contains (line_meetings EdgesAndCorners one other) (x.label, y.label)
+      by : (c ≡ d) ⊎ DifferByOne c d → Contains (label_pairs_of_adjacent_lines EdgesAndCorners one other)
+          (x.label, y.label)
       by (inl e) =
-          places-have (line_meetings_at EdgesAndCorners one other) (x.label, y.label) 0 (length one) c (omega arith) (omega (arith, inside))
-          (Contains-append_left (line_meeting (here c) (there c) ++ line_meeting (here c) (there (c + 1))) (line_meeting (here (c + 1)) (there c)) (x.label, y.label)
-          (Contains-append_left (line_meeting (here c) (there c)) (line_meeting (here c) (there (c + 1))) (x.label, y.label) (one-has (here c) (there c) x y first (ap there e ∙ second) same)))
+          places-have (label_pairs_of_opposite_cells EdgesAndCorners one other) (x.label, y.label) 0 (length one) c (omega arith) (omega (arith, inside))
+          (Contains-append_left (label_pair_of_equal_cells (here c) (there c) ++ label_pair_of_equal_cells (here c) (there (c + 1))) (label_pair_of_equal_cells (here (c + 1)) (there c)) (x.label, y.label)
+          (Contains-append_left (label_pair_of_equal_cells (here c) (there c)) (label_pair_of_equal_cells (here c) (there (c + 1))) (x.label, y.label) (one-has (here c) (there c) x y first (ap there e ∙ second) same)))
       by (inr (inl e)) =
-          places-have (line_meetings_at EdgesAndCorners one other) (x.label, y.label) 0 (length one) c (omega arith) (omega (arith, inside))
-          (Contains-append_left (line_meeting (here c) (there c) ++ line_meeting (here c) (there (c + 1))) (line_meeting (here (c + 1)) (there c)) (x.label, y.label)
-          (Contains-append_right (line_meeting (here c) (there c)) (line_meeting (here c) (there (c + 1))) (x.label, y.label) (one-has (here c) (there (c + 1)) x y first (ap there e ∙ second) same)))
+          places-have (label_pairs_of_opposite_cells EdgesAndCorners one other) (x.label, y.label) 0 (length one) c (omega arith) (omega (arith, inside))
+          (Contains-append_left (label_pair_of_equal_cells (here c) (there c) ++ label_pair_of_equal_cells (here c) (there (c + 1))) (label_pair_of_equal_cells (here (c + 1)) (there c)) (x.label, y.label)
+          (Contains-append_right (label_pair_of_equal_cells (here c) (there c)) (label_pair_of_equal_cells (here c) (there (c + 1))) (x.label, y.label) (one-has (here c) (there (c + 1)) x y first (ap there e ∙ second) same)))
       by (inr (inr e)) =
-          places-have (line_meetings_at EdgesAndCorners one other) (x.label, y.label) 0 (length one) d (omega arith) (omega (arith, inside, e))
-          (Contains-append_right (line_meeting (here d) (there d) ++ line_meeting (here d) (there (d + 1))) (line_meeting (here (d + 1)) (there d)) (x.label, y.label)
+          places-have (label_pairs_of_opposite_cells EdgesAndCorners one other) (x.label, y.label) 0 (length one) d (omega arith) (omega (arith, inside, e))
+          (Contains-append_right (label_pair_of_equal_cells (here d) (there d) ++ label_pair_of_equal_cells (here d) (there (d + 1))) (label_pair_of_equal_cells (here (d + 1)) (there d)) (x.label, y.label)
           (one-has (here (d + 1)) (there d) x y (ap here e ∙ first) second same))
 
   -- two places whose marks form a pair
@@ -116,16 +122,16 @@ module _ (one other : Line) where
     pub first : a ≡ x.label
     pub second : b ≡ y.label
 
-  meets-from : (j : Joining) (c d : ℕ) (a b : ℕ) → Touch j c d → (o p : Option Mark) → here c ≡ o → there d ≡ p → Contains (line_meeting o p) (a, b) → Meets j a b
+  meets-from : (j : Joining) (c d : ℕ) (a b : ℕ) → Touch j c d → (o p : Option Mark) → here c ≡ o → there d ≡ p → Contains (label_pair_of_equal_cells o p) (a, b) → Meets j a b
   meets-from j c d a b touch None p is_one is_other h = absurd (omega (arith, h.1))
   meets-from j c d a b touch (Some x) None is_one is_other h = absurd (omega (arith, h.1))
   meets-from j c d a b touch (Some x) (Some y) is_one is_other h =
       ⊎_elim
       (λ t. let same : x.category ≡ y.category = (Decides-int_eq x.category y.category).0 t in
-      let only : Contains ((x.label, y.label) ∷ []) (a, b) = subst (λ ps. Contains ps (a, b)) (line_meeting-same x y same) h in
+      let only : Contains ((x.label, y.label) ∷ []) (a, b) = subst (λ ps. Contains ps (a, b)) (label_pair_of_equal_cells-same x y same) h in
       let is = single (x.label, y.label) (a, b) only in
       record { c = c; d = d; x = x; y = y; touch = touch; at_one = is_one; at_other = is_other; same = same; first = sym (ap (λ (z : ℕ × ℕ). z.0) is); second = sym (ap (λ (z : ℕ × ℕ). z.1) is) })
-      (λ f. absurd (let none : Contains [] (a, b) = subst (λ ps. Contains ps (a, b)) (line_meeting-unlike x y f) h in omega (arith, none.1)))
+      (λ f. absurd (let none : Contains [] (a, b) = subst (λ ps. Contains ps (a, b)) (label_pair_of_equal_cells-unlike x y f) h in omega (arith, none.1)))
       (cases_Bool (int_eq x.category y.category))
     where
       single : (z w : ℕ × ℕ) → Contains (z ∷ []) w → z ≡ w
@@ -135,16 +141,18 @@ module _ (one other : Line) where
           at zero lt e = e
           at (suc i) lt e = absurd (omega (arith, lt))
 
-  pub line_meetings-only : (j : Joining) (a b : ℕ) → Contains (line_meetings j one other) (a, b) → Meets j a b
-  line_meetings-only Edges a b h =
-      let t = places-only (line_meetings_at Edges one other) (a, b) 0 (length one) h in
+  pub label_pairs_of_adjacent_lines-only : (j : Joining) (a b : ℕ)
+      → Contains (label_pairs_of_adjacent_lines j one other) (a, b) → Meets j a b
+  label_pairs_of_adjacent_lines-only Edges a b h =
+      let t = places-only (label_pairs_of_opposite_cells Edges one other) (a, b) 0 (length one) h in
       meets-from Edges t.0 t.0 a b refl (here t.0) (there t.0) refl refl t.1
-  line_meetings-only EdgesAndCorners a b h =
-      let t = places-only (line_meetings_at EdgesAndCorners one other) (a, b) 0 (length one) h in
+  label_pairs_of_adjacent_lines-only EdgesAndCorners a b h =
+      let t = places-only (label_pairs_of_opposite_cells EdgesAndCorners one other) (a, b) 0 (length one) h in
       let c = t.0 in
       ⊎_elim
       (λ more. ⊎_elim (λ own. meets-from EdgesAndCorners c c a b (inl refl) (here c) (there c) refl refl own)
       (λ right. meets-from EdgesAndCorners c (c + 1) a b (inr (inl refl)) (here c) (there (c + 1)) refl refl right)
-      (Contains-append_cases (line_meeting (here c) (there c)) (line_meeting (here c) (there (c + 1))) (a, b) more))
+      (Contains-append_cases (label_pair_of_equal_cells (here c) (there c)) (label_pair_of_equal_cells (here c)
+      (there (c + 1))) (a, b) more))
       (λ left. meets-from EdgesAndCorners (c + 1) c a b (inr (inr refl)) (here (c + 1)) (there c) refl refl left)
-      (Contains-append_cases (line_meeting (here c) (there c) ++ line_meeting (here c) (there (c + 1))) (line_meeting (here (c + 1)) (there c)) (a, b) t.1)
+      (Contains-append_cases (label_pair_of_equal_cells (here c) (there c) ++ label_pair_of_equal_cells (here c) (there (c + 1))) (label_pair_of_equal_cells (here (c + 1)) (there c)) (a, b) t.1)

@@ -4,15 +4,15 @@ use Rattle.std.proofs.lemmas.Bool.{cases_lt}
 use Rattle.std.proofs.lemmas.List.{get_or-take, get_or_past, length_push}
 use Rattle.std.proofs.lemmas.List.Sums.{count_by-le-length}
 use Rattle.cell_core.specs.Grid.{Grid, CellValue}
-use Rattle.cell_cats_areas.specs.declared.clump.Joining.{Joining}
-use Rattle.cell_cats_areas.specs.Areas.{Position, cell_at_position, IsClumping}
-use Rattle.cell_cats_areas.specs.ClumpLaw.{AreFirsts}
-use Rattle.cell_cats_areas.specs.parts.CellPlaces.{position}
-use Rattle.cell_join_tiles.specs.parts.Greatest.{greatest_in, greatest_of}
+use Rattle.cell_clumps.specs.declared.clump.Joining.{Joining}
+use Rattle.cell_clumps.specs.Clumps.{Position, cell_at_position, IsClumpMapOf}
+use Rattle.cell_clumps.specs.ClumpLaw.{AreFirstCellsOfAllClumps}
+use Rattle.cell_clumps.specs.parts.CellPlaces.{position_at_row_and_column}
+use Rattle.cell_join_tiles.specs.parts.Greatest.{greatest_of_number_and_cells, greatest_of_number_and_rows}
 use Rattle.cell_join_tiles.proofs.GreatestLemmas.{first-bound, in-least, of-reached, some-numbered}
 use Rattle.cell_join_tiles.proofs.ListedAtLemmas.{listed_at-of, listed_at-own, first-some}
-use Rattle.cell_join_tiles.specs.Beginnings.{begun_before}
-use Rattle.cell_join_tiles.specs.Borders.{Rises, RisesCountBegun}
+use Rattle.cell_join_tiles.specs.Beginnings.{begun_clump_count_before_row}
+use Rattle.cell_join_tiles.specs.Borders.{BegunCountsAreMaximumRises, MaximumRisesCountNewClumps}
 use Rattle.cell_join_tiles.proofs.StretchLemmas.{sum-cons}
 use Rattle.cell_join_tiles.proofs.LabelSums.{begun-next}
 use Rattle.cell_join_tiles.proofs.BegunLemmas.{above, above-next, parts}
@@ -40,7 +40,7 @@ of-first i rows n r c is =
 
 -- ---- the clumps of the first rows
 
-module _ (j : Joining) (m numbers : Grid) (firsts : List Position) (clumping : IsClumping j m numbers) (all : AreFirsts j m firsts) where
+module _ (j : Joining) (m numbers : Grid) (firsts : List Position) (clumping : IsClumpMapOf j m numbers) (all : AreFirstCellsOfAllClumps j m firsts) where
   -- a number in a cell above a row is at most the number of first cells above that row
   number-above : (p : Position) (i n : ℕ) → p.row < i → cell_at_position numbers p ≡ Some (pos n) → n ≤ above firsts i
   number-above p i n lt is =
@@ -59,13 +59,13 @@ module _ (j : Joining) (m numbers : Grid) (firsts : List Position) (clumping : I
       few firsts i = count_by-le-length (λ (p : Position). ltb p.row i) firsts
 
   -- the number of first cells above a row is at most the largest number above that row
-  above-number : (i : ℕ) → above firsts i ≤ greatest_of 0 (take i numbers.rows)
+  above-number : (i : ℕ) → above firsts i ≤ greatest_of_number_and_rows 0 (take i numbers.rows)
   above-number i = by (above firsts i) refl
     where
-      by : (n : ℕ) → above firsts i ≡ n → n ≤ greatest_of 0 (take i numbers.rows)
+      by : (n : ℕ) → above firsts i ≡ n → n ≤ greatest_of_number_and_rows 0 (take i numbers.rows)
       by zero e = omega arith
       by (suc k) e =
-          let o : Position = position 0 0 in
+          let o : Position = position_at_row_and_column 0 0 in
           let k_in : k < length firsts = omega (arith, e, above-few i) in
           let p : Position = get_or firsts k o in
           let part = parts firsts all.in_order k i o k_in in
@@ -74,16 +74,18 @@ module _ (j : Joining) (m numbers : Grid) (firsts : List Position) (clumping : I
           let place = listed_at-own j m firsts all numbers clumping k o k_in s in
           omega (arith, place, first-bound 0 (s.place + 1) i numbers.rows p.row p.col high s.number)
 
-  pub rises : (i : ℕ) → greatest_of 0 (take i numbers.rows) ≡ above firsts i
+  pub rises : (i : ℕ) → greatest_of_number_and_rows 0 (take i numbers.rows) ≡ above firsts i
   rises i =
-      let most : greatest_of 0 (take i numbers.rows) ≤ above firsts i =
+      let most : greatest_of_number_and_rows 0 (take i numbers.rows) ≤ above firsts i =
       ⊎_elim (λ none. omega (arith, none))
-      (λ stands. let at = of-first i numbers.rows (greatest_of 0 (take i numbers.rows)) stands.0 stands.1 stands.2 in
-      number-above (position at.r at.c) i (greatest_of 0 (take i numbers.rows)) at.early at.is)
+      (λ stands. let at = of-first i numbers.rows (greatest_of_number_and_rows 0
+      (take i numbers.rows)) stands.0 stands.1 stands.2 in
+      number-above (position_at_row_and_column at.r at.c) i (greatest_of_number_and_rows 0
+      (take i numbers.rows)) at.early at.is)
       (of-reached 0 (take i numbers.rows)) in
       omega (arith, most, above-number i)
 
-pub rises-report-begun : RisesCountBegun
+pub rises-report-begun : MaximumRisesCountNewClumps
 rises-report-begun j m numbers firsts rows begun clumping all within ids = record {
   clumping = clumping;
   all = all;
@@ -105,21 +107,24 @@ rises-report-begun j m numbers firsts rows begun clumping all within ids = recor
 -- what is known after the rows so far: their largest number, and the clumps that begin in each row
 pub record RisesSoFar (numbers : Grid) (row most : ℕ) (begun : List ℕ) : Type 0 where
   pub long : length begun ≡ row
-  pub greatest : most ≡ greatest_of 0 (take row numbers.rows)
-  pub each : (i : ℕ) → i ≤ row → begun_before begun i ≡ greatest_of 0 (take i numbers.rows)
+  pub greatest : most ≡ greatest_of_number_and_rows 0 (take row numbers.rows)
+  pub each : (i : ℕ) → i ≤ row → begun_clump_count_before_row begun i
+      ≡ greatest_of_number_and_rows 0 (take i numbers.rows)
 
-greatest-next : (most : ℕ) (rows : List (List CellValue)) (r : ℕ) → r < length rows → greatest_of most (take (suc r) rows) ≡ greatest_in (greatest_of most (take r rows)) (get_or rows r [])
+greatest-next : (most : ℕ) (rows : List (List CellValue)) (r : ℕ) → r < length rows → greatest_of_number_and_rows most (take (suc r) rows) ≡ greatest_of_number_and_cells (greatest_of_number_and_rows most (take r rows)) (get_or rows r [])
 greatest-next most [] r lt = absurd (omega (arith, lt))
 greatest-next most (row ∷ rows) zero lt = refl
-greatest-next most (row ∷ rows) (suc r) lt = greatest-next (greatest_in most row) rows r (omega (arith, lt))
+greatest-next most (row ∷ rows) (suc r) lt = greatest-next (greatest_of_number_and_cells most row) rows r
+    (omega (arith, lt))
 
 -- appending a count does not change the sums before it
-before-push : (begun : List ℕ) (n i : ℕ) → i ≤ length begun → begun_before (begun ++ n ∷ []) i ≡ begun_before begun i
+before-push : (begun : List ℕ) (n i : ℕ) → i ≤ length begun → begun_clump_count_before_row (begun ++ n ∷ []) i
+    ≡ begun_clump_count_before_row begun i
 before-push begun n zero le = refl
 before-push [] n (suc i) le = absurd (omega (arith, le))
 before-push (m ∷ begun) n (suc i) le = omega (arith, sum-cons m (take i (begun ++ n ∷ [])), sum-cons m (take i begun), before-push begun n i (omega (arith, le)))
 
-before-last : (begun : List ℕ) (n : ℕ) → begun_before (begun ++ n ∷ []) (suc (length begun)) ≡ begun_before begun (length begun) + n
+before-last : (begun : List ℕ) (n : ℕ) → begun_clump_count_before_row (begun ++ n ∷ []) (suc (length begun)) ≡ begun_clump_count_before_row begun (length begun) + n
 before-last [] n = omega (arith, sum-cons n [])
 before-last (m ∷ begun) n = omega (arith, sum-cons m (take (suc (length begun)) (begun ++ n ∷ [])), sum-cons m (take (length begun) begun), before-last begun n)
 
@@ -127,28 +132,28 @@ pub rises-none : (numbers : Grid) → RisesSoFar numbers 0 0 []
 rises-none numbers = record {
   long = refl;
   greatest = refl;
-  each = λ i le. let none : 0 ≡ i = omega (arith, le) in subst (λ (n : ℕ). begun_before [] n ≡ greatest_of 0 (take n numbers.rows)) none refl;
+  each = λ i le. let none : 0 ≡ i = omega (arith, le) in subst (λ (n : ℕ). begun_clump_count_before_row [] n ≡ greatest_of_number_and_rows 0 (take n numbers.rows)) none refl;
 }
 
-pub rises-more : (numbers : Grid) (row most more : ℕ) (begun : List ℕ) → RisesSoFar numbers row most begun → row < length numbers.rows → more ≡ greatest_in most (get_or numbers.rows row []) → RisesSoFar numbers (row + 1) more (begun ++ (more - most) ∷ [])
+pub rises-more : (numbers : Grid) (row most more : ℕ) (begun : List ℕ) → RisesSoFar numbers row most begun → row < length numbers.rows → more ≡ greatest_of_number_and_cells most (get_or numbers.rows row []) → RisesSoFar numbers (row + 1) more (begun ++ (more - most) ∷ [])
 rises-more numbers row most more begun h lt is =
     let next : suc row ≡ row + 1 = omega arith in
-    let own : more ≡ greatest_of 0 (take (suc row) numbers.rows) = is ∙ ap (λ (n : ℕ). greatest_in n (get_or numbers.rows row [])) h.greatest ∙ sym (greatest-next 0 numbers.rows row lt) in
+    let own : more ≡ greatest_of_number_and_rows 0 (take (suc row) numbers.rows) = is ∙ ap (λ (n : ℕ). greatest_of_number_and_cells n (get_or numbers.rows row [])) h.greatest ∙ sym (greatest-next 0 numbers.rows row lt) in
     let least : most ≤ more = omega (arith, is, in-least most (get_or numbers.rows row [])) in
-    let last : begun_before (begun ++ (more - most) ∷ []) (suc row) ≡ more =
-    ap (λ (n : ℕ). begun_before (begun ++ (more - most) ∷ []) (suc n)) (sym h.long)
+    let last : begun_clump_count_before_row (begun ++ (more - most) ∷ []) (suc row) ≡ more =
+    ap (λ (n : ℕ). begun_clump_count_before_row (begun ++ (more - most) ∷ []) (suc n)) (sym h.long)
     ∙ before-last begun (more - most)
-    ∙ (let at : begun_before begun (length begun) ≡ begun_before begun row = ap (begun_before begun) h.long in let e : begun_before begun (length begun) + (more - most) ≡ more = omega (arith, at, h.each row (omega arith), h.greatest, least) in e) in
+    ∙ (let at : begun_clump_count_before_row begun (length begun) ≡ begun_clump_count_before_row begun row = ap (begun_clump_count_before_row begun) h.long in let e : begun_clump_count_before_row begun (length begun) + (more - most) ≡ more = omega (arith, at, h.each row (omega arith), h.greatest, least) in e) in
     record {
       long = omega (arith, length_push begun (more - most), h.long);
-      greatest = own ∙ ap (λ (n : ℕ). greatest_of 0 (take n numbers.rows)) next;
+      greatest = own ∙ ap (λ (n : ℕ). greatest_of_number_and_rows 0 (take n numbers.rows)) next;
       each = λ i le.
           ⊎_elim
           (λ less. before-push begun (more - most) i (omega (arith, less, h.long)) ∙ h.each i (omega (arith, less)))
           (λ past. let at : suc row ≡ i = omega (arith, past, le) in
-          subst (λ (n : ℕ). begun_before (begun ++ (more - most) ∷ []) n ≡ greatest_of 0 (take n numbers.rows)) at (last ∙ own))
+          subst (λ (n : ℕ). begun_clump_count_before_row (begun ++ (more - most) ∷ []) n ≡ greatest_of_number_and_rows 0 (take n numbers.rows)) at (last ∙ own))
           (cases_lt i (suc row));
     }
 
-pub rises-all : (numbers : Grid) (row most : ℕ) (begun : List ℕ) → RisesSoFar numbers row most begun → Rises row numbers begun
+pub rises-all : (numbers : Grid) (row most : ℕ) (begun : List ℕ) → RisesSoFar numbers row most begun → BegunCountsAreMaximumRises row numbers begun
 rises-all numbers row most begun h = record { long = h.long; most = h.each }

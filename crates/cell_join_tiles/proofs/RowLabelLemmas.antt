@@ -9,8 +9,8 @@ use Rattle.std.proofs.lemmas.List.Sums.{sum_by-cons}
 use Rattle.std.proofs.lemmas.List.Concat.{flat_map-cons}
 use Rattle.std.proofs.lemmas.List.FromFn.{map-range_with_len_more}
 use Rattle.std.proofs.lemmas.Grind.{flat_map-append}
-use Rattle.cell_join_tiles.specs.Beginnings.{Begun, begun_before, begun_above, begun_on_left, row_begun, clumps_in_row, clumps_in_tile}
-use Rattle.cell_join_tiles.specs.parts.RowLabels.{AreEnds, AreFirstLabels, in_each, tile_label, row_label, labels_in_tile}
+use Rattle.cell_join_tiles.specs.Beginnings.{BegunClumpCountsByRow, begun_clump_count_before_row, begun_clump_count_above_in_tiles, begun_clump_count_in_row_to_left, row_where_clump_number_begins, clump_count_of_tile_row, clump_count_of_tile}
+use Rattle.cell_join_tiles.specs.parts.RowLabels.{AreClumpCountsUpToRows, AreFirstLabelsOfTileInRow, begun_clump_count_in_all_tiles, label_of_clump_from_first_labels, label_of_clump_in_row_of_tiles, labels_of_clumps_in_tile}
 use Rattle.cell_join_tiles.proofs.StretchLemmas.{Lies, lies, stretch-is}
 use Rattle.cell_join_tiles.proofs.LabelSums.{more-le, next-one, all-of, begun-next, above-next, above-le, above-whole}
 
@@ -28,7 +28,7 @@ list-more f n = map-range_with_len_more f 0 n n (omega arith)
 
 -- ---- ends of the rows of a tile
 
-module _ (begun ends : List ℕ) (are : AreEnds begun ends) where
+module _ (begun ends : List ℕ) (are : AreClumpCountsUpToRows begun ends) where
   pub ends-rise : IsNonDecreasingBy (λ end. end) ends
   ends-rise i j d le lt =
       let j_in : j < length begun = omega (arith, lt, are.long) in
@@ -62,61 +62,75 @@ module _ (begun ends : List ℕ) (are : AreEnds begun ends) where
       omega (arith, low, own, all)
 
   -- the end of a row is the count before it plus the count in it
-  pub end-before : (row : ℕ) → row < length begun → get_or ends row 0 ≡ begun_before begun row + get_or begun row 0
+  pub end-before : (row : ℕ) → row < length begun → get_or ends row 0
+      ≡ begun_clump_count_before_row begun row + get_or begun row 0
   end-before row inside = are.each row inside ∙ begun-next begun row
 
 -- ---- the labels of first clumps
 
-pub first-label : (base : ℕ) (tiles : List Begun) (c : ℕ) (firsts : List ℕ) → AreFirstLabels base tiles c firsts → length (get_or tiles c []) ≤ length firsts → (k : ℕ) → k < sum (get_or tiles c []) → tile_label firsts (get_or tiles c []) k ≡ row_label base tiles c k
+pub first-label : (base : ℕ) (tiles : List BegunClumpCountsByRow) (c : ℕ) (firsts : List ℕ) → AreFirstLabelsOfTileInRow base tiles c firsts → length (get_or tiles c []) ≤ length firsts → (k : ℕ) → k < sum (get_or tiles c []) → label_of_clump_from_first_labels firsts (get_or tiles c []) k ≡ label_of_clump_in_row_of_tiles base tiles c k
 first-label base tiles c firsts are long k lt =
-    let begun : Begun = get_or tiles c [] in
+    let begun : BegunClumpCountsByRow = get_or tiles c [] in
     let at = lies begun k lt in
-    let i = row_begun begun k in
+    let i = row_where_clump_number_begins begun k in
     let first = are i (omega (arith, at.inside, long)) in
     omega (arith, first)
 
-pub few-in-tile : (tiles : List Begun) (c : ℕ) → c < length tiles → sum (get_or tiles c []) ≤ clumps_in_row tiles
+pub few-in-tile : (tiles : List BegunClumpCountsByRow) (c : ℕ) → c < length tiles
+    → sum (get_or tiles c []) ≤ clump_count_of_tile_row tiles
 few-in-tile tiles c lt =
-    omega (arith, next-one clumps_in_tile tiles c [] lt, more-le clumps_in_tile tiles (suc c) (length tiles) (omega (arith, lt)), all-of clumps_in_tile tiles (length tiles) (omega arith))
+    omega (arith, next-one clump_count_of_tile tiles c [] lt, more-le clump_count_of_tile tiles (suc c) (length tiles) (omega (arith, lt)), all-of clump_count_of_tile tiles (length tiles) (omega arith))
 
 -- the labels of the clumps that begin in a row of a tile fit in the labels of the row of tiles
-pub firsts-fit : (base rows : ℕ) (tiles : List Begun) (c : ℕ) (firsts : List ℕ) → AreFirstLabels base tiles c firsts → length firsts ≡ rows → ((d : ℕ) → d < length tiles → length (get_or tiles d []) ≤ rows) → c < length tiles → (i : ℕ) → i < rows → get_or firsts i 0 + get_or (get_or tiles c []) i 0 ≤ base + clumps_in_row tiles
+pub firsts-fit : (base rows : ℕ) (tiles : List BegunClumpCountsByRow) (c : ℕ) (firsts : List ℕ) → AreFirstLabelsOfTileInRow base tiles c firsts → length firsts ≡ rows → ((d : ℕ) → d < length tiles → length (get_or tiles d []) ≤ rows) → c < length tiles → (i : ℕ) → i < rows → get_or firsts i 0 + get_or (get_or tiles c []) i 0 ≤ base + clump_count_of_tile_row tiles
 firsts-fit base rows tiles c firsts are long even c_in i lt =
-    let f = λ (begun : Begun). get_or begun i 0 in
+    let f = λ (begun : BegunClumpCountsByRow). get_or begun i 0 in
     let first = are i (omega (arith, lt, long)) in
     let here = next-one f tiles c [] c_in in
     let up = more-le f tiles (suc c) (length tiles) (omega (arith, c_in)) in
     let all = all-of f tiles (length tiles) (omega arith) in
     omega (arith, first, here, up, all, above-next tiles i, above-le tiles (suc i) rows (omega (arith, lt)), above-whole tiles rows even)
 
-pub firsts-pass : (base : ℕ) (tiles : List Begun) (c : ℕ) (firsts next : List ℕ) → AreFirstLabels base tiles c firsts → c < length tiles → length next ≡ length firsts → ((i : ℕ) → i < length firsts → get_or next i 0 ≡ get_or firsts i 0 + get_or (get_or tiles c []) i 0) → AreFirstLabels base tiles (c + 1) next
+pub firsts-pass : (base : ℕ) (tiles : List BegunClumpCountsByRow) (c : ℕ) (firsts next : List ℕ) → AreFirstLabelsOfTileInRow base tiles c firsts → c < length tiles → length next ≡ length firsts → ((i : ℕ) → i < length firsts → get_or next i 0 ≡ get_or firsts i 0 + get_or (get_or tiles c []) i 0) → AreFirstLabelsOfTileInRow base tiles (c + 1) next
 firsts-pass base tiles c firsts next are c_in long each i lt =
     let i_in : i < length firsts = omega (arith, lt, long) in
     let one : suc c ≡ c + 1 = omega arith in
-    let left : begun_on_left tiles i (suc c) ≡ begun_on_left tiles i (c + 1) = ap (begun_on_left tiles i) one in
-    omega (arith, are i i_in, each i i_in, next-one (λ (begun : Begun). get_or begun i 0) tiles c [] c_in, left)
+    let left : begun_clump_count_in_row_to_left tiles i (suc c)
+    ≡ begun_clump_count_in_row_to_left tiles i (c + 1) = ap (begun_clump_count_in_row_to_left tiles i) one in
+    omega (
+      arith,
+      are i i_in,
+      each i i_in,
+      next-one (λ (begun : BegunClumpCountsByRow). get_or begun i 0) tiles c []
+          c_in,
+      left,
+    )
 
 -- before the first tile, the label of each row is the base plus the count of the rows above
-pub firsts-start : (base : ℕ) (tiles : List Begun) (firsts : List ℕ) → ((i : ℕ) → i < length firsts → get_or firsts i 0 ≡ base + begun_above tiles i) → AreFirstLabels base tiles 0 firsts
+pub firsts-start : (base : ℕ) (tiles : List BegunClumpCountsByRow) (firsts : List ℕ) → ((i : ℕ) → i < length firsts → get_or firsts i 0 ≡ base + begun_clump_count_above_in_tiles tiles i) → AreFirstLabelsOfTileInRow base tiles 0 firsts
 firsts-start base tiles firsts are i lt =
-    let none : begun_on_left tiles i 0 ≡ 0 = refl in
+    let none : begun_clump_count_in_row_to_left tiles i 0 ≡ 0 = refl in
     omega (arith, are i lt, none)
 
 -- ---- sums over a row of tiles
 
-begun-le : (begun : Begun) (i : ℕ) → get_or begun i 0 ≤ sum begun
+begun-le : (begun : BegunClumpCountsByRow) (i : ℕ) → get_or begun i 0 ≤ sum begun
 begun-le [] i = let none = get_or_past {X = ℕ} [] i 0 (omega arith) in omega (arith, none)
 begun-le (n ∷ begun) zero = omega (arith, sum_by-cons (λ (k : ℕ). k) n begun)
 begun-le (n ∷ begun) (suc i) = omega (arith, sum_by-cons (λ (k : ℕ). k) n begun, begun-le begun i)
 
-pub in-each-le : (tiles : List Begun) (i : ℕ) → in_each tiles i ≤ clumps_in_row tiles
+pub in-each-le : (tiles : List BegunClumpCountsByRow) (i : ℕ)
+    → begun_clump_count_in_all_tiles tiles i ≤ clump_count_of_tile_row tiles
 in-each-le [] i = omega arith
 in-each-le (t ∷ tiles) i =
-    omega (arith, sum_by-cons (λ (begun : Begun). get_or begun i 0) t tiles, sum_by-cons (λ (begun : Begun). sum begun) t tiles, begun-le t i, in-each-le tiles i)
+    omega (arith, sum_by-cons (λ (begun : BegunClumpCountsByRow). get_or begun i 0) t tiles, sum_by-cons (λ (begun : BegunClumpCountsByRow). sum begun) t tiles, begun-le t i, in-each-le tiles i)
 
 -- the count above the next row is the count above this row plus the count in this row
-pub above-more : (tiles : List Begun) (i : ℕ) → begun_above tiles (i + 1) ≡ begun_above tiles i + in_each tiles i
-above-more tiles i = let one : i + 1 ≡ suc i = omega arith in ap (begun_above tiles) one ∙ above-next tiles i
+pub above-more : (tiles : List BegunClumpCountsByRow) (i : ℕ)
+    → begun_clump_count_above_in_tiles tiles (i + 1) ≡ begun_clump_count_above_in_tiles tiles i
+    + begun_clump_count_in_all_tiles tiles i
+above-more tiles i = let one : i + 1 ≡ suc i = omega arith in ap (begun_clump_count_above_in_tiles tiles) one
+    ∙ above-next tiles i
 
 -- ---- the labels of all clumps of a tile
 
@@ -141,34 +155,36 @@ module _ (firsts begun : List ℕ) where
   abbrev pub row_labels : ℕ → List ℕ
   row_labels i = range_with_len (get_or firsts i 0) (get_or begun i 0)
 
-  in-row : (i k : ℕ) → i < length begun → k < get_or begun i 0 → tile_label firsts begun (begun_before begun i + k) ≡ get_or firsts i 0 + k
+  in-row : (i k : ℕ) → i < length begun → k < get_or begun i 0 → label_of_clump_from_first_labels firsts begun (begun_clump_count_before_row begun i + k) ≡ get_or firsts i 0 + k
   in-row i k inside lt =
-      let is : row_begun begun (begun_before begun i + k) ≡ i = stretch-is begun i (begun_before begun i + k) (record { inside = inside; low = omega arith; high = omega (arith, lt) }) in
-      ap (λ (row : ℕ). get_or firsts row 0 + (begun_before begun i + k - begun_before begun row)) is ∙ omega arith
+      let is : row_where_clump_number_begins begun (begun_clump_count_before_row begun i + k) ≡ i = stretch-is begun i (begun_clump_count_before_row begun i + k) (record { inside = inside; low = omega arith; high = omega (arith, lt) }) in
+      ap (λ (row : ℕ). get_or firsts row 0 + (begun_clump_count_before_row begun i + k
+      - begun_clump_count_before_row begun
+      row)) is ∙ omega arith
 
-  pub labels-so-far : (n : ℕ) → n ≤ length begun → flat_map row_labels (range_with_len 0 n) ≡ map (tile_label firsts begun) (range_with_len 0 (begun_before begun n))
+  pub labels-so-far : (n : ℕ) → n ≤ length begun → flat_map row_labels (range_with_len 0 n) ≡ map (label_of_clump_from_first_labels firsts begun) (range_with_len 0 (begun_clump_count_before_row begun n))
   labels-so-far zero le = refl
   labels-so-far (suc n) le =
       let one : suc n ≡ n + 1 = omega arith in
-      let before = begun_before begun n in
+      let before = begun_clump_count_before_row begun n in
       let count = get_or begun n 0 in
-      let more : range_with_len 0 (begun_before begun (suc n)) ≡ range_with_len 0 before ++ range_with_len before count =
+      let more : range_with_len 0 (begun_clump_count_before_row begun (suc n)) ≡ range_with_len 0 before ++ range_with_len before count =
       ap (range_with_len 0) (begun-next begun n) ∙ range-append 0 before count ∙ ap (λ (k : ℕ). range_with_len 0 before ++ range_with_len k count) (let z : 0 + before ≡ before = omega arith in z) in
       ap (λ (k : ℕ). flat_map row_labels (range_with_len 0 k)) one
       ∙ lists-more row_labels n
       ∙ ap (λ (l : List ℕ). l ++ row_labels n) (labels-so-far n (omega (arith, le)))
-      ∙ ap (λ (l : List ℕ). map (tile_label firsts begun) (range_with_len 0 before) ++ l) (run-of (tile_label firsts begun) (get_or firsts n 0) before count (λ k lt. in-row n k (omega (arith, le)) lt))
-      ∙ sym (ap (map (tile_label firsts begun)) more ∙ map-append (tile_label firsts begun) (range_with_len 0 before) (range_with_len before count))
+      ∙ ap (λ (l : List ℕ). map (label_of_clump_from_first_labels firsts begun) (range_with_len 0 before) ++ l) (run-of (label_of_clump_from_first_labels firsts begun) (get_or firsts n 0) before count (λ k lt. in-row n k (omega (arith, le)) lt))
+      ∙ sym (ap (map (label_of_clump_from_first_labels firsts begun)) more ∙ map-append (label_of_clump_from_first_labels firsts begun) (range_with_len 0 before) (range_with_len before count))
 
-  pub all-labels : (n : ℕ) → n ≡ length begun → flat_map row_labels (range_with_len 0 n) ≡ map (tile_label firsts begun) (range_with_len 0 (sum begun))
+  pub all-labels : (n : ℕ) → n ≡ length begun → flat_map row_labels (range_with_len 0 n) ≡ map (label_of_clump_from_first_labels firsts begun) (range_with_len 0 (sum begun))
   all-labels n e =
-      labels-so-far n (omega (arith, e)) ∙ ap (λ (k : ℕ). map (tile_label firsts begun) (range_with_len 0 k)) (all-of (λ (k : ℕ). k) begun n (omega (arith, e)))
+      labels-so-far n (omega (arith, e)) ∙ ap (λ (k : ℕ). map (label_of_clump_from_first_labels firsts begun) (range_with_len 0 k)) (all-of (λ (k : ℕ). k) begun n (omega (arith, e)))
 
 -- the labels of all clumps of a tile are its labels in the row of tiles
-pub tile-labels : (base : ℕ) (tiles : List Begun) (c : ℕ) (firsts : List ℕ) → AreFirstLabels base tiles c firsts → length (get_or tiles c []) ≤ length firsts → map (tile_label firsts (get_or tiles c [])) (range_with_len 0 (sum (get_or tiles c []))) ≡ labels_in_tile base tiles c
+pub tile-labels : (base : ℕ) (tiles : List BegunClumpCountsByRow) (c : ℕ) (firsts : List ℕ) → AreFirstLabelsOfTileInRow base tiles c firsts → length (get_or tiles c []) ≤ length firsts → map (label_of_clump_from_first_labels firsts (get_or tiles c [])) (range_with_len 0 (sum (get_or tiles c []))) ≡ labels_of_clumps_in_tile base tiles c
 tile-labels base tiles c firsts are long =
     let begun = get_or tiles c [] in
-    same-map (tile_label firsts begun) (row_label base tiles c) (sum begun) (λ k lt. first-label base tiles c firsts are long k lt)
+    same-map (label_of_clump_from_first_labels firsts begun) (label_of_clump_in_row_of_tiles base tiles c) (sum begun) (λ k lt. first-label base tiles c firsts are long k lt)
   where
     same-from : (f g : ℕ → ℕ) (a n : ℕ) → ((k : ℕ) → k < a + n → f k ≡ g k) → map f (range_with_len a n) ≡ map g (range_with_len a n)
     same-from f g a zero same = refl
@@ -185,7 +201,7 @@ pub low-in-tile : (begun : List ℕ) (row clump : ℕ) → Lies begun clump row 
 low-in-tile begun row clump lies =
     omega (arith, lies.high, begun-next begun row, more-le (λ (n : ℕ). n) begun (suc row) (length begun) (let t = lies.inside in omega (arith, t)), all-of (λ (n : ℕ). n) begun (length begun) (omega arith))
 
-pub before-le : (begun : List ℕ) (i : ℕ) → begun_before begun i ≤ sum begun
+pub before-le : (begun : List ℕ) (i : ℕ) → begun_clump_count_before_row begun i ≤ sum begun
 before-le begun i =
     ⊎_elim
     (λ lt. omega (arith, more-le (λ (n : ℕ). n) begun i (length begun) (omega (arith, lt)), all-of (λ (n : ℕ). n) begun (length begun) (omega arith)))
@@ -194,25 +210,29 @@ before-le begun i =
 
 -- ---- tiles so far
 
-pub in-each-more : (tiles : List Begun) (i c : ℕ) → c < length tiles → in_each (take (c + 1) tiles) i ≡ in_each (take c tiles) i + get_or (get_or tiles c []) i 0
+pub in-each-more : (tiles : List BegunClumpCountsByRow) (i c : ℕ) → c < length tiles → begun_clump_count_in_all_tiles (take (c + 1) tiles) i ≡ begun_clump_count_in_all_tiles (take c tiles) i + get_or (get_or tiles c []) i 0
 in-each-more tiles i c lt =
     let one : c + 1 ≡ suc c = omega arith in
-    ap (λ (n : ℕ). in_each (take n tiles) i) one ∙ next-one (λ (begun : Begun). get_or begun i 0) tiles c [] lt
+    ap (λ (n : ℕ). begun_clump_count_in_all_tiles (take n tiles) i) one
+    ∙ next-one (λ (begun : BegunClumpCountsByRow). get_or begun i 0) tiles c [] lt
 
-pub in-each-first : (tiles : List Begun) (i n : ℕ) → in_each (take n tiles) i ≤ clumps_in_row tiles
+pub in-each-first : (tiles : List BegunClumpCountsByRow) (i n : ℕ)
+    → begun_clump_count_in_all_tiles (take n tiles) i ≤ clump_count_of_tile_row tiles
 in-each-first tiles i n =
-    let f = λ (begun : Begun). get_or begun i 0 in
+    let f = λ (begun : BegunClumpCountsByRow). get_or begun i 0 in
     omega (arith, more-le f tiles n (n + length tiles) (omega arith), all-of f tiles (n + length tiles) (omega arith), in-each-le tiles i)
 
-pub clumps-more : (tiles : List Begun) (c : ℕ) → c < length tiles → clumps_in_row (take (c + 1) tiles) ≡ clumps_in_row (take c tiles) + sum (get_or tiles c [])
+pub clumps-more : (tiles : List BegunClumpCountsByRow) (c : ℕ) → c < length tiles → clump_count_of_tile_row (take (c + 1) tiles) ≡ clump_count_of_tile_row (take c tiles) + sum (get_or tiles c [])
 clumps-more tiles c lt =
     let one : c + 1 ≡ suc c = omega arith in
-    ap (λ (n : ℕ). clumps_in_row (take n tiles)) one ∙ next-one clumps_in_tile tiles c [] lt
+    ap (λ (n : ℕ). clump_count_of_tile_row (take n tiles)) one ∙ next-one clump_count_of_tile tiles c [] lt
 
-pub clumps-first : (tiles : List Begun) (n : ℕ) → clumps_in_row (take n tiles) ≤ clumps_in_row tiles
-clumps-first tiles n = omega (arith, more-le clumps_in_tile tiles n (n + length tiles) (omega arith), all-of clumps_in_tile tiles (n + length tiles) (omega arith))
+pub clumps-first : (tiles : List BegunClumpCountsByRow) (n : ℕ)
+    → clump_count_of_tile_row (take n tiles) ≤ clump_count_of_tile_row tiles
+clumps-first tiles n = omega (arith, more-le clump_count_of_tile tiles n (n + length tiles) (omega arith), all-of clump_count_of_tile tiles (n + length tiles) (omega arith))
 
-pub above-all : (tiles : List Begun) (i : ℕ) → begun_above tiles i ≤ clumps_in_row tiles
+pub above-all : (tiles : List BegunClumpCountsByRow) (i : ℕ) → begun_clump_count_above_in_tiles tiles i
+    ≤ clump_count_of_tile_row tiles
 above-all [] i = omega arith
 above-all (t ∷ tiles) i =
-    omega (arith, sum_by-cons (λ (begun : Begun). begun_before begun i) t tiles, sum_by-cons (λ (begun : Begun). sum begun) t tiles, before-le t i, above-all tiles i)
+    omega (arith, sum_by-cons (λ (begun : BegunClumpCountsByRow). begun_clump_count_before_row begun i) t tiles, sum_by-cons (λ (begun : BegunClumpCountsByRow). sum begun) t tiles, before-le t i, above-all tiles i)

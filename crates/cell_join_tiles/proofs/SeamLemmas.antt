@@ -4,20 +4,21 @@ use Rattle.std.specs.Prelude.{sum, ◌↔◌}
 use Rattle.std.specs.List.{All, Contains}
 use Rattle.std.specs.Option.{option_map}
 use Rattle.cell_core.specs.Grid.{Grid, CellValue}
-use Rattle.cell_cats_areas.specs.declared.clump.Joining.{Joining}
-use Rattle.cell_cats_areas.specs.declared.clump.Joining.TheVariants.{Edges, EdgesAndCorners}
-use Rattle.cell_cats_areas.specs.Areas.{Position, cell_at_position, AreNeighbours, AreAdjacent}
-use Rattle.cell_cats_areas.specs.parts.CellPlaces.{position}
-use Rattle.cell_cats_areas.proofs.PathLemmas.{AreAdjacent-sym}
-use Rattle.cell_join_numbers.specs.AreaParts.{moved_position}
-use Rattle.cell_join_numbers.proofs.AreaLemmas.{is-some, rows-near}
-use Rattle.cell_join_numbers.specs.Labelled.{IsMeeting}
+use Rattle.cell_clumps.specs.declared.clump.Joining.{Joining}
+use Rattle.cell_clumps.specs.declared.clump.Joining.TheVariants.{Edges, EdgesAndCorners}
+use Rattle.cell_clumps.specs.Clumps.{Position, cell_at_position, DifferByOne, AreAdjacent}
+use Rattle.cell_clumps.specs.parts.CellPlaces.{position_at_row_and_column}
+use Rattle.cell_clumps.proofs.PathLemmas.{AreAdjacent-sym}
+use Rattle.cell_join_numbers.specs.ClumpParts.{position_in_full_map}
+use Rattle.cell_join_numbers.proofs.ClumpCellLemmas.{is-some, rows-near}
+use Rattle.cell_join_numbers.specs.Labelled.{AreLabelsOfMeetingCells}
 use Rattle.cell_join_tiles.proofs.LengthLemmas.{before-next, index_in, Crosses, next-to}
-use Rattle.cell_join_tiles.proofs.MeetingLemmas.{Touch, mark-inside, line_meetings-have, line_meetings-only}
-use Rattle.cell_join_tiles.specs.Beginnings.{stretch_of, tile_place}
-use Rattle.cell_join_tiles.specs.Borders.{AreInOneTile}
+use Rattle.cell_join_tiles.proofs.MeetingLemmas.{Touch, mark-inside, label_pairs_of_adjacent_lines-have}
+use Rattle.cell_join_tiles.proofs.MeetingLemmas.{label_pairs_of_adjacent_lines-only}
+use Rattle.cell_join_tiles.specs.Beginnings.{place_of_interval_containing, rectangle_of_tile_in_grid}
+use Rattle.cell_join_tiles.specs.Borders.{CellsAreInOneTile}
 use Rattle.cell_join_tiles.specs.declared.marks.Mark.{Mark}
-use Rattle.cell_join_tiles.specs.SeamLines.{Line, line_meetings, seam_mark_of, IsLineOf, AreSeamLines, IsAtSide, IsAtRow, SeamLinesPair}
+use Rattle.cell_join_tiles.specs.SeamLines.{UnfinishedConsecutiveClumps, label_pairs_of_adjacent_lines, labelled_category_at_position, IsLineOfFullMap, AreSeamLines, IsPairAcrossColumnSeam, IsPairAcrossRowSeam, SeamLinesGiveLabelPairs}
 use Rattle.cell_join_tiles.proofs.StretchLemmas.{Lies, lies}
 
 -- ---- cells that touch
@@ -58,7 +59,7 @@ touch-across EdgesAndCorners p q (inl (inl h)) next = inl h.0
 touch-across EdgesAndCorners p q (inl (inr h)) next = absurd (let e = h.1 in omega (arith, e, next))
 touch-across EdgesAndCorners p q (inr h) next = inr h.0
 
-cols-near : (j : Joining) (p q : Position) → AreAdjacent j p q → (p.col ≡ q.col) ⊎ AreNeighbours p.col q.col
+cols-near : (j : Joining) (p q : Position) → AreAdjacent j p q → (p.col ≡ q.col) ⊎ DifferByOne p.col q.col
 cols-near Edges p q (inl e) = inr e.1
 cols-near Edges p q (inr e) = inl e.1
 cols-near EdgesAndCorners p q (inl (inl e)) = inr e.1
@@ -67,26 +68,26 @@ cols-near EdgesAndCorners p q (inr h) = inr h.1
 
 -- ---- one stretch, or two side by side
 
-one-index : (ns : List ℕ) (x : ℕ) → index_in ns x ≡ stretch_of ns x
+one-index : (ns : List ℕ) (x : ℕ) → index_in ns x ≡ place_of_interval_containing ns x
 one-index [] x = refl
 one-index (n ∷ ns) x = ap (λ (k : ℕ). cond (ltb x n) 0 (suc k)) (one-index ns (x - n))
 
 -- a number at the end of a stretch, with the next number at the beginning of the next stretch
 record Over (ns : List ℕ) (x y : ℕ) : Type 0 where
-  inside : suc (stretch_of ns x) < length ns
-  last : x + 1 ≡ sum (take (stretch_of ns x) ns) + get_or ns (stretch_of ns x) 0
-  next : y ≡ sum (take (suc (stretch_of ns x)) ns)
+  inside : suc (place_of_interval_containing ns x) < length ns
+  last : x + 1 ≡ sum (take (place_of_interval_containing ns x) ns) + get_or ns (place_of_interval_containing ns x) 0
+  next : y ≡ sum (take (suc (place_of_interval_containing ns x)) ns)
 
 abbrev Steps : List ℕ → ℕ → ℕ → Type 0
-Steps ns x y = (stretch_of ns x ≡ stretch_of ns y) ⊎ (Over ns x y ⊎ Over ns y x)
+Steps ns x y = (place_of_interval_containing ns x ≡ place_of_interval_containing ns y) ⊎ (Over ns x y ⊎ Over ns y x)
 
 over : (ns : List ℕ) (x y : ℕ) → Crosses ns x y (index_in ns x) → Over ns x y
 over ns x y c =
     let d = subst (Crosses ns x y) (one-index ns x) c in
     record { inside = d.inside; last = d.last; next = d.next }
 
-steps : (ns : List ℕ) → All (λ n. 0 < n) ns → (x y : ℕ) → x < sum ns → y < sum ns → (x ≡ y) ⊎ AreNeighbours x y → Steps ns x y
-steps ns some x y x_lt y_lt (inl e) = inl (ap (stretch_of ns) e)
+steps : (ns : List ℕ) → All (λ n. 0 < n) ns → (x y : ℕ) → x < sum ns → y < sum ns → (x ≡ y) ⊎ DifferByOne x y → Steps ns x y
+steps ns some x y x_lt y_lt (inl e) = inl (ap (place_of_interval_containing ns) e)
 steps ns some x y x_lt y_lt (inr (inl e)) =
     ⊎_elim (λ same. inl (sym (one-index ns x) ∙ same ∙ one-index ns y)) (λ c. inr (inl (over ns x y c))) (next-to ns some x y (sym e) y_lt)
 steps ns some x y x_lt y_lt (inr (inr e)) =
@@ -94,7 +95,7 @@ steps ns some x y x_lt y_lt (inr (inr e)) =
 
 module _ (j : Joining) (whole : Grid) (label_of : Position → ℕ) where
   abbrev mark : Position → Option Mark
-  mark = seam_mark_of whole label_of
+  mark = labelled_category_at_position whole label_of
 
   -- ---- marks
 
@@ -116,22 +117,22 @@ module _ (j : Joining) (whole : Grid) (label_of : Position → ℕ) where
 
   -- ---- two lines whose cells meet
 
-  pub record IsCut (one other : Line) : Type 0 where
+  pub record IsCut (one other : UnfinishedConsecutiveClumps) : Type 0 where
     pub count : ℕ
     pub at : ℕ → Position
     pub beside : ℕ → Position
-    pub first : IsLineOf whole label_of count at one
-    pub second : IsLineOf whole label_of count beside other
+    pub first : IsLineOfFullMap whole label_of count at one
+    pub second : IsLineOfFullMap whole label_of count beside other
     pub near : (k l : ℕ) → Touch j k l → AreAdjacent j (at k) (beside l)
 
-  in-line : (line : Line) (count : ℕ) (at : ℕ → Position) → IsLineOf whole label_of count at line → (k : ℕ) (m : Mark) → get_or line k None ≡ Some m → mark (at k) ≡ Some m
+  in-line : (line : UnfinishedConsecutiveClumps) (count : ℕ) (at : ℕ → Position) → IsLineOfFullMap whole label_of count at line → (k : ℕ) (m : Mark) → get_or line k None ≡ Some m → mark (at k) ≡ Some m
   in-line line count at is k m e =
       let lt : k < count = omega (arith, mark-inside line k m e, is.long) in
       sym (is.each k lt) ∙ e
 
-  cut-only : (one other : Line) → IsCut one other → (a b : ℕ) → Contains (line_meetings j one other) (a, b) → IsMeeting j whole label_of a b
+  cut-only : (one other : UnfinishedConsecutiveClumps) → IsCut one other → (a b : ℕ) → Contains (label_pairs_of_adjacent_lines j one other) (a, b) → AreLabelsOfMeetingCells j whole label_of a b
   cut-only one other cut a b h =
-      let m = line_meetings-only one other j a b h in
+      let m = label_pairs_of_adjacent_lines-only one other j a b h in
       let x = marks (cut.at m.c) m.x (in-line one cut.count cut.at cut.first m.c m.x m.at_one) in
       let y = marks (cut.beside m.d) m.y (in-line other cut.count cut.beside cut.second m.d m.y m.at_other) in
       record {
@@ -145,14 +146,14 @@ module _ (j : Joining) (whole : Grid) (label_of : Position → ℕ) where
         second_label = m.second ∙ y.label;
       }
 
-  pair-of : (one other : Line) (cut : IsCut one other) (p q : Position) (v : ℤ) (k l : ℕ) → cut.at k ≡ p → cut.beside l ≡ q → k < cut.count → l < cut.count → Touch j k l → cell_at_position whole p ≡ Some v → cell_at_position whole q ≡ Some v → Contains (line_meetings j one other) (label_of p, label_of q)
+  pair-of : (one other : UnfinishedConsecutiveClumps) (cut : IsCut one other) (p q : Position) (v : ℤ) (k l : ℕ) → cut.at k ≡ p → cut.beside l ≡ q → k < cut.count → l < cut.count → Touch j k l → cell_at_position whole p ≡ Some v → cell_at_position whole q ≡ Some v → Contains (label_pairs_of_adjacent_lines j one other) (label_of p, label_of q)
   pair-of one other cut p q v k l p_is q_is k_lt l_lt touch first second =
       let a = cut.first in
       let b = cut.second in
-      line_meetings-have one other j k l (record { category = v; label = label_of p }) (record { category = v; label = label_of q }) touch
+      label_pairs_of_adjacent_lines-have one other j k l (record { category = v; label = label_of p }) (record { category = v; label = label_of q }) touch
       (a.each k k_lt ∙ ap mark p_is ∙ mark-is p v first) (b.each l l_lt ∙ ap mark q_is ∙ mark-is q v second) refl
 
-  module _ (heights widths : List ℕ) (left right : ℕ → ℕ → Line) (first last : ℕ → Line) (pairs : List (ℕ × ℕ)) (some_rows : All (λ n. 0 < n) heights) (some_cols : All (λ n. 0 < n) widths) (within : (p : Position) → IsSome (cell_at_position whole p) → (p.row < sum heights) × (p.col < sum widths)) (lines : AreSeamLines whole heights widths label_of left right first last) (are : (pair : ℕ × ℕ) → Contains pairs pair ↔ (IsAtSide j heights widths left right pair ⊎ IsAtRow j heights first last pair)) where
+  module _ (heights widths : List ℕ) (left right : ℕ → ℕ → UnfinishedConsecutiveClumps) (first last : ℕ → UnfinishedConsecutiveClumps) (pairs : List (ℕ × ℕ)) (some_rows : All (λ n. 0 < n) heights) (some_cols : All (λ n. 0 < n) widths) (within : (p : Position) → IsSome (cell_at_position whole p) → (p.row < sum heights) × (p.col < sum widths)) (lines : AreSeamLines whole heights widths label_of left right first last) (are : (pair : ℕ × ℕ) → Contains pairs pair ↔ (IsPairAcrossColumnSeam j heights widths left right pair ⊎ IsPairAcrossRowSeam j heights first last pair)) where
     height-some : (r : ℕ) → r < length heights → 0 < get_or heights r 0
     height-some r lt = some_rows r 0 lt
 
@@ -166,11 +167,13 @@ module _ (j : Joining) (whole : Grid) (label_of : Position → ℕ) where
         let c_in : c < length widths = omega (arith, c_lt) in
         record {
           count = get_or heights r 0;
-          at = λ k. moved_position (tile_place heights widths r c) (position k (get_or widths c 0 - 1));
-          beside = λ k. moved_position (tile_place heights widths r (suc c)) (position k 0);
+          at = λ k. position_in_full_map (rectangle_of_tile_in_grid heights widths r c)
+              (position_at_row_and_column k (get_or widths c 0 - 1));
+          beside = λ k. position_in_full_map (rectangle_of_tile_in_grid heights widths r (suc c))
+              (position_at_row_and_column k 0);
           first = lines.rights r c r_lt c_in;
           second = lines.lefts r (suc c) r_lt c_lt;
-          near = λ k l touch. across-touch j (moved_position (tile_place heights widths r c) (position k (w - 1))) (moved_position (tile_place heights widths r (suc c)) (position l 0)) (touch-more (sum (take r heights)) j k l touch) (omega (arith, width-some c c_in, before-next widths c c_in));
+          near = λ k l touch. across-touch j (position_in_full_map (rectangle_of_tile_in_grid heights widths r c) (position_at_row_and_column k (w - 1))) (position_in_full_map (rectangle_of_tile_in_grid heights widths r (suc c)) (position_at_row_and_column l 0)) (touch-more (sum (take r heights)) j k l touch) (omega (arith, width-some c c_in, before-next widths c c_in));
         }
 
     -- the facing rows of two neighbouring rows of tiles are a cut
@@ -180,14 +183,14 @@ module _ (j : Joining) (whole : Grid) (label_of : Position → ℕ) where
         let r_in : r < length heights = omega (arith, r_lt) in
         record {
           count = sum widths;
-          at = λ k. position (sum (take r heights) + (get_or heights r 0 - 1)) k;
-          beside = λ k. position (sum (take (suc r) heights)) k;
+          at = λ k. position_at_row_and_column (sum (take r heights) + (get_or heights r 0 - 1)) k;
+          beside = λ k. position_at_row_and_column (sum (take (suc r) heights)) k;
           first = lines.lasts r r_in;
           second = lines.firsts (suc r) r_lt;
-          near = λ k l touch. down-touch j (position (sum (take r heights) + (h - 1)) k) (position (sum (take (suc r) heights)) l) touch (omega (arith, height-some r r_in, before-next heights r r_in));
+          near = λ k l touch. down-touch j (position_at_row_and_column (sum (take r heights) + (h - 1)) k) (position_at_row_and_column (sum (take (suc r) heights)) l) touch (omega (arith, height-some r r_in, before-next heights r r_in));
         }
 
-    only : (a b : ℕ) → Contains pairs (a, b) → IsMeeting j whole label_of a b
+    only : (a b : ℕ) → Contains pairs (a, b) → AreLabelsOfMeetingCells j whole label_of a b
     only a b h =
         ⊎_elim
         (λ side. cut-only (right side.0 side.1) (left side.0 (suc side.1)) (side-cut side.0 side.1 side.2 side.3) a b side.4)
@@ -198,7 +201,7 @@ module _ (j : Joining) (whole : Grid) (label_of : Position → ℕ) where
     row-pair : (p q : Position) (v : ℤ) → AreAdjacent j p q → Over heights p.row q.row → p.col < sum widths → q.col < sum widths → cell_at_position whole p ≡ Some v → cell_at_position whole q ≡ Some v → Contains pairs (label_of p, label_of q)
     unfolding row-cut
     row-pair p q v near c p_lt q_lt one other =
-        let r = stretch_of heights p.row in
+        let r = place_of_interval_containing heights p.row in
         let r_lt : r < length heights = (let h = c.inside in omega (arith, h)) in
         let some = height-some r r_lt in
         let next = before-next heights r r_lt in
@@ -214,7 +217,7 @@ module _ (j : Joining) (whole : Grid) (label_of : Position → ℕ) where
     side-pair : (p q : Position) (v : ℤ) (r : ℕ) → AreAdjacent j p q → Lies heights p.row r → Lies heights q.row r → Over widths p.col q.col → cell_at_position whole p ≡ Some v → cell_at_position whole q ≡ Some v → Contains pairs (label_of p, label_of q)
     unfolding side-cut
     side-pair p q v r near pr qr s one other =
-        let c = stretch_of widths p.col in
+        let c = place_of_interval_containing widths p.col in
         let c_lt : c < length widths = (let h = s.inside in omega (arith, h)) in
         let some = width-some c c_lt in
         let next = before-next widths c c_lt in
@@ -235,7 +238,7 @@ module _ (j : Joining) (whole : Grid) (label_of : Position → ℕ) where
     abbrev Met : Position → Position → Type 0
     Met p q = Contains pairs (label_of p, label_of q) ⊎ Contains pairs (label_of q, label_of p)
 
-    meet : (p q : Position) (v : ℤ) → AreAdjacent j p q → cell_at_position whole p ≡ Some v → cell_at_position whole q ≡ Some v → (AreInOneTile heights widths p q → ⊥) → Met p q
+    meet : (p q : Position) (v : ℤ) → AreAdjacent j p q → cell_at_position whole p ≡ Some v → cell_at_position whole q ≡ Some v → (CellsAreInOneTile heights widths p q → ⊥) → Met p q
     meet p q v near one other apart = by (steps heights some_rows p.row q.row p_in.0 q_in.0 (rows-near j p q near)) (steps widths some_cols p.col q.col p_in.1 q_in.1 (cols-near j p q near))
       where
         p_in : (p.row < sum heights) × (p.col < sum widths)
@@ -247,13 +250,13 @@ module _ (j : Joining) (whole : Grid) (label_of : Position → ℕ) where
         by : Steps heights p.row q.row → Steps widths p.col q.col → Met p q
         by (inl one_row) (inl one_col) = absurd (apart (one_row, one_col))
         by (inl one_row) (inr (inl s)) =
-            inl (side-pair p q v (stretch_of heights p.row) near (lies heights p.row p_in.0) (subst (Lies heights q.row) (sym one_row) (lies heights q.row q_in.0)) s one other)
+            inl (side-pair p q v (place_of_interval_containing heights p.row) near (lies heights p.row p_in.0) (subst (Lies heights q.row) (sym one_row) (lies heights q.row q_in.0)) s one other)
         by (inl one_row) (inr (inr s)) =
-            inr (side-pair q p v (stretch_of heights q.row) (AreAdjacent-sym j p q near) (lies heights q.row q_in.0) (subst (Lies heights p.row) one_row (lies heights p.row p_in.0)) s other one)
+            inr (side-pair q p v (place_of_interval_containing heights q.row) (AreAdjacent-sym j p q near) (lies heights q.row q_in.0) (subst (Lies heights p.row) one_row (lies heights p.row p_in.0)) s other one)
         by (inr (inl s)) cols = inl (row-pair p q v near s p_in.1 q_in.1 one other)
         by (inr (inr s)) cols = inr (row-pair q p v (AreAdjacent-sym j p q near) s q_in.1 p_in.1 other one)
 
-pub seam-lines-pair : SeamLinesPair
+pub seam-lines-pair : SeamLinesGiveLabelPairs
 seam-lines-pair j whole heights widths label_of left right first last pairs some_rows some_cols within lines are = record {
   meet = meet j whole label_of heights widths left right first last pairs some_rows some_cols within lines are;
   only = only j whole label_of heights widths left right first last pairs some_rows some_cols within lines are;

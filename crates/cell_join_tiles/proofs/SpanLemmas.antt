@@ -7,21 +7,21 @@ use Rattle.std.proofs.lemmas.List.Concat.{flat_map-cons}
 use Rattle.std.proofs.lemmas.List.Folds.{length-flat_map-take}
 use Rattle.std.proofs.lemmas.List.FromFn.{length-range_with_len}
 use Rattle.std.proofs.lemmas.Grind.{flat_map-append}
-use Rattle.cell_join_tiles.specs.declared.spans.Span.{Span}
-use Rattle.cell_join_tiles.specs.parts.Spans.{labels_in, labels_of_span}
+use Rattle.cell_join_tiles.specs.declared.spans.LabelRange.{LabelRange}
+use Rattle.cell_join_tiles.specs.parts.Spans.{labels_of_ranges, labels_of_range}
 
-pub spans-pushed : (spans : List Span) (span : Span) → labels_in (spans ++ span ∷ []) ≡ labels_in spans ++ labels_of_span span
+pub spans-pushed : (spans : List LabelRange) (span : LabelRange) → labels_of_ranges (spans ++ span ∷ []) ≡ labels_of_ranges spans ++ labels_of_range span
 spans-pushed spans span =
-    flat_map-append labels_of_span spans (span ∷ []) ∙ ap (λ (l : List ℕ). labels_in spans ++ l) (flat_map-cons labels_of_span span [] ∙ append-nil (labels_of_span span))
+    flat_map-append labels_of_range spans (span ∷ []) ∙ ap (λ (l : List ℕ). labels_of_ranges spans ++ l) (flat_map-cons labels_of_range span [] ∙ append-nil (labels_of_range span))
 
-pub spans-more : (spans : List Span) (i : ℕ) (d : Span) → i < length spans → labels_in (take (i + 1) spans) ≡ labels_in (take i spans) ++ labels_of_span (get_or spans i d)
-spans-more spans i d lt = ap labels_in (take_more spans i d lt) ∙ spans-pushed (take i spans) (get_or spans i d)
+pub spans-more : (spans : List LabelRange) (i : ℕ) (d : LabelRange) → i < length spans → labels_of_ranges (take (i + 1) spans) ≡ labels_of_ranges (take i spans) ++ labels_of_range (get_or spans i d)
+spans-more spans i d lt = ap labels_of_ranges (take_more spans i d lt) ∙ spans-pushed (take i spans) (get_or spans i d)
 
 -- the first spans and the next one have at most as many labels as all spans
-pub spans-few : (spans : List Span) (i : ℕ) (d : Span) → i < length spans → length (labels_in (take i spans)) + (get_or spans i d).count ≤ length (labels_in spans)
+pub spans-few : (spans : List LabelRange) (i : ℕ) (d : LabelRange) → i < length spans → length (labels_of_ranges (take i spans)) + (get_or spans i d).count ≤ length (labels_of_ranges spans)
 spans-few spans i d lt =
     let span = get_or spans i d in
-    omega (arith, length-flat_map-take labels_of_span spans i d lt, length-range_with_len span.first span.count)
+    omega (arith, length-flat_map-take labels_of_range spans i d lt, length-range_with_len span.first span.count)
 
 pub all-pushed : {X : Type 0} (P : X → Type 0) (xs ys : List X) (x : X) → ys ≡ xs ++ x ∷ [] → All P xs → P x → All P ys
 all-pushed {X} P xs ys x e all one i d lt =

@@ -3,16 +3,17 @@ use Rattle.std.proofs.Common.{◌≡◌, ℕ, zero, suc, ◌+◌, ◌-◌, ◌<�
 use Rattle.std.specs.Prelude.{sum}
 use Rattle.std.proofs.lemmas.Bool.{cases_lt, cond-true, cond-false, lt-ltb, le-ltb}
 use Rattle.std.proofs.lemmas.List.Sums.{sum_by-cons}
-use Rattle.cell_join_tiles.specs.Beginnings.{stretch_of}
+use Rattle.cell_join_tiles.specs.Beginnings.{place_of_interval_containing}
 
 pub sum-cons : (n : ℕ) (ns : List ℕ) → sum (n ∷ ns) ≡ n + sum ns
 sum-cons n ns = sum_by-cons (λ (k : ℕ). k) n ns
 
-here : (n : ℕ) (ns : List ℕ) (x : ℕ) → x < n → stretch_of (n ∷ ns) x ≡ 0
-here n ns x lt = cond-true (ltb x n) 0 (suc (stretch_of ns (x - n))) (lt-ltb x n lt)
+here : (n : ℕ) (ns : List ℕ) (x : ℕ) → x < n → place_of_interval_containing (n ∷ ns) x ≡ 0
+here n ns x lt = cond-true (ltb x n) 0 (suc (place_of_interval_containing ns (x - n))) (lt-ltb x n lt)
 
-later : (n : ℕ) (ns : List ℕ) (x : ℕ) → n ≤ x → stretch_of (n ∷ ns) x ≡ suc (stretch_of ns (x - n))
-later n ns x le = cond-false (ltb x n) 0 (suc (stretch_of ns (x - n))) (le-ltb x n le)
+later : (n : ℕ) (ns : List ℕ) (x : ℕ) → n ≤ x → place_of_interval_containing (n ∷ ns) x
+    ≡ suc (place_of_interval_containing ns (x - n))
+later n ns x le = cond-false (ltb x n) 0 (suc (place_of_interval_containing ns (x - n))) (le-ltb x n le)
 
 -- a number lies in the i-th stretch
 pub record Lies (ns : List ℕ) (x i : ℕ) : Type 0 where
@@ -20,7 +21,7 @@ pub record Lies (ns : List ℕ) (x i : ℕ) : Type 0 where
   pub low : sum (take i ns) ≤ x
   pub high : x < sum (take i ns) + get_or ns i 0
 
-pub lies : (ns : List ℕ) (x : ℕ) → x < sum ns → Lies ns x (stretch_of ns x)
+pub lies : (ns : List ℕ) (x : ℕ) → x < sum ns → Lies ns x (place_of_interval_containing ns x)
 lies [] x lt = absurd (omega (arith, lt))
 lies (n ∷ ns) x lt =
     ⊎_elim
@@ -28,9 +29,10 @@ lies (n ∷ ns) x lt =
     (λ past. subst (Lies (n ∷ ns) x) (sym (later n ns x past)) (next past (lies ns (x - n) (omega (arith, past, lt, sum-cons n ns)))))
     (cases_lt x n)
   where
-    next : n ≤ x → Lies ns (x - n) (stretch_of ns (x - n)) → Lies (n ∷ ns) x (suc (stretch_of ns (x - n)))
+    next : n ≤ x → Lies ns (x - n) (place_of_interval_containing ns (x - n))
+        → Lies (n ∷ ns) x (suc (place_of_interval_containing ns (x - n)))
     next past rest =
-        let k = stretch_of ns (x - n) in
+        let k = place_of_interval_containing ns (x - n) in
         record {
           inside = omega (arith, rest.inside);
           low = omega (arith, rest.low, past, sum-cons n (take k ns));
@@ -38,7 +40,7 @@ lies (n ∷ ns) x lt =
         }
 
 -- a number lies in only one stretch
-pub stretch-is : (ns : List ℕ) (i x : ℕ) → Lies ns x i → stretch_of ns x ≡ i
+pub stretch-is : (ns : List ℕ) (i x : ℕ) → Lies ns x i → place_of_interval_containing ns x ≡ i
 stretch-is [] i x h = absurd (omega (arith, h.inside))
 stretch-is (n ∷ ns) zero x h = here n ns x (omega (arith, h.high))
 stretch-is (n ∷ ns) (suc i) x h =

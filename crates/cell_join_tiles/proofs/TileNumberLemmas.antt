@@ -6,8 +6,9 @@ use Rattle.std.proofs.lemmas.Bool.{cases_eq}
 use Rattle.std.proofs.lemmas.List.{get_or_append_left, get_or-append-add, length-append}
 use Rattle.std.proofs.lemmas.List.Concat.{flat_map-cons}
 use Rattle.std.proofs.lemmas.List.FromFn.{length-map-range_with_len, get_or-map-range_with_len}
-use Rattle.cell_join_tiles.specs.Beginnings.{Begun, clumps_in_tile, clumps_in_row, clump_label}
-use Rattle.cell_join_tiles.specs.TileNumbers.{numbers_of_tile, numbers_of_row, numbers_by_tile, clumps_before_tile, TileNumbersAreListed}
+use Rattle.cell_join_tiles.specs.Beginnings.{BegunClumpCountsByRow, clump_count_of_tile, clump_count_of_tile_row}
+use Rattle.cell_join_tiles.specs.Beginnings.{label_of_clump_in_tile_grid}
+use Rattle.cell_join_tiles.specs.TileNumbers.{clump_numbers_of_tile, clump_numbers_of_tile_row, clump_numbers_of_all_tiles, clump_count_before_tile, ClumpNumbersAreListedByTile}
 use Rattle.cell_join_tiles.proofs.LabelSums.{more-le, next-one, all-of}
 
 -- lists laid one after another, and the place at which each begins
@@ -50,45 +51,47 @@ laid-long f before all laid a (suc n) e =
     let cons : length (flat_map f (range_with_len a (suc n))) ≡ length (own ++ rest) = ap (λ (xs : List ℕ). length xs) (flat_map-cons f a (range_with_len (a + 1) n)) in
     omega (arith, cons, length-append own rest, step, laid-long f before all laid (a + 1) n (omega (arith, e)))
 
-module _ (number : ℕ → ℕ) (grid : List (List Begun)) where
-  abbrev row_at : ℕ → List Begun
+module _ (number : ℕ → ℕ) (grid : List (List BegunClumpCountsByRow)) where
+  abbrev row_at : ℕ → List BegunClumpCountsByRow
   row_at r = get_or grid r []
 
-  tile-long : (r c : ℕ) → length (numbers_of_tile number grid r c) ≡ clumps_in_tile (get_or (row_at r) c [])
-  tile-long r c = length-map-range_with_len (λ (k : ℕ). number (clump_label grid r c k)) 0 (clumps_in_tile (get_or (row_at r) c []))
+  tile-long : (r c : ℕ) → length (clump_numbers_of_tile number grid r c) ≡ clump_count_of_tile (get_or (row_at r) c [])
+  tile-long r c = length-map-range_with_len (λ (k : ℕ). number (label_of_clump_in_tile_grid grid r c k)) 0 (clump_count_of_tile (get_or (row_at r) c []))
 
-  tiles : (r : ℕ) → AreLaid (numbers_of_tile number grid r) (λ c. sum_by clumps_in_tile (take c (row_at r))) (length (row_at r))
+  tiles : (r : ℕ) → AreLaid (clump_numbers_of_tile number grid r) (λ c. sum_by clump_count_of_tile (take c (row_at r))) (length (row_at r))
   tiles r = record {
-    next = λ c lt. omega (arith, next-one clumps_in_tile (row_at r) c [] lt, tile-long r c);
-    rising = λ c d le. more-le clumps_in_tile (row_at r) c d le;
+    next = λ c lt. omega (arith, next-one clump_count_of_tile (row_at r) c [] lt, tile-long r c);
+    rising = λ c d le. more-le clump_count_of_tile (row_at r) c d le;
   }
 
-  row-long : (r : ℕ) → length (numbers_of_row number grid r) ≡ clumps_in_row (row_at r)
+  row-long : (r : ℕ) → length (clump_numbers_of_tile_row number grid r) ≡ clump_count_of_tile_row (row_at r)
   row-long r =
       omega (
         arith,
-        laid-long (numbers_of_tile number grid r) (λ c. sum_by clumps_in_tile (take c (row_at r))) (length (row_at r)) (tiles r) 0 (length (row_at r)) (omega arith),
-        all-of clumps_in_tile (row_at r) (length (row_at r)) (omega arith),
+        laid-long (clump_numbers_of_tile number grid r) (λ c. sum_by clump_count_of_tile (take c (row_at r))) (length (row_at r)) (tiles r) 0 (length (row_at r)) (omega arith),
+        all-of clump_count_of_tile (row_at r) (length (row_at r)) (omega arith),
       )
 
-  rows : AreLaid (numbers_of_row number grid) (λ r. sum_by clumps_in_row (take r grid)) (length grid)
+  rows : AreLaid (clump_numbers_of_tile_row number grid) (λ r. sum_by clump_count_of_tile_row (take r grid))
+      (length grid)
   rows = record {
-    next = λ r lt. omega (arith, next-one clumps_in_row grid r [] lt, row-long r);
-    rising = λ r s le. more-le clumps_in_row grid r s le;
+    next = λ r lt. omega (arith, next-one clump_count_of_tile_row grid r [] lt, row-long r);
+    rising = λ r s le. more-le clump_count_of_tile_row grid r s le;
   }
 
-pub tile-numbers-are-listed : TileNumbersAreListed
+pub tile-numbers-are-listed : ClumpNumbersAreListedByTile
 tile-numbers-are-listed number grid r c k r_lt c_lt k_lt =
-    let row : List Begun = get_or grid r [] in
-    let in_row = sum_by clumps_in_tile (take c row) in
-    let inner : get_or (numbers_of_row number grid r) ((in_row - 0) + k) 0 ≡ get_or (numbers_of_tile number grid r c) k 0 =
-    laid-at (numbers_of_tile number grid r) (λ d. sum_by clumps_in_tile (take d row)) (length row) (tiles number grid r) 0 (length row) (omega arith) c k 0 (omega arith) c_lt (omega (arith, k_lt, tile-long number grid r c)) in
-    let low : in_row + k < length (numbers_of_row number grid r) = omega (arith, k_lt, row-long number grid r, next-one clumps_in_tile row c [] c_lt, more-le clumps_in_tile row (suc c) (length row) (omega (arith, c_lt)), all-of clumps_in_tile row (length row) (omega arith)) in
-    let outer = laid-at (numbers_of_row number grid) (λ s. sum_by clumps_in_row (take s grid)) (length grid) (rows number grid) 0 (length grid) (omega arith) r (in_row + k) 0 (omega arith) r_lt low in
-    let at : clumps_before_tile grid r c + k ≡ (sum_by clumps_in_row (take r grid) - 0) + (in_row + k) = omega arith in
+    let row : List BegunClumpCountsByRow = get_or grid r [] in
+    let in_row = sum_by clump_count_of_tile (take c row) in
+    let inner : get_or (clump_numbers_of_tile_row number grid r) ((in_row - 0) + k) 0 ≡ get_or (clump_numbers_of_tile number grid r c) k 0 =
+    laid-at (clump_numbers_of_tile number grid r) (λ d. sum_by clump_count_of_tile (take d row)) (length row) (tiles number grid r) 0 (length row) (omega arith) c k 0 (omega arith) c_lt (omega (arith, k_lt, tile-long number grid r c)) in
+    let low : in_row + k < length (clump_numbers_of_tile_row number grid r) = omega (arith, k_lt, row-long number grid r, next-one clump_count_of_tile row c [] c_lt, more-le clump_count_of_tile row (suc c) (length row) (omega (arith, c_lt)), all-of clump_count_of_tile row (length row) (omega arith)) in
+    let outer = laid-at (clump_numbers_of_tile_row number grid) (λ s. sum_by clump_count_of_tile_row (take s grid)) (length grid) (rows number grid) 0 (length grid) (omega arith) r (in_row + k) 0 (omega arith) r_lt low in
+    let at : clump_count_before_tile grid r c + k ≡ (sum_by clump_count_of_tile_row (take r grid) - 0) +
+    (in_row + k) = omega arith in
     let at_row : in_row + k ≡ (in_row - 0) + k = omega arith in
-    ap (λ (n : ℕ). get_or (numbers_by_tile number grid) n 0) at
+    ap (λ (n : ℕ). get_or (clump_numbers_of_all_tiles number grid) n 0) at
     ∙ outer
-    ∙ ap (λ (n : ℕ). get_or (numbers_of_row number grid r) n 0) at_row
+    ∙ ap (λ (n : ℕ). get_or (clump_numbers_of_tile_row number grid r) n 0) at_row
     ∙ inner
-    ∙ get_or-map-range_with_len (λ (i : ℕ). number (clump_label grid r c i)) 0 (clumps_in_tile (get_or row c [])) k k 0 k_lt (omega arith)
+    ∙ get_or-map-range_with_len (λ (i : ℕ). number (label_of_clump_in_tile_grid grid r c i)) 0 (clump_count_of_tile (get_or row c [])) k k 0 k_lt (omega arith)

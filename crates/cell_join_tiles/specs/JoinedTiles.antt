@@ -2,19 +2,21 @@
 use Rattle.std.specs.Prelude.{ℕ, zero, suc, pos, ◌≡◌, ◌↔◌, ◌+◌, ◌-◌, ◌<◌, List, [], ◌++◌, length, map, flat_map, take, sum, sum_by, Contains, Some, slice_index, slice_index_or}
 use Rattle.std.specs.List.{range_with_len}
 use Rattle.cell_core.specs.Grid.{Grid}
-use Rattle.cell_cats_areas.specs.declared.clump.Joining.{Joining}
-use Rattle.cell_cats_areas.specs.Areas.{Position, cell_at_position, HasNumber}
-use Rattle.cell_join_numbers.specs.AreaParts.{moved_position}
-use Rattle.cell_join_numbers.specs.Stretches.{stretches_of}
-use Rattle.cell_join_numbers.specs.declared.stretch.Stretch.{Stretch}
-use Rattle.cell_join_numbers.specs.Labelled.{HasAreas}
-use Rattle.cell_join_tiles.specs.Beginnings.{clumps_in_row, clumps_in_grid, IsCutIntoTiles, tile_place}
-use Rattle.cell_join_tiles.specs.SeamLines.{Line, line_meetings}
-use Rattle.cell_join_tiles.specs.TileNumbers.{clumps_before_tile}
-use Rattle.cell_join_tiles.specs.Values.{BorderValue}
-use Rattle.cell_join_tiles.specs.JoinedBorders.{HaveBorders, begun_in}
-use Rattle.cell_join_tiles.specs.parts.RowLabels.{labels_in_tile}
-use Rattle.cell_join_tiles.specs.parts.RowMarks.{begun_of, first_in, last_in, pairs_within}
+use Rattle.cell_clumps.specs.declared.clump.Joining.{Joining}
+use Rattle.cell_clumps.specs.Clumps.{Position, cell_at_position, HasClumpNumber}
+use Rattle.cell_join_numbers.specs.ClumpParts.{position_in_full_map}
+use Rattle.cell_join_numbers.specs.Stretches.{consecutive_clumps_of_all_tiles}
+use Rattle.cell_join_numbers.specs.declared.stretch.ConsecutiveClumps.{ConsecutiveClumps}
+use Rattle.cell_join_numbers.specs.Labelled.{MapHasClumpCount}
+use Rattle.cell_join_tiles.specs.Beginnings.{clump_count_of_tile_row, clump_count_of_tile_grid, MapIsCutIntoTiles}
+use Rattle.cell_join_tiles.specs.Beginnings.{rectangle_of_tile_in_grid}
+use Rattle.cell_join_tiles.specs.SeamLines.{UnfinishedConsecutiveClumps, label_pairs_of_adjacent_lines}
+use Rattle.cell_join_tiles.specs.TileNumbers.{clump_count_before_tile}
+use Rattle.cell_join_tiles.specs.Values.{TileBorderValue}
+use Rattle.cell_join_tiles.specs.JoinedBorders.{TilesHaveBorders, begun_clump_counts_of_grid}
+use Rattle.cell_join_tiles.specs.parts.RowLabels.{labels_of_clumps_in_tile}
+use Rattle.cell_join_tiles.specs.parts.RowMarks.{begun_clump_counts_of_tile_row, labelled_first_rows_of_tiles}
+use Rattle.cell_join_tiles.specs.parts.RowMarks.{labelled_last_rows_of_tiles, label_pairs_within_tile_row}
 
 -- ---- the state that the joiner keeps
 
@@ -24,60 +26,66 @@ pub record TileJoinerValue : Type 0 where
   pub joining : Joining
   pub clumps : ℕ
   pub pairs : List (ℕ × ℕ)
-  pub above : Line
+  pub above : UnfinishedConsecutiveClumps
   pub tiles : List (List ℕ)
 
 -- a row of tiles, and its first label
-abbrev pub tile_row_at : List (List BorderValue) → ℕ → List BorderValue
+abbrev pub tile_row_at : List (List TileBorderValue) → ℕ → List TileBorderValue
 tile_row_at grid r = slice_index_or grid r []
 
-abbrev pub base_at : List (List BorderValue) → ℕ → ℕ
-base_at grid r = sum_by clumps_in_row (take r (begun_in grid))
+abbrev pub first_label_of_tile_row : List (List TileBorderValue) → ℕ → ℕ
+first_label_of_tile_row grid r = sum_by clump_count_of_tile_row (take r (begun_clump_counts_of_grid grid))
 
 -- the row of cells above a row of tiles
-abbrev pub above_at : List (List BorderValue) → ℕ → Line
-above_at grid zero = []
-above_at grid (suc r) = last_in (base_at grid r) (tile_row_at grid r) (length (tile_row_at grid r))
+abbrev pub labelled_row_above_tile_row : List (List TileBorderValue) → ℕ → UnfinishedConsecutiveClumps
+labelled_row_above_tile_row grid zero = []
+labelled_row_above_tile_row grid (suc r) = labelled_last_rows_of_tiles (first_label_of_tile_row grid r)
+    (tile_row_at grid r) (length (tile_row_at grid r))
 
 -- the pairs at the seam above a row of tiles and at the seams within it
-abbrev pub pairs_of : Joining → (above : Line) (base : ℕ) (row : List BorderValue) → List (ℕ × ℕ)
-pairs_of j above base row = line_meetings j above (first_in base row (length row)) ++ pairs_within j base row (length row)
+abbrev pub label_pairs_of_tile_row : Joining → (above : UnfinishedConsecutiveClumps) (base : ℕ)
+    (row : List TileBorderValue) → List (ℕ × ℕ)
+label_pairs_of_tile_row j above base row = label_pairs_of_adjacent_lines j above (labelled_first_rows_of_tiles base row (length row)) ++ label_pairs_within_tile_row j base row (length row)
 
-abbrev pub pairs_at : Joining → List (List BorderValue) → ℕ → List (ℕ × ℕ)
-pairs_at j grid r = pairs_of j (above_at grid r) (base_at grid r) (tile_row_at grid r)
+abbrev pub label_pairs_of_tile_row_at : Joining → List (List TileBorderValue) → ℕ → List (ℕ × ℕ)
+label_pairs_of_tile_row_at j grid r = label_pairs_of_tile_row j (labelled_row_above_tile_row grid r)
+    (first_label_of_tile_row grid r) (tile_row_at grid r)
 
 -- the labels of the clumps of each tile in a row
-abbrev pub tiles_of : (base : ℕ) (row : List BorderValue) → List (List ℕ)
-tiles_of base row = map (labels_in_tile base (begun_of row)) (range_with_len 0 (length row))
+abbrev pub clump_labels_of_tiles_in_row : (base : ℕ) (row : List TileBorderValue) → List (List ℕ)
+clump_labels_of_tiles_in_row base row = map (labels_of_clumps_in_tile base (begun_clump_counts_of_tile_row row))
+    (range_with_len 0 (length row))
 
-abbrev pub tiles_at : List (List BorderValue) → ℕ → List (List ℕ)
-tiles_at grid r = tiles_of (base_at grid r) (tile_row_at grid r)
+abbrev pub clump_labels_of_tiles_in_row_at : List (List TileBorderValue) → ℕ → List (List ℕ)
+clump_labels_of_tiles_in_row_at grid r = clump_labels_of_tiles_in_row (first_label_of_tile_row grid r)
+    (tile_row_at grid r)
 
 -- the joiner has joined these rows of tiles
-pub record AreJoinedTiles (grid : List (List BorderValue)) (joiner : TileJoinerValue) : Type 0 where
-  pub clumps : joiner.clumps ≡ clumps_in_grid (begun_in grid)
-  pub pairs : (x : ℕ × ℕ) → Contains joiner.pairs x ↔ ((r : ℕ) × (r < length grid) × Contains (pairs_at joiner.joining grid r) x)
-  pub above : joiner.above ≡ above_at grid (length grid)
-  pub tiles : joiner.tiles ≡ flat_map (tiles_at grid) (range_with_len 0 (length grid))
+pub record JoinerHasJoinedTileRows (grid : List (List TileBorderValue)) (joiner : TileJoinerValue) : Type 0 where
+  pub clumps : joiner.clumps ≡ clump_count_of_tile_grid (begun_clump_counts_of_grid grid)
+  pub pairs : (x : ℕ × ℕ) → Contains joiner.pairs x ↔ ((r : ℕ) × (r < length grid) × Contains (label_pairs_of_tile_row_at joiner.joining grid r) x)
+  pub above : joiner.above ≡ labelled_row_above_tile_row grid (length grid)
+  pub tiles : joiner.tiles ≡ flat_map (clump_labels_of_tiles_in_row_at grid) (range_with_len 0 (length grid))
 
 -- ---- the numbering
 
 -- the number of clumps of each tile, row by row
-abbrev pub clumps_by_tile : List (List BorderValue) → List ℕ
-clumps_by_tile grid = flat_map (λ row. map (λ border. sum border.begun) row) grid
+abbrev pub clump_counts_by_tile : List (List TileBorderValue) → List ℕ
+clump_counts_by_tile grid = flat_map (λ row. map (λ border. sum border.begun) row) grid
 
 -- the numbers of the tiles' clumps, tile by tile: in each map that is cut into tiles with these borders, each cell has
 -- the number of its clump
-abbrev pub GridNumbers : Joining → List (List BorderValue) → List ℕ → Type 0
-GridNumbers j grid numbers = (whole : Grid) (heights widths : List ℕ) (map_of numbers_of : ℕ → ℕ → Grid) → IsCutIntoTiles whole heights widths map_of → HaveBorders j heights widths map_of numbers_of grid → (r c : ℕ) → r < length heights → c < length widths → (p : Position) (k : ℕ) → cell_at_position (numbers_of r c) p ≡ Some (pos k) → HasNumber j whole (moved_position (tile_place heights widths r c) p) (slice_index numbers (clumps_before_tile (begun_in grid) r c + (k - 1)))
+abbrev pub AreClumpNumbersOfTileGrid : Joining → List (List TileBorderValue) → List ℕ → Type 0
+AreClumpNumbersOfTileGrid j grid numbers = (whole : Grid) (heights widths : List ℕ) (map_of numbers_of : ℕ → ℕ → Grid) → MapIsCutIntoTiles whole heights widths map_of → TilesHaveBorders j heights widths map_of numbers_of grid → (r c : ℕ) → r < length heights → c < length widths → (p : Position) (k : ℕ) → cell_at_position (numbers_of r c) p ≡ Some (pos k) → HasClumpNumber j whole (position_in_full_map (rectangle_of_tile_in_grid heights widths r c) p) (slice_index numbers (clump_count_before_tile (begun_clump_counts_of_grid grid) r c + (k - 1)))
 
 -- each map that is cut into tiles with these borders has `n` clumps
-abbrev pub GridClumps : Joining → List (List BorderValue) → ℕ → Type 0
-GridClumps j grid n = (whole : Grid) (heights widths : List ℕ) (map_of numbers_of : ℕ → ℕ → Grid) → IsCutIntoTiles whole heights widths map_of → HaveBorders j heights widths map_of numbers_of grid → HasAreas j whole n
+abbrev pub IsClumpCountOfTileGrid : Joining → List (List TileBorderValue) → ℕ → Type 0
+IsClumpCountOfTileGrid j grid n = (whole : Grid) (heights widths : List ℕ) (map_of numbers_of : ℕ → ℕ → Grid) → MapIsCutIntoTiles whole heights widths map_of → TilesHaveBorders j heights widths map_of numbers_of grid → MapHasClumpCount j whole n
 
 -- the runs of the numbers of a grid of tiles
-pub record AreRunsOf (j : Joining) (grid : List (List BorderValue)) (runs : List Stretch) : Type 0 where
+pub record AreConsecutiveClumpsOfTiles (j : Joining) (grid : List (List TileBorderValue))
+    (runs : List ConsecutiveClumps) : Type 0 where
   pub numbers : List ℕ
-  pub many : length numbers ≡ sum (clumps_by_tile grid)
-  pub join : GridNumbers j grid numbers
-  pub are : runs ≡ stretches_of (clumps_by_tile grid) numbers
+  pub many : length numbers ≡ sum (clump_counts_by_tile grid)
+  pub join : AreClumpNumbersOfTileGrid j grid numbers
+  pub are : runs ≡ consecutive_clumps_of_all_tiles (clump_counts_by_tile grid) numbers

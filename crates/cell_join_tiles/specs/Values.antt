@@ -1,34 +1,40 @@
 -- The border of a tile as lists.
 use Rattle.std.specs.Prelude.{ℕ, List, [], map}
 use Rattle.cell_core.specs.Grid.{CellValue}
-use Rattle.cell_join_tiles.specs.declared.border.Side.{Side}
-use Rattle.cell_join_tiles.specs.declared.border.Border.{Border}
+use Rattle.cell_join_tiles.specs.declared.border.TileSide.{TileSide}
+use Rattle.cell_join_tiles.specs.declared.border.TileBorder.{TileBorder}
 
 -- the cells of a side of a tile, and their numbers in the tile
-pub record SideValue : Type 0 where
+pub record TileSideValue : Type 0 where
   pub cells : List CellValue
   pub numbers : List CellValue
 
 -- the border of a tile: its four sides, and the number of clumps that begin in each of its rows
-pub record BorderValue : Type 0 where
-  pub first : SideValue
-  pub last : SideValue
-  pub left : SideValue
-  pub right : SideValue
+pub record TileBorderValue : Type 0 where
+  pub first : TileSideValue
+  pub last : TileSideValue
+  pub left : TileSideValue
+  pub right : TileSideValue
   pub begun : List ℕ
 
-abbrev pub side_value : Side → SideValue
-side_value side = record { cells = side.cells.items; numbers = side.numbers.items }
+abbrev pub value_of_tile_side : TileSide → TileSideValue
+value_of_tile_side side = record { cells = side.cells.items; numbers = side.numbers.items }
 
-abbrev pub border_value : Border → BorderValue
-border_value border = record { first = side_value border.first; last = side_value border.last; left = side_value border.left; right = side_value border.right; begun = border.begun.items }
+abbrev pub value_of_tile_border : TileBorder → TileBorderValue
+value_of_tile_border border = record { first = value_of_tile_side border.first; last = value_of_tile_side border.last; left = value_of_tile_side border.left; right = value_of_tile_side border.right; begun = border.begun.items }
 
 -- the borders of a row of tiles as values
-abbrev pub border_values : List Border → List BorderValue
-border_values row = map border_value row
+abbrev pub values_of_tile_borders : List TileBorder → List TileBorderValue
+values_of_tile_borders row = map value_of_tile_border row
 
-abbrev pub no_side : SideValue
-no_side = record { cells = []; numbers = [] }
+abbrev pub empty_tile_side : TileSideValue
+empty_tile_side = record { cells = []; numbers = [] }
 
-abbrev pub no_border : BorderValue
-no_border = record { first = no_side; last = no_side; left = no_side; right = no_side; begun = [] }
+abbrev pub empty_tile_border : TileBorderValue
+empty_tile_border = record {
+  first = empty_tile_side;
+  last = empty_tile_side;
+  left = empty_tile_side;
+  right = empty_tile_side;
+  begun = [];
+}

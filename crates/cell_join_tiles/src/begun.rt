@@ -2,8 +2,8 @@
 
 ghost use Rattle.std.specs.Prelude.{◌≡◌, ◌<◌, IfOk};
 ghost use Rattle.cell_core.specs.Grid.{row_at};
-ghost use Rattle.cell_join_tiles.specs.parts.Greatest.{greater_of, greatest_in};
-ghost use Rattle.cell_join_tiles.specs.Borders.{Rises};
+ghost use Rattle.cell_join_tiles.specs.parts.Greatest.{greater_of_number_and_cell, greatest_of_number_and_cells};
+ghost use Rattle.cell_join_tiles.specs.Borders.{BegunCountsAreMaximumRises};
 
 use cell_core::cell::Cell;
 use cell_core::map::CellMap;
@@ -15,7 +15,7 @@ use std::alloc::Global;
 /// # Errors
 ///
 /// Returns [`Memory`] if memory runs out.
-pub fn row_of(alloc: Global, map: &CellMap, row: u32) -> Result<Vec<Cell>, Memory>
+pub fn cells_of_map_row(alloc: Global, map: &CellMap, row: u32) -> Result<Vec<Cell>, Memory>
     requires { row < map.now.region.rows }
     ensures { IfOk result (λ cells. cells.items ≡ row_at map.now row) }
 {
@@ -25,8 +25,8 @@ pub fn row_of(alloc: Global, map: &CellMap, row: u32) -> Result<Vec<Cell>, Memor
 }
 
 // Returns the larger of a number and a cell.
-fn greater_of(most: u64, cell: Cell) -> u64
-    ensures { result ≡ greater_of most cell }
+fn greater_of_number_and_cell(most: u64, cell: Cell) -> u64
+    ensures { result ≡ greater_of_number_and_cell most cell }
 {
     let Some(category) = cell.get() else {
         return most;
@@ -38,12 +38,12 @@ fn greater_of(most: u64, cell: Cell) -> u64
 }
 
 // Returns the largest of a number and cells.
-fn greatest_in(most: u64, cells: &[Cell]) -> u64
-    ensures { result ≡ greatest_in most cells.now }
+fn greatest_of_number_and_cells(most: u64, cells: &[Cell]) -> u64
+    ensures { result ≡ greatest_of_number_and_cells most cells.now }
 {
     let mut greatest = most;
     for cell in cells {
-        greatest = greater_of(greatest, *cell);
+        greatest = greater_of_number_and_cell(greatest, *cell);
     }
     greatest
 }
@@ -53,14 +53,15 @@ fn greatest_in(most: u64, cells: &[Cell]) -> u64
 /// # Errors
 ///
 /// Returns [`Memory`] if memory runs out.
-pub fn begun_by_row(alloc: Global, numbers: &CellMap) -> Result<Vec<u64>, Memory>
-    ensures { IfOk result (λ begun. Rises numbers.now.region.rows numbers.now begun.items) }
+pub fn begun_clump_counts_by_row(alloc: Global, numbers: &CellMap) -> Result<Vec<u64>, Memory>
+    ensures { IfOk result (λ begun. BegunCountsAreMaximumRises numbers.now.region.rows numbers.now
+        begun.items) }
 {
     let mut begun = Vec::new(alloc);
     let mut most = 0;
     for row in 0..numbers.region().rows() {
-        let cells = row_of(alloc, numbers, row)?;
-        let greatest = greatest_in(most, &cells);
+        let cells = cells_of_map_row(alloc, numbers, row)?;
+        let greatest = greatest_of_number_and_cells(most, &cells);
         begun.push(greatest - most)?;
         most = greatest;
     }

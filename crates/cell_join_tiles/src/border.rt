@@ -4,7 +4,7 @@ use cell_core::cell::Cell;
 
 /// A side of a tile: the cells of its first or last row or column, and their clump numbers in the tile.
 #[derive(Debug, Drop)]
-pub struct Side {
+pub struct TileSide {
     /// The cells of the tile's map, from the left or from the top.
     pub cells: Vec<Cell>,
     /// The cells of the map of clump numbers.
@@ -13,15 +13,15 @@ pub struct Side {
 
 /// The part of a tile that is needed for joining.
 #[derive(Debug, Drop)]
-pub struct Border {
+pub struct TileBorder {
     /// The first row.
-    pub first: Side,
+    pub first: TileSide,
     /// The last row, which is also the first row if the tile has only one.
-    pub last: Side,
+    pub last: TileSide,
     /// The first column.
-    pub left: Side,
+    pub left: TileSide,
     /// The last column.
-    pub right: Side,
+    pub right: TileSide,
     /// The number of clumps that begin in each row of the tile.
     pub begun: Vec<u64>,
 }

@@ -1,21 +1,23 @@
 //! Joins rows of tiles from top to bottom.
 
 ghost use Rattle.std.specs.Prelude.{ℕ, ◌≡◌, ◌≤◌, ◌^◌, ◌+◌, ◌++◌, ◌∷◌, [], List, IfErr, IfOk};
-ghost use Rattle.cell_join_tiles.specs.Beginnings.{clumps_in_row};
-ghost use Rattle.cell_join_tiles.specs.JoinedTiles.{AreJoinedTiles, AreRunsOf, GridClumps};
-ghost use Rattle.cell_join_tiles.specs.Values.{BorderValue, border_values};
-ghost use Rattle.cell_join_tiles.specs.parts.RowMarks.{AreEven, begun_of};
+ghost use Rattle.cell_join_tiles.specs.Beginnings.{clump_count_of_tile_row};
+ghost use Rattle.cell_join_tiles.specs.JoinedTiles.{JoinerHasJoinedTileRows, AreConsecutiveClumpsOfTiles, IsClumpCountOfTileGrid};
+ghost use Rattle.cell_join_tiles.specs.Values.{TileBorderValue, values_of_tile_borders};
+ghost use Rattle.cell_join_tiles.specs.parts.RowMarks.{TilesHaveRowCount, begun_clump_counts_of_tile_row};
 
-use crate::border::Border;
-use crate::label_runs::runs_of;
+use crate::border::TileBorder;
+use crate::label_runs::consecutive_clumps_of_tiles;
 use crate::marks::Mark;
-use crate::meetings::add_meetings;
-use crate::spans::Span;
-use crate::tile_rows::{RowJoin, clumps_with_row, join_row, rows_of};
-use cell_cats_areas::clump::Joining;
+use crate::meetings::add_label_pairs_of_adjacent_lines;
+use crate::spans::LabelRange;
+use crate::tile_rows::{
+    PartlyJoinedTileRow, clump_count_plus_tile_row, common_row_count_of_tiles, join_tiles_of_row,
+};
+use cell_clumps::clump::Joining;
 use cell_core::memory::Memory;
-use cell_join_numbers::numbers::number_pairs;
-use cell_join_numbers::stretch::Stretch;
+use cell_join_numbers::numbers::numbers_of_paired_labels;
+use cell_join_numbers::stretch::ConsecutiveClumps;
 use std::alloc::Global;
 use std::marker::Model;
 
@@ -43,9 +45,9 @@ impl From<Memory> for JoinerFault {
 
 /// The clumps of the full map, described by the clumps of the tiles.
 #[derive(Debug, Drop)]
-pub struct JoinedTiles {
+pub struct FullMapNumbering {
     /// The clumps of the tiles in order, as runs with consecutive numbers in the full map.
-    pub runs: Vec<Stretch>,
+    pub runs: Vec<ConsecutiveClumps>,
     /// The number of clumps in the full map.
     pub clumps: u64,
 }
@@ -65,25 +67,25 @@ pub struct TileJoiner {
     // The last row of cells.
     above: Vec<Option<Mark>>,
     // The labels of each tile.
-    tiles: Vec<Vec<Span>>,
+    tiles: Vec<Vec<LabelRange>>,
 }
 
 impl Model for TileJoiner {
     ghost use Rattle.cell_join_tiles.specs.JoinedTiles.{TileJoinerValue};
-    ghost use Rattle.cell_join_tiles.specs.parts.Spans.{AllFit, labels_of_tiles};
+    ghost use Rattle.cell_join_tiles.specs.parts.Spans.{TileLabelRangesFitInSixtyFourBits, labels_of_tile_ranges};
 
     ghost Value = { TileJoinerValue };
 
-    ghost view = { λ t. record { joining = t.joining; clumps = t.clumps; pairs = t.pairs.items; above = t.above.items; tiles = labels_of_tiles t.tiles.items } };
+    ghost view = { λ t. record { joining = t.joining; clumps = t.clumps; pairs = t.pairs.items; above = t.above.items; tiles = labels_of_tile_ranges t.tiles.items } };
 
-    ghost invariant = { λ t. AllFit t.tiles.items };
+    ghost invariant = { λ t. TileLabelRangesFitInSixtyFourBits t.tiles.items };
 }
 
 impl TileJoiner {
     /// Creates a joiner without tiles. Allocates no memory.
     pub fn new(alloc: Global, joining: Joining) -> TileJoiner
         ensures joining { result.joining ≡ joining }
-        ensures none { AreJoinedTiles [] result }
+        ensures none { JoinerHasJoinedTileRows [] result }
     {
         TileJoiner {
             joining,
@@ -99,19 +101,20 @@ impl TileJoiner {
     /// # Errors
     ///
     /// Returns a [`JoinerFault`] if the row cannot be joined.
-    pub fn add(self, alloc: Global, row: Vec<Border>) -> Result<TileJoiner, JoinerFault>
+    pub fn add(self, alloc: Global, row: Vec<TileBorder>) -> Result<TileJoiner, JoinerFault>
         ensures joining { IfOk result (λ more. more.joining ≡ self.joining) }
-        ensures joined { IfOk result (λ more. (grid : List (List BorderValue))
-            → AreJoinedTiles grid self
-            → AreJoinedTiles (grid ++ border_values row.items ∷ []) more) }
+        ensures joined { IfOk result (λ more. (grid : List (List TileBorderValue))
+            → JoinerHasJoinedTileRows grid self
+            → JoinerHasJoinedTileRows (grid ++ values_of_tile_borders row.items ∷ []) more) }
         // If a row is rejected, the error is the row's own.
         ensures other_rows { IfErr result (λ fault. fault ≡ JoinerFault.OtherRows
-            → (rows : ℕ) → AreEven rows (border_values row.items) → ⊥) }
+            → (rows : ℕ) → TilesHaveRowCount rows (values_of_tile_borders row.items) → ⊥) }
         ensures many { IfErr result (λ fault. fault ≡ JoinerFault.TooManyClumps
-            → 2 ^ 64 ≤ self.clumps + clumps_in_row (begun_of (border_values row.items))) }
+            → 2 ^ 64 ≤ self.clumps + clump_count_of_tile_row
+            (begun_clump_counts_of_tile_row (values_of_tile_borders row.items))) }
     {
         let borders = row.as_slice();
-        let Some(rows) = rows_of(borders) else {
+        let Some(rows) = common_row_count_of_tiles(borders) else {
             return Err(JoinerFault::OtherRows);
         };
         let TileJoiner {
@@ -121,18 +124,18 @@ impl TileJoiner {
             above,
             tiles,
         } = self;
-        let Some(clumps) = clumps_with_row(base, borders) else {
+        let Some(clumps) = clump_count_plus_tile_row(base, borders) else {
             return Err(JoinerFault::TooManyClumps);
         };
-        let from = RowJoin {
+        let from = PartlyJoinedTileRow {
             pairs,
             tiles,
             first: Vec::new(alloc),
             last: Vec::new(alloc),
             right: Vec::new(alloc),
         };
-        let joined = join_row(alloc, joining, from, base, rows, borders)?;
-        let RowJoin {
+        let joined = join_tiles_of_row(alloc, joining, from, base, rows, borders)?;
+        let PartlyJoinedTileRow {
             mut pairs,
             tiles,
             first,
@@ -140,7 +143,7 @@ impl TileJoiner {
             right: _,
         } = joined;
         // The seam is a single line over the full width, so corners where four tiles meet need no special case.
-        add_meetings(&mut pairs, joining, &above, &first)?;
+        add_label_pairs_of_adjacent_lines(&mut pairs, joining, &above, &first)?;
         Ok(TileJoiner {
             joining,
             clumps,
@@ -155,11 +158,13 @@ impl TileJoiner {
     /// # Errors
     ///
     /// Returns [`Memory`] if memory runs out.
-    pub fn finish(self, alloc: Global) -> Result<JoinedTiles, Memory>
-        ensures runs { IfOk result (λ joined. (grid : List (List BorderValue))
-            → AreJoinedTiles grid self → AreRunsOf self.joining grid joined.runs.items) }
-        ensures clumps { IfOk result (λ joined. (grid : List (List BorderValue))
-            → AreJoinedTiles grid self → GridClumps self.joining grid joined.clumps) }
+    pub fn finish(self, alloc: Global) -> Result<FullMapNumbering, Memory>
+        ensures runs { IfOk result (λ joined. (grid : List (List TileBorderValue))
+            → JoinerHasJoinedTileRows grid self
+            → AreConsecutiveClumpsOfTiles self.joining grid joined.runs.items) }
+        ensures clumps { IfOk result (λ joined. (grid : List (List TileBorderValue))
+            → JoinerHasJoinedTileRows grid self
+            → IsClumpCountOfTileGrid self.joining grid joined.clumps) }
     {
         let TileJoiner {
             joining: _,
@@ -168,10 +173,10 @@ impl TileJoiner {
             above: _,
             tiles,
         } = self;
-        let sparse = number_pairs(alloc, &pairs)?;
-        let runs = runs_of(alloc, &sparse, &tiles)?;
+        let sparse = numbers_of_paired_labels(alloc, &pairs)?;
+        let runs = consecutive_clumps_of_tiles(alloc, &sparse, &tiles)?;
         let paired = sparse.paired.len();
-        Ok(JoinedTiles {
+        Ok(FullMapNumbering {
             runs,
             clumps: clumps.saturating_sub(paired as u64) + sparse.roots[paired],
         })

@@ -3,12 +3,12 @@
 //! The number of clumps that begin in each row of each tile is enough to label all clumps in the order of their first
 //! cells. Memory therefore grows with the seams, not with the clumps.
 //!
-//! - `border`: `Border`: four sides, each with its cells and their clump numbers, and the counts by row; `begun`:
-//!   `begun_by_row` computes these counts
+//! - `border`: `TileBorder`: four sides, each with its cells and their clump numbers, and the counts by row; `begun`:
+//!   `begun_clump_counts_by_row` computes these counts
 //! - `joiner`: `TileJoiner`: `add` accepts a row of tiles from the left, and `finish` returns `JoinedTiles`, the
 //!   numbers in the full map as runs, and the number of clumps
-//! - `law`: from borders to labels, and from labels to numbers; the main law is `joined_tiles_number`
-//! - `tile_rows`: one row of tiles; `clumps_with_row` counts its clumps
+//! - `law`: from borders to labels, and from labels to numbers; the main law is `joined_tiles_give_clump_numbers`
+//! - `tile_rows`: one row of tiles; `clump_count_plus_tile_row` counts its clumps
 //! - private, in the order of work: `row_labels`, `spans`: its labels; `marks`: cells
 //!   along a seam; `meetings`: the pairs there; `label_runs`, `run_lines`: the result
 //!

@@ -1,12 +1,12 @@
 //! Lines of cells along the sides of tiles, with the labels of their clumps.
 
 ghost use Rattle.std.specs.Prelude.{ℕ, ◌≡◌, ◌++◌, ◌+◌, ◌<◌, ◌^◌, IfOk, OnOk, None, length, sum, slice_index, slice_index_or};
-ghost use Rattle.cell_join_tiles.specs.Values.{side_value};
-ghost use Rattle.cell_join_tiles.specs.parts.RowLabels.{AreEnds, tile_label};
-ghost use Rattle.cell_join_tiles.specs.parts.RowMarks.{clump_of_mark, mark_in, marks_of};
+ghost use Rattle.cell_join_tiles.specs.Values.{value_of_tile_side};
+ghost use Rattle.cell_join_tiles.specs.parts.RowLabels.{AreClumpCountsUpToRows, label_of_clump_from_first_labels};
+ghost use Rattle.cell_join_tiles.specs.parts.RowMarks.{clump_from_number, labelled_category_of_cell, labelled_categories_of_side};
 
-use crate::border::Side;
-use crate::row_labels::label_of;
+use crate::border::TileSide;
+use crate::row_labels::label_of_tile_clump;
 use cell_core::cell::Cell;
 use cell_core::memory::Memory;
 use std::alloc::Global;
@@ -19,7 +19,7 @@ pub(crate) struct Mark {
 }
 
 // Returns the cell at index `place`, or null after the end.
-fn cell_at(cells: &[Cell], place: usize) -> Cell
+fn cell_at_place_or_null(cells: &[Cell], place: usize) -> Cell
     ensures { result ≡ slice_index_or cells.now place None }
 {
     match cells.get(place) {
@@ -29,8 +29,8 @@ fn cell_at(cells: &[Cell], place: usize) -> Cell
 }
 
 // Returns the clump with this number, counted from 0.
-fn clump_of_mark(number: Cell) -> Option<u64>
-    ensures { result ≡ clump_of_mark number }
+fn clump_from_number(number: Cell) -> Option<u64>
+    ensures { result ≡ clump_from_number number }
 {
     let category = number.get()?;
     let Ok(number) = u64::try_from(category) else {
@@ -43,38 +43,46 @@ fn clump_of_mark(number: Cell) -> Option<u64>
 }
 
 // Returns the mark of a tile's cell, if it is not null.
-fn mark_in(firsts: &[u64], begun: &[u64], ends: &[u64], cell: Cell, number: Cell) -> Option<Mark>
+fn labelled_category_of_cell(
+    firsts: &[u64],
+    begun: &[u64],
+    ends: &[u64],
+    cell: Cell,
+    number: Cell,
+) -> Option<Mark>
     requires long { length firsts.now ≡ length begun.now }
-    requires ends { AreEnds begun.now ends.now }
+    requires ends { AreClumpCountsUpToRows begun.now ends.now }
     requires fits { (i : ℕ) → i < length begun.now →
         slice_index firsts.now i + slice_index begun.now i < 2 ^ 64 }
-    ensures { result ≡ mark_in (tile_label firsts.now begun.now) (sum begun.now) cell number }
+    ensures { result ≡ labelled_category_of_cell
+        (label_of_clump_from_first_labels firsts.now begun.now) (sum begun.now) cell number }
 {
     let category = cell.get()?;
-    let clump = clump_of_mark(number)?;
-    let label = label_of(firsts, begun, ends, clump)?;
+    let clump = clump_from_number(number)?;
+    let label = label_of_tile_clump(firsts, begun, ends, clump)?;
     Some(Mark { category, label })
 }
 
 // Adds the marks of the cells of a tile's side to a line.
-pub(crate) fn add_marks(
+pub(crate) fn add_labelled_categories_of_side(
     line: &mut Vec<Option<Mark>>,
     firsts: &[u64],
     begun: &[u64],
     ends: &[u64],
-    side: &Side,
+    side: &TileSide,
 ) -> Result<(), Memory>
     requires long { length firsts.now ≡ length begun.now }
-    requires ends { AreEnds begun.now ends.now }
+    requires ends { AreClumpCountsUpToRows begun.now ends.now }
     requires fits { (i : ℕ) → i < length begun.now →
         slice_index firsts.now i + slice_index begun.now i < 2 ^ 64 }
     ensures { OnOk result (line.new.items ≡ line.old.items
-        ++ marks_of (tile_label firsts.now begun.now) (sum begun.now) (side_value side.now)) }
+        ++ labelled_categories_of_side (label_of_clump_from_first_labels firsts.now begun.now)
+        (sum begun.now) (value_of_tile_side side.now)) }
 {
     for place in 0..side.cells.len() {
-        let cell = cell_at(&side.cells, place);
-        let number = cell_at(&side.numbers, place);
-        line.push(mark_in(firsts, begun, ends, cell, number))?;
+        let cell = cell_at_place_or_null(&side.cells, place);
+        let number = cell_at_place_or_null(&side.numbers, place);
+        line.push(labelled_category_of_cell(firsts, begun, ends, cell, number))?;
     }
     Ok(())
 }

@@ -2,16 +2,16 @@
 
 ghost use Rattle.std.specs.Prelude.{◌≡◌, ◌+◌, ◌<◌, ◌^◌, ◌++◌, ℕ, List, IfOk};
 ghost use Rattle.std.specs.List.{range_with_len};
-ghost use Rattle.cell_join_numbers.specs.declared.stretch.Stretch.{Stretch};
-ghost use Rattle.cell_join_tiles.specs.parts.RunLines.{AreInLines, areas_of_line};
+ghost use Rattle.cell_join_numbers.specs.declared.stretch.ConsecutiveClumps.{ConsecutiveClumps};
+ghost use Rattle.cell_join_tiles.specs.parts.RunLines.{ConsecutiveClumpsAreListed, clump_count_up_to_unfinished_run};
 
 use cell_core::memory::Memory;
-use cell_join_numbers::stretch::{Stretch, is_next};
+use cell_join_numbers::stretch::{ConsecutiveClumps, is_next_number};
 
 // The last run of a tile so far, which may continue, and the number of its last clump.
 #[derive(Clone, Copy)]
-pub(crate) struct Line {
-    pub(crate) stretch: Stretch,
+pub(crate) struct UnfinishedConsecutiveClumps {
+    pub(crate) stretch: ConsecutiveClumps,
     pub(crate) previous: u64,
 }
 
@@ -24,53 +24,54 @@ pub(crate) struct Run {
 }
 
 // Adds clumps after the clumps of a line. Extends the line, or finishes its run and begins a new one.
-pub(crate) fn add_run(
-    stretches: &mut Vec<Stretch>,
+pub(crate) fn extend_or_begin_clump_run(
+    stretches: &mut Vec<ConsecutiveClumps>,
     part: u64,
-    line: Option<Line>,
+    line: Option<UnfinishedConsecutiveClumps>,
     run: Run,
-) -> Result<Option<Line>, Memory>
+) -> Result<Option<UnfinishedConsecutiveClumps>, Memory>
     requires some { 0 < run.count }
     requires last { run.last + 1 ≡ run.first + run.count }
-    requires few { areas_of_line line + run.count < 2 ^ 64 }
-    ensures areas { IfOk result
-        (λ after. areas_of_line after ≡ areas_of_line line + run.count) }
-    ensures lines { IfOk result (λ after. (before : List Stretch) (numbers : List ℕ)
-        → AreInLines part before numbers stretches.old.items line
-        → AreInLines part before (numbers ++ range_with_len run.first run.count)
+    requires few { clump_count_up_to_unfinished_run line + run.count < 2 ^ 64 }
+    ensures clumps { IfOk result
+        (λ after. clump_count_up_to_unfinished_run after
+        ≡ clump_count_up_to_unfinished_run line + run.count) }
+    ensures lines { IfOk result (λ after. (before : List ConsecutiveClumps) (numbers : List ℕ)
+        → ConsecutiveClumpsAreListed part before numbers stretches.old.items line
+        → ConsecutiveClumpsAreListed part before (numbers ++ range_with_len run.first run.count)
         stretches.new.items after) }
 {
     let Some(line) = line else {
-        let stretch = Stretch {
+        let stretch = ConsecutiveClumps {
             tile: part,
             first: 1,
             last: run.count,
             number: run.first,
         };
-        return Ok(Some(Line {
+        return Ok(Some(UnfinishedConsecutiveClumps {
             stretch,
             previous: run.last,
         }));
     };
     let last = line.stretch.last + run.count;
-    if is_next(line.previous, run.first) {
-        let stretch = Stretch {
+    if is_next_number(line.previous, run.first) {
+        let stretch = ConsecutiveClumps {
             last,
             ..line.stretch
         };
-        return Ok(Some(Line {
+        return Ok(Some(UnfinishedConsecutiveClumps {
             stretch,
             previous: run.last,
         }));
     }
     stretches.push(line.stretch)?;
-    let stretch = Stretch {
+    let stretch = ConsecutiveClumps {
         tile: line.stretch.tile,
         first: line.stretch.last + 1,
         last,
         number: run.first,
     };
-    Ok(Some(Line {
+    Ok(Some(UnfinishedConsecutiveClumps {
         stretch,
         previous: run.last,
     }))

@@ -3,8 +3,8 @@ use Rattle.std.proofs.Common.{◌≡◌, ℕ, zero, suc, pos, ◌+◌, ◌-◌, 
 use Rattle.std.proofs.lemmas.Bool.{and_from, and_parts, false≢true, cases_order, cases_lt}
 use Rattle.cell_core_values.specs.Cell.{cell_eq-Decides}
 use Rattle.cell_core.specs.Grid.{Grid, cell_at}
-use Rattle.cell_patches.specs.Patches.{is_in_patch, is_inside}
-use Rattle.cell_patches.specs.parts.Passes.{HasSteps}
+use Rattle.cell_patches.specs.Patches.{is_in_patch, are_cells_within_steps_in_patch}
+use Rattle.cell_patches.specs.parts.Passes.{AreStepsOfLargestDiamondInPatch}
 
 -- a cell with the number of the patch passes the test of the patch
 pub of_from : (numbers : Grid) (n r c : ℕ) → cell_at numbers r c ≡ Some (pos n) → is_in_patch numbers n r c ≡ true
@@ -23,8 +23,9 @@ pub record IsWithin (numbers : Grid) (n k r c : ℕ) : Type 0 where
   pub left : k ≤ c
   pub all : (a b : ℕ) → IsNear k r c a b → is_in_patch numbers n a b ≡ true
 
-pub within_from : (numbers : Grid) (n k r c : ℕ) → is_inside numbers n k r c ≡ true → IsWithin numbers n k r c
-unfolding is_inside
+pub within_from : (numbers : Grid) (n k r c : ℕ) → are_cells_within_steps_in_patch numbers n k r c ≡ true
+    → IsWithin numbers n k r c
+unfolding are_cells_within_steps_in_patch
 within_from numbers n zero r c h = record {
   up = omega arith;
   left = omega arith;
@@ -56,8 +57,9 @@ within_from numbers n (suc k) (suc r) (suc c) h =
           (cases_order a (suc r));
     }
 
-pub within_to : (numbers : Grid) (n k r c : ℕ) → IsWithin numbers n k r c → is_inside numbers n k r c ≡ true
-unfolding is_inside
+pub within_to : (numbers : Grid) (n k r c : ℕ) → IsWithin numbers n k r c
+    → are_cells_within_steps_in_patch numbers n k r c ≡ true
+unfolding are_cells_within_steps_in_patch
 within_to numbers n zero r c h = h.all r c (omega arith)
 within_to numbers n (suc k) zero c h = absurd (let u = h.up in omega arith)
 within_to numbers n (suc k) (suc r) zero h = absurd (let u = h.left in omega arith)
@@ -123,7 +125,7 @@ larger_to numbers n k center c west east north above here = record {
 
 -- if a diamond with a step or more is within a patch, so are the cells north of its lowest cell
 pub pure : (numbers : Grid) (n k center r c : ℕ) → center + suc k ≡ suc (suc r)
-    → is_inside numbers n (suc k) center (suc c) ≡ true
+    → are_cells_within_steps_in_patch numbers n (suc k) center (suc c) ≡ true
     → ((is_in_patch numbers n (suc r) (suc c) ≡ true) × (is_in_patch numbers n (suc r) c ≡ true))
     × ((is_in_patch numbers n (suc r) (suc (suc c)) ≡ true) × (is_in_patch numbers n r (suc c) ≡ true))
 pure numbers n k center r c e h =
@@ -134,20 +136,21 @@ pure numbers n k center r c e h =
 
 -- a diamond with at least one step does not have its lowest cell at the edge of the map
 pub edge_row : (numbers : Grid) (n k center r c : ℕ) → center + suc k ≡ r → r ≤ 1
-    → is_inside numbers n (suc k) center c ≡ true → ⊥
+    → are_cells_within_steps_in_patch numbers n (suc k) center c ≡ true → ⊥
 edge_row numbers n k center r c e small h =
     let w = within_from numbers n (suc k) center c h in let up = w.up in omega arith
 
-pub edge_col : (numbers : Grid) (n k center : ℕ) → is_inside numbers n (suc k) center 0 ≡ true → ⊥
+pub edge_col : (numbers : Grid) (n k center : ℕ) → are_cells_within_steps_in_patch numbers n (suc k) center 0 ≡ true → ⊥
 edge_col numbers n k center h = let w = within_from numbers n (suc k) center 0 h in let left = w.left in omega arith
 
 -- a cell that is not the lowest cell of any diamond with a step has 0 steps
 pub steps_none : (numbers : Grid) (n r c : ℕ) → is_in_patch numbers n r c ≡ true
-    → ((k center : ℕ) → center + suc k ≡ r → is_inside numbers n (suc k) center c ≡ true → ⊥) → HasSteps numbers n r c 0
-unfolding is_inside
+    → ((k center : ℕ) → center + suc k ≡ r → are_cells_within_steps_in_patch numbers n (suc k) center c ≡ true → ⊥)
+    → AreStepsOfLargestDiamondInPatch numbers n r c 0
+unfolding are_cells_within_steps_in_patch
 steps_none numbers n r c here none = record { within = omega arith; exactly = exactly }
   where
-    exactly : (k center : ℕ) → center + k ≡ r → (k ≤ 0) ↔ (is_inside numbers n k center c ≡ true)
+    exactly : (k center : ℕ) → center + k ≡ r → (k ≤ 0) ↔ (are_cells_within_steps_in_patch numbers n k center c ≡ true)
     exactly zero center e = (
       λ _. subst (λ x. is_in_patch numbers n x c ≡ true) (let f : r ≡ center = omega arith in f) here,
       λ _. omega arith,
@@ -156,9 +159,11 @@ steps_none numbers n r c here none = record { within = omega arith; exactly = ex
 
 pub steps_more : (numbers : Grid) (n r c w e nn steps : ℕ)
     → is_in_patch numbers n (suc (suc r)) (suc c) ≡ true → is_in_patch numbers n (suc r) (suc c) ≡ true
-    → HasSteps numbers n (suc r) c w → HasSteps numbers n (suc r) (suc (suc c)) e → HasSteps numbers n r (suc c) nn
-    → steps ≡ suc (min (min w e) nn) → HasSteps numbers n (suc (suc r)) (suc c) steps
-unfolding is_inside
+    → AreStepsOfLargestDiamondInPatch numbers n (suc r) c w → AreStepsOfLargestDiamondInPatch numbers n (suc r)
+    (suc (suc c)) e
+    → AreStepsOfLargestDiamondInPatch numbers n r (suc c) nn
+    → steps ≡ suc (min (min w e) nn) → AreStepsOfLargestDiamondInPatch numbers n (suc (suc r)) (suc c) steps
+unfolding are_cells_within_steps_in_patch
 steps_more numbers n r c w e nn steps here above west east north is = record {
   within = let a = west.within in omega arith;
   exactly = exactly;
@@ -171,7 +176,7 @@ steps_more numbers n r c w e nn steps here above west east north is = record {
     least k a b d = omega arith
 
     larger : (k center : ℕ) → suc center + k ≡ suc r → k ≤ w → k ≤ e → k ≤ nn
-        → is_inside numbers n (suc k) (suc center) (suc c) ≡ true
+        → are_cells_within_steps_in_patch numbers n (suc k) (suc center) (suc c) ≡ true
     larger k center at a b d =
         within_to numbers n (suc k) (suc center) (suc c) (larger_to numbers n k center c
         (within_from numbers n k (suc center) c ((west.exactly k (suc center) at).0 a))
@@ -181,7 +186,8 @@ steps_more numbers n r c w e nn steps here above west east north is = record {
         (subst (λ x. is_in_patch numbers n x (suc c) ≡ true)
         (let f : suc (suc r) ≡ suc (suc center) + k = omega arith in f) here))
 
-    smaller : (k center : ℕ) → suc center + k ≡ suc r → is_inside numbers n (suc k) (suc center) (suc c) ≡ true
+    smaller : (k center : ℕ) → suc center + k ≡ suc r → are_cells_within_steps_in_patch numbers n (suc k) (suc center)
+        (suc c) ≡ true
         → suc k ≤ steps
     smaller k center at h =
         let three = larger_from numbers n k center c (within_from numbers n (suc k) (suc center) (suc c) h) in
@@ -189,7 +195,8 @@ steps_more numbers n r c w e nn steps here above west east north is = record {
         ((east.exactly k (suc center) at).1 (within_to numbers n k (suc center) (suc (suc c)) three.1))
         ((north.exactly k center (omega arith)).1 (within_to numbers n k center (suc c) three.2))
 
-    exactly : (k center : ℕ) → center + k ≡ suc (suc r) → (k ≤ steps) ↔ (is_inside numbers n k center (suc c) ≡ true)
+    exactly : (k center : ℕ) → center + k ≡ suc (suc r) → (k ≤ steps)
+        ↔ (are_cells_within_steps_in_patch numbers n k center (suc c) ≡ true)
     exactly zero center at = (
       λ _. subst (λ x. is_in_patch numbers n x (suc c) ≡ true) (let f : suc (suc r) ≡ center = omega arith in f)
           here,
@@ -205,6 +212,6 @@ steps_more numbers n r c w e nn steps here above west east north is = record {
     )
 
 -- if a cell is k steps inside a patch, the cell k rows further south is in the patch
-pub inside_south : (numbers : Grid) (n k r c : ℕ) → is_inside numbers n k r c ≡ true
+pub inside_south : (numbers : Grid) (n k r c : ℕ) → are_cells_within_steps_in_patch numbers n k r c ≡ true
     → is_in_patch numbers n (r + k) c ≡ true
 inside_south numbers n k r c h = (within_from numbers n k r c h).all (r + k) c (omega arith)

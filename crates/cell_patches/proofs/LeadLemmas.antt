@@ -6,8 +6,9 @@ use Rattle.std.specs.Ordering.{int_eq}
 use Rattle.std.specs.Cmp.{signed_Decides}
 use Rattle.std.proofs.lemmas.Bool.{and_from, and_parts, both_ways, false_from_ne_true}
 use Rattle.std.proofs.lemmas.Int.{ints}
-use Rattle.cell_patches.specs.declared.zone_counts.Lead.{Lead}
-use Rattle.cell_patches.specs.parts.Leads.{IsLead, RaisesLeads, cells_in_table, no_lead, same_pair}
+use Rattle.cell_patches.specs.declared.zone_counts.LeadingZone.{LeadingZone}
+use Rattle.cell_patches.specs.parts.Leads.{IsLeadingZoneByCellCounts, UpdatesLeadingZoneOfPair, pair_count_in_table}
+use Rattle.cell_patches.specs.parts.Leads.{leading_zone_before_any_cell, same_pair}
 
 pub cases_zone : (x y : ℤ) → (x ≡ y) ⊎ (x ≢ y)
 cases_zone x y = by (int_eq x y) refl
@@ -32,8 +33,8 @@ module _ (before after : ℤ → ℕ) (zone : ℤ) (many : ℕ) (raised : IsRais
       by (inr apart) = let e = raised.others other apart in let l = below other in omega arith
 
   -- the first zone that gains cells leads
-  pub lead_first : (old : Lead) → IsLead before old → old.zone ≡ None → 0 < many
-      → IsLead after (record { zone = Some zone; cells = many })
+  pub lead_first : (old : LeadingZone) → IsLeadingZoneByCellCounts before old → old.zone ≡ None → 0 < many
+      → IsLeadingZoneByCellCounts after (record { zone = Some zone; cells = many })
   lead_first old h none some = record {
     none = λ is. cc;
     some = λ z is. (let same : zone ≡ z = cc in ap after (sym same) ∙ raised.here, some);
@@ -50,9 +51,9 @@ module _ (before after : ℤ → ℕ) (zone : ℤ) (many : ℕ) (raised : IsRais
           absurd (omega arith)
 
   -- a zone with more cells, or as many cells and a smaller number, takes the lead
-  pub lead_taken : (old : Lead) (first : ℤ) → IsLead before old → old.zone ≡ Some first
+  pub lead_taken : (old : LeadingZone) (first : ℤ) → IsLeadingZoneByCellCounts before old → old.zone ≡ Some first
       → (old.cells < many) ⊎ ((many ≡ old.cells) × (zone <ℤ first))
-      → IsLead after (record { zone = Some zone; cells = many })
+      → IsLeadingZoneByCellCounts after (record { zone = Some zone; cells = many })
   lead_taken old first h leads ahead = record {
     none = λ is. cc;
     some = λ z is. (let same : zone ≡ z = cc in ap after (sym same) ∙ raised.here, large ahead);
@@ -82,8 +83,9 @@ module _ (before after : ℤ → ℕ) (zone : ℤ) (many : ℕ) (raised : IsRais
           omega (arith, ints)
 
   -- a zone with fewer cells, or as many cells and a larger number, does not take the lead
-  pub lead_kept : (old : Lead) (first : ℤ) → IsLead before old → old.zone ≡ Some first → many ≤ old.cells
-      → (many ≡ old.cells → first ≤ℤ zone) → IsLead after old
+  pub lead_kept : (old : LeadingZone) (first : ℤ) → IsLeadingZoneByCellCounts before old → old.zone ≡ Some first
+      → many ≤ old.cells
+      → (many ≡ old.cells → first ≤ℤ zone) → IsLeadingZoneByCellCounts after old
   lead_kept old first h leads fewer small = record {
     none = λ is. cc;
     some = λ z is. (as_before z is (cases_zone z zone), (h.some z is).1);
@@ -116,10 +118,12 @@ same_to p q h =
 
 -- ---- counts of all numbers
 
-abbrev pub AreLeadsBy : (ℤ → ℤ → ℕ) → List Lead → Type 0
-AreLeadsBy cells leads = (k : ℕ) → k < length leads → IsLead (cells (pos (k + 1))) (get_or leads k no_lead)
+abbrev pub AreLeadsBy : (ℤ → ℤ → ℕ) → List LeadingZone → Type 0
+AreLeadsBy cells leads = (k : ℕ) → k < length leads → IsLeadingZoneByCellCounts (cells (pos (k + 1)))
+    (get_or leads k leading_zone_before_any_cell)
 
-lead_same : (f g : ℤ → ℕ) (lead : Lead) → ((z : ℤ) → g z ≡ f z) → IsLead f lead → IsLead g lead
+lead_same : (f g : ℤ → ℕ) (lead : LeadingZone) → ((z : ℤ) → g z ≡ f z) → IsLeadingZoneByCellCounts f lead
+    → IsLeadingZoneByCellCounts g lead
 lead_same f g lead same h = record {
   none = h.none;
   some = λ z is. (same z ∙ (h.some z is).0, (h.some z is).1);
@@ -140,15 +144,17 @@ added_apart : (f g : ℤ → ℤ → ℕ) (pair : ℤ × ℤ) (cells : ℕ) → 
 added_apart f g pair cells more v z apart =
     more v z ∙ (rw (false_from_ne_true _ apart) (omega arith))
 
-pub leads_raised : (f g : ℤ → ℤ → ℕ) (pair : ℤ × ℤ) (cells total : ℕ) (old new : List Lead)
-    → IsAddedTo f g pair cells → total ≡ f pair.0 pair.1 + cells → RaisesLeads old pair total new → AreLeadsBy f old
+pub leads_raised : (f g : ℤ → ℤ → ℕ) (pair : ℤ × ℤ) (cells total : ℕ) (old new : List LeadingZone)
+    → IsAddedTo f g pair cells → total ≡ f pair.0 pair.1 + cells → UpdatesLeadingZoneOfPair old pair total new
+    → AreLeadsBy f old
     → AreLeadsBy g new
 leads_raised f g pair cells total old new more sum raises leads k lt = by (cases_zone pair.0 (pos (k + 1)))
   where
     within : k < length old
     within = let e = raises.0 in omega arith
 
-    by : (pair.0 ≡ pos (k + 1)) ⊎ (pair.0 ≢ pos (k + 1)) → IsLead (g (pos (k + 1))) (get_or new k no_lead)
+    by : (pair.0 ≡ pos (k + 1)) ⊎ (pair.0 ≢ pos (k + 1)) → IsLeadingZoneByCellCounts (g (pos (k + 1)))
+        (get_or new k leading_zone_before_any_cell)
     by (inl same) =
         let was : f pair.0 pair.1 ≡ f (pos (k + 1)) pair.1 = ap (λ (v : ℤ). f v pair.1) same in
         let here = added_here f g pair cells more (pos (k + 1)) pair.1 same refl in
@@ -156,7 +162,8 @@ leads_raised f g pair cells total old new more sum raises leads k lt = by (cases
         (λ other apart. added_apart f g pair cells more (pos (k + 1)) other
         (λ is. apart (sym (same_to pair (pos (k + 1), other) is).1)))
     by (inr apart) =
-        subst (λ (lead : Lead). IsLead (g (pos (k + 1))) lead) (sym ((raises.1 k within).1 apart))
+        subst (λ (lead : LeadingZone). IsLeadingZoneByCellCounts (g (pos (k + 1))) lead)
+        (sym ((raises.1 k within).1 apart))
         (lead_same (f (pos (k + 1))) (g (pos (k + 1))) _
         (λ z. added_apart f g pair cells more (pos (k + 1)) z (λ is. apart (same_to pair (pos (k + 1), z) is).0))
         (leads k within))
@@ -168,20 +175,21 @@ idle false cells none = refl
 
 -- in a table, only the count of the pair that gains cells changes
 pub cells_more : {S : Type 0} (old new : HashMap (ℤ × ℤ) ℕ S) (pair q : ℤ × ℤ) (was cells : ℕ)
-    → was ≡ cells_in_table old pair
+    → was ≡ pair_count_in_table old pair
     → get same_pair new q ≡ cond (same_pair pair q) (Some (was + cells)) (get same_pair old q)
-    → cells_in_table new q ≡ cells_in_table old q + cond (same_pair pair q) cells 0
+    → pair_count_in_table new q ≡ pair_count_in_table old q + cond (same_pair pair q) cells 0
 cells_more old new pair q was cells e updated = by (same_pair pair q) refl updated
   where
     by : (b : Bool) → same_pair pair q ≡ b
         → get same_pair new q ≡ cond b (Some (was + cells)) (get same_pair old q)
-        → cells_in_table new q ≡ cells_in_table old q + cond (same_pair pair q) cells 0
+        → pair_count_in_table new q ≡ pair_count_in_table old q + cond (same_pair pair q) cells 0
     by true is found =
         let same = same_to pair q is in
-        let at : cells_in_table old pair ≡ cells_in_table old q =
-        ap (λ (x : ℤ). cells_in_table old (x, pair.1)) same.0 ∙ ap (λ (x : ℤ). cells_in_table old (q.0, x)) same.1 in
-        let now : cells_in_table new q ≡ was + cells = ap (λ (o : Option ℕ). unwrap_or o 0) found in
+        let at : pair_count_in_table old pair ≡ pair_count_in_table old q =
+        ap (λ (x : ℤ). pair_count_in_table old (x, pair.1)) same.0
+        ∙ ap (λ (x : ℤ). pair_count_in_table old (q.0, x)) same.1 in
+        let now : pair_count_in_table new q ≡ was + cells = ap (λ (o : Option ℕ). unwrap_or o 0) found in
         rw is (omega arith)
     by false is found =
-        let now : cells_in_table new q ≡ cells_in_table old q = ap (λ (o : Option ℕ). unwrap_or o 0) found in
+        let now : pair_count_in_table new q ≡ pair_count_in_table old q = ap (λ (o : Option ℕ). unwrap_or o 0) found in
         rw is (omega arith)

@@ -3,15 +3,15 @@
 //! are in the two rows above.
 
 ghost use Rattle.std.specs.Prelude.{◌≡◌, ℕ, ◌+◌, ◌<◌, ◌≤◌, length, min, slice_index_or, nat_le, if◌then◌else◌, IfOk};
-ghost use Rattle.cell_patches.specs.parts.Passes.{is_pure, GivesSteps, GivesAllSteps};
+ghost use Rattle.cell_patches.specs.parts.Passes.{cell_equals_four_cells_above, RowsGiveDiamondStepsOfCell, RowsGiveDiamondStepsOfRow};
 
-use crate::near_rows::{NearRows, cell_in};
+use crate::near_rows::{PatchNumberRowsAroundRow, cell_in_column_or_null};
 use cell_core::memory::Memory;
 use std::alloc::Global;
 
 // Returns the steps at a column of a row, or 0 outside the map.
 #[inline(always)]
-pub(crate) fn steps_in(steps: &[u32], col: usize) -> u32
+pub(crate) fn diamond_steps_or_0_outside_map(steps: &[u32], col: usize) -> u32
     ensures value { result ≡ slice_index_or steps.now col 0 }
 {
     match steps.get(col) {
@@ -22,64 +22,79 @@ pub(crate) fn steps_in(steps: &[u32], col: usize) -> u32
 
 // Returns whether the cell to the right of column `west` equals the three cells above it and the cell two rows above.
 #[inline(always)]
-fn is_pure(lines: &NearRows<'_>, west: usize) -> bool
+fn cell_equals_four_cells_above(lines: &PatchNumberRowsAroundRow<'_>, west: usize) -> bool
     requires { west + 2 < 18446744073709551616 }
-    ensures { result ≡ is_pure lines.now west }
+    ensures { result ≡ cell_equals_four_cells_above lines.now west }
 {
-    let cell = cell_in(lines.here, west + 1);
-    cell_in(lines.above, west + 1) == cell
-        && cell_in(lines.above, west) == cell
-        && cell_in(lines.above, west + 2) == cell
-        && cell_in(lines.second_above, west + 1) == cell
+    let cell = cell_in_column_or_null(lines.here, west + 1);
+    cell_in_column_or_null(lines.above, west + 1) == cell
+        && cell_in_column_or_null(lines.above, west) == cell
+        && cell_in_column_or_null(lines.above, west + 2) == cell
+        && cell_in_column_or_null(lines.second_above, west + 1) == cell
 }
 
 // Returns the steps of the largest diamond whose lowest cell is at column `col`: one more than the smallest number of
 // steps at the cells to the upper left, to the upper right, and two rows above.
 #[inline(always)]
-fn steps_at(lines: &NearRows<'_>, col: usize, above: &[u32], second_above: &[u32]) -> u32
+fn diamond_steps_of_cell(
+    lines: &PatchNumberRowsAroundRow<'_>,
+    col: usize,
+    above: &[u32],
+    second_above: &[u32],
+) -> u32
     requires { col < length lines.now.here.now }
-    ensures { GivesSteps lines.now col above.now second_above.now result }
+    ensures { RowsGiveDiamondStepsOfCell lines.now col above.now second_above.now result }
 {
     if col == 0 {
         return 0;
     }
     let west = col - 1;
-    if !is_pure(lines, west) {
+    if !cell_equals_four_cells_above(lines, west) {
         return 0;
     }
-    let least = steps_in(above, west).min(steps_in(above, west + 2));
-    least.min(steps_in(second_above, col)).saturating_add(1)
+    let least = diamond_steps_or_0_outside_map(above, west).min(diamond_steps_or_0_outside_map(
+        above,
+        west + 2,
+    ));
+    least
+        .min(diamond_steps_or_0_outside_map(second_above, col))
+        .saturating_add(1)
 }
 
 // Writes the steps for each cell of a row.
-fn write_steps(lines: &NearRows<'_>, above: &[u32], second_above: &[u32], here: &mut [u32])
+fn write_diamond_steps_of_row(
+    lines: &PatchNumberRowsAroundRow<'_>,
+    above: &[u32],
+    second_above: &[u32],
+    here: &mut [u32],
+)
     requires { length here.old ≡ length lines.now.here.now }
-    ensures { GivesAllSteps lines.now above.now second_above.now here.new }
+    ensures { RowsGiveDiamondStepsOfRow lines.now above.now second_above.now here.new }
 {
     for col in 0..here.len() {
-        here[col] = steps_at(lines, col, above, second_above);
+        here[col] = diamond_steps_of_cell(lines, col, above, second_above);
     }
 }
 
 // Returns the steps of each cell of a row.
-pub(crate) fn steps_of(
+pub(crate) fn diamond_steps_of_row(
     alloc: Global,
-    lines: &NearRows<'_>,
+    lines: &PatchNumberRowsAroundRow<'_>,
     above: &[u32],
     second_above: &[u32],
 ) -> Result<Vec<u32>, Memory>
     ensures { IfOk result (λ steps.
-        GivesAllSteps lines.now above.now second_above.now steps.items) }
+        RowsGiveDiamondStepsOfRow lines.now above.now second_above.now steps.items) }
 {
     let mut steps = vec![in alloc; 0u32; lines.here.len()]?;
-    write_steps(lines, above, second_above, steps.as_mut_slice());
+    write_diamond_steps_of_row(lines, above, second_above, steps.as_mut_slice());
     Ok(steps)
 }
 
 // Returns 1 if a diamond has at least `depth` steps, so that its centre is `depth` steps inside the patch, and 0
 // otherwise.
 #[inline(always)]
-pub(crate) fn core_of(depth: u32, steps: u32) -> u64
+pub(crate) fn one_if_diamond_centre_is_core(depth: u32, steps: u32) -> u64
     ensures { result ≡ (if nat_le depth steps then 1 else 0) }
 {
     if depth <= steps { 1 } else { 0 }

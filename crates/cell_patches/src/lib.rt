@@ -1,9 +1,9 @@
-//! Measures the patches of a map, which are the clumps of `cell_cats_areas` with the same numbers
+//! Measures the patches of a map, which are the clumps of `cell_clumps` with the same numbers
 //! (GRASS manual: r.clump; the measures are our own choice).
 //!
 //! - `measuring`: `patches_of` measures all patches of a map
 //! - `patch`: `Patch`, class, cells, ends and flanks, core, first and last rows and columns
-//! - `zones`: `zones_of` finds the main zone of each patch, given a second map whose categories are zones
+//! - `zones`: `zones_of_patches` finds the main zone of each patch, given a second map whose categories are zones
 //! - specs/Patches.antt defines the measures, and specs/Zones.antt main zones
 //! - private, in the order of work: `near_rows`, rows of numbers with the rows above and below;
 //!   `core_steps`, how far inside its patch a cell is; `read_rows`, the cells of a row;
@@ -13,9 +13,9 @@
 //! of a cell. Categories 5 5 5 over 5 null 5 are one patch:
 //!
 //! ```
-//! let map = filled(rt.alloc(), &[5, 5, 5, 5, NULL, 5], 3)?;
+//! let map = filled(rt.alloc(), &[5, 5, 5, 5, NULL_CATEGORY, 5], 3)?;
 //! let numbers = clump_with(rt.alloc(), &map, Joining::Edges)?;
-//! let patches = patches_of(rt.alloc(), &map, &numbers, Joining::Edges, 1)?;
+//! let patches = patch_measures(rt.alloc(), &map, &numbers, Joining::Edges, 1)?;
 //! let patch = patches.first().ok_or("no patch")?;
 //! assert_same!(rt; (patch.cells, patch.ends, patch.flanks), (5, 6, 6));
 //! ```

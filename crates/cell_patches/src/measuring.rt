@@ -1,13 +1,13 @@
 //! Measures the patches of a map.
 
 ghost use Rattle.std.specs.Prelude.{◌<◌, IfOk};
-ghost use Rattle.cell_cats_areas.specs.Areas.{IsClumping};
-ghost use Rattle.cell_patches.specs.Patches.{AreMeasured};
+ghost use Rattle.cell_clumps.specs.Clumps.{IsClumpMapOf};
+ghost use Rattle.cell_patches.specs.Patches.{AreMeasuresOfAllPatches};
 
 use crate::patch::Patch;
-use crate::read_rows::measure_row;
-use cell_cats_areas::clump::Joining;
-use cell_cats_areas::law::no_number_is_left_out;
+use crate::read_rows::measure_patches_in_row;
+use cell_clumps::clump::Joining;
+use cell_clumps::law::clump_numbers_have_no_gaps;
 use cell_core::map::CellMap;
 use cell_core::memory::Memory;
 use std::alloc::Global;
@@ -20,24 +20,25 @@ use std::alloc::Global;
 /// # Errors
 ///
 /// [`Memory`] if memory runs out.
-pub fn patches_of(
+pub fn patch_measures(
     alloc: Global,
     map: &CellMap,
     numbers: &CellMap,
     joining: Joining,
     depth: u32,
 ) -> Result<Vec<Patch>, Memory>
-    requires clumping { IsClumping joining map.now numbers.now }
+    requires clumping { IsClumpMapOf joining map.now numbers.now }
     requires depth { 0 < depth }
-    ensures { IfOk result (λ patches. AreMeasured map.now numbers.now depth patches.items) }
+    ensures { IfOk result (λ patches. AreMeasuresOfAllPatches map.now numbers.now depth
+        patches.items) }
 {
-    no_number_is_left_out();
+    clump_numbers_have_no_gaps();
     let region = numbers.region();
     let mut patches = Vec::new(alloc);
     let mut above = Vec::new(alloc);
     let mut second_above = Vec::new(alloc);
     for row in 0..region.rows() {
-        let steps = measure_row(
+        let steps = measure_patches_in_row(
             alloc,
             map,
             numbers,

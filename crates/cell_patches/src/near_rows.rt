@@ -2,14 +2,14 @@
 
 ghost use Rattle.std.specs.Prelude.{◌≡◌, ℕ, ◌+◌, ◌<◌, ◌≤◌, length, None, slice_index_or};
 ghost use Rattle.cell_core.specs.Grid.{cell_at};
-ghost use Rattle.cell_patches.specs.parts.Passes.{above_by, leads_from, west_in};
+ghost use Rattle.cell_patches.specs.parts.Passes.{cell_rows_above_or_null, one_if_side_leaves_patch_of_cell, west_cell_in_row_or_null};
 
 use cell_core::cell::Cell;
 use cell_core::map::CellMap;
 
 // A row of patch numbers, the two rows above it and the row below it; null outside the map.
 #[derive(Clone, Copy)]
-pub(crate) struct NearRows<'a> {
+pub(crate) struct PatchNumberRowsAroundRow<'a> {
     pub(crate) second_above: &'a [Cell],
     pub(crate) above: &'a [Cell],
     pub(crate) here: &'a [Cell],
@@ -17,7 +17,7 @@ pub(crate) struct NearRows<'a> {
 }
 
 // Sets all cells to null.
-fn clear(cells: &mut [Cell])
+fn set_cells_to_null(cells: &mut [Cell])
     ensures { (c : ℕ) → slice_index_or cells.new c None ≡ None }
 {
     for i in 0..cells.len() {
@@ -26,20 +26,21 @@ fn clear(cells: &mut [Cell])
 }
 
 // Copies the row `steps` rows above `row`, or nulls outside the map.
-pub(crate) fn copy_above(numbers: &CellMap, row: u32, steps: u32, cells: &mut [Cell])
+pub(crate) fn copy_row_above(numbers: &CellMap, row: u32, steps: u32, cells: &mut [Cell])
     requires row { row < numbers.now.region.rows }
     requires wide { length cells.old ≡ numbers.now.region.cols }
-    ensures { (c : ℕ) → slice_index_or cells.new c None ≡ above_by steps numbers.now row c }
+    ensures { (c : ℕ) → slice_index_or cells.new c None
+        ≡ cell_rows_above_or_null steps numbers.now row c }
 {
     if steps <= row {
         numbers.copy_row(row - steps, cells);
     } else {
-        clear(cells);
+        set_cells_to_null(cells);
     }
 }
 
 // Copies the row below `row`, or nulls outside the map.
-pub(crate) fn copy_below(numbers: &CellMap, row: u32, cells: &mut [Cell])
+pub(crate) fn copy_row_below(numbers: &CellMap, row: u32, cells: &mut [Cell])
     requires row { row < numbers.now.region.rows }
     requires wide { length cells.old ≡ numbers.now.region.cols }
     ensures { (c : ℕ) → slice_index_or cells.new c None ≡ cell_at numbers.now (row + 1) c }
@@ -48,13 +49,13 @@ pub(crate) fn copy_below(numbers: &CellMap, row: u32, cells: &mut [Cell])
     if below < numbers.region().rows() {
         numbers.copy_row(below, cells);
     } else {
-        clear(cells);
+        set_cells_to_null(cells);
     }
 }
 
 // Returns the cell at a column of a row, or null outside the map.
 #[inline(always)]
-pub(crate) fn cell_in(line: &[Cell], col: usize) -> Cell
+pub(crate) fn cell_in_column_or_null(line: &[Cell], col: usize) -> Cell
     ensures { result ≡ slice_index_or line.now col None }
 {
     match line.get(col) {
@@ -65,8 +66,8 @@ pub(crate) fn cell_in(line: &[Cell], col: usize) -> Cell
 
 // Returns 1 if the side between `cell` and `beyond` leads out of the patch of `cell`, otherwise 0.
 #[inline(always)]
-fn leads_from(cell: Cell, beyond: Cell) -> u64
-    ensures value { result ≡ leads_from cell beyond }
+fn one_if_side_leaves_patch_of_cell(cell: Cell, beyond: Cell) -> u64
+    ensures value { result ≡ one_if_side_leaves_patch_of_cell cell beyond }
     ensures most { result ≤ 1 }
 {
     if beyond == cell { 0 } else { 1 }
@@ -74,35 +75,45 @@ fn leads_from(cell: Cell, beyond: Cell) -> u64
 
 // Returns the cell to the west, or null in the first column.
 #[inline(always)]
-fn west_in(line: &[Cell], col: usize) -> Cell
-    ensures { result ≡ west_in line.now col }
+fn west_cell_in_row_or_null(line: &[Cell], col: usize) -> Cell
+    ensures { result ≡ west_cell_in_row_or_null line.now col }
 {
     if col == 0 {
         Cell::null()
     } else {
-        cell_in(line, col - 1)
+        cell_in_column_or_null(line, col - 1)
     }
 }
 
 // Counts the north and south sides of a cell that lead out of its patch.
 #[inline(always)]
-pub(crate) fn ends_of(lines: &NearRows<'_>, cell: Cell, col: usize) -> u64
-    ensures { result ≡ leads_from cell (slice_index_or lines.now.above.now col None)
-        + leads_from cell (slice_index_or lines.now.below.now col None) }
+pub(crate) fn count_outer_north_south_sides(
+    lines: &PatchNumberRowsAroundRow<'_>,
+    cell: Cell,
+    col: usize,
+) -> u64
+    ensures { result ≡ one_if_side_leaves_patch_of_cell cell
+        (slice_index_or lines.now.above.now col None)
+        + one_if_side_leaves_patch_of_cell cell (slice_index_or lines.now.below.now col None) }
 {
-    let north = leads_from(cell, cell_in(lines.above, col));
-    let south = leads_from(cell, cell_in(lines.below, col));
+    let north = one_if_side_leaves_patch_of_cell(cell, cell_in_column_or_null(lines.above, col));
+    let south = one_if_side_leaves_patch_of_cell(cell, cell_in_column_or_null(lines.below, col));
     north + south
 }
 
 // Counts the west and east sides of a cell that lead out of its patch.
 #[inline(always)]
-pub(crate) fn flanks_of(lines: &NearRows<'_>, cell: Cell, col: usize) -> u64
+pub(crate) fn count_outer_west_east_sides(
+    lines: &PatchNumberRowsAroundRow<'_>,
+    cell: Cell,
+    col: usize,
+) -> u64
     requires { col < length lines.now.here.now }
-    ensures { result ≡ leads_from cell (west_in lines.now.here.now col)
-        + leads_from cell (slice_index_or lines.now.here.now (col + 1) None) }
+    ensures { result ≡ one_if_side_leaves_patch_of_cell cell
+        (west_cell_in_row_or_null lines.now.here.now col)
+        + one_if_side_leaves_patch_of_cell cell (slice_index_or lines.now.here.now (col + 1) None) }
 {
-    let west = leads_from(cell, west_in(lines.here, col));
-    let east = leads_from(cell, cell_in(lines.here, col + 1));
+    let west = one_if_side_leaves_patch_of_cell(cell, west_cell_in_row_or_null(lines.here, col));
+    let east = one_if_side_leaves_patch_of_cell(cell, cell_in_column_or_null(lines.here, col + 1));
     west + east
 }

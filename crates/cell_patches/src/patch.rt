@@ -1,7 +1,7 @@
 //! The measures of a patch.
 
 ghost use Rattle.std.specs.Prelude.{◌≡◌};
-ghost use Rattle.cell_patches.specs.parts.Passes.{unread, with_one_more, HasRoomForCell};
+ghost use Rattle.cell_patches.specs.parts.Passes.{unread, patch_with_one_more_cell, PatchMeasuresCannotOverflow};
 
 /// The measures of a patch, which is a connected component of equal cells.
 #[derive(Clone, Copy, Debug, PartialEq, Eq)]
@@ -46,9 +46,9 @@ impl Patch {
 
     // Adds a cell to the measures.
     #[inline(always)]
-    pub(crate) fn add(&mut self, found: Found)
-        requires { HasRoomForCell self.old found }
-        ensures { self.new ≡ with_one_more self.old found }
+    pub(crate) fn add(&mut self, found: CellContribution)
+        requires { PatchMeasuresCannotOverflow self.old found }
+        ensures { self.new ≡ patch_with_one_more_cell self.old found }
     {
         self.class = found.class;
         self.cells += 1;
@@ -64,7 +64,7 @@ impl Patch {
 
 // The contribution of a cell to the measures of its patch.
 #[derive(Clone, Copy, Debug)]
-pub(crate) struct Found {
+pub(crate) struct CellContribution {
     pub(crate) class: i32,
     pub(crate) ends: u64,
     pub(crate) flanks: u64,

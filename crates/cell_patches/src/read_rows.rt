@@ -3,11 +3,16 @@
 ghost use Rattle.std.specs.Prelude.{◌≡◌, ℕ, ℤ, pos, Some, None, slice_index_or, ◌+◌, ◌-◌, ◌<◌, ◌≤◌, length, max, OnOk, IfOk};
 ghost use Rattle.std.specs.Option.{is_none};
 ghost use Rattle.cell_core.specs.Grid.{cell_at, row_at};
-ghost use Rattle.cell_patches.specs.parts.Passes.{patch_in, HasRoomForCell, IsAdded, ArePatchesRead, IsFoundIn, IsCellReady, IsRowReady, IsRowsReady, IsRowsNext, MapPair, above_by};
+ghost use Rattle.cell_patches.specs.parts.Passes.{patch_at_index_or_unread, PatchMeasuresCannotOverflow, IsCellAddedToPatch, AreMeasuresOfPatchesUpToCell, IsCellContributionFromRows, CanMeasurePatchesAtCell, CanMeasurePatchesInRow, CanMeasurePatchesFromRow, IsMeasuringStateAfterRow, MapWithPatchNumbers, cell_rows_above_or_null};
 
-use crate::core_steps::{core_of, steps_in, steps_of};
-use crate::near_rows::{NearRows, cell_in, copy_above, copy_below, ends_of, flanks_of};
-use crate::patch::{Found, Patch};
+use crate::core_steps::{
+    diamond_steps_of_row, diamond_steps_or_0_outside_map, one_if_diamond_centre_is_core,
+};
+use crate::near_rows::{
+    PatchNumberRowsAroundRow, cell_in_column_or_null, copy_row_above, copy_row_below,
+    count_outer_north_south_sides, count_outer_west_east_sides,
+};
+use crate::patch::{CellContribution, Patch};
 use cell_core::cell::Cell;
 use cell_core::map::CellMap;
 use cell_core::memory::Memory;
@@ -15,9 +20,10 @@ use std::alloc::Global;
 
 // Extends the list to at least `count` patches.
 #[inline(always)]
-fn make_room(patches: &mut Vec<Patch>, count: usize) -> Result<(), Memory>
+fn extend_patch_list(patches: &mut Vec<Patch>, count: usize) -> Result<(), Memory>
     ensures same { OnOk result ((k : ℕ)
-        → patch_in patches.new.items k ≡ patch_in patches.old.items k) }
+        → patch_at_index_or_unread patches.new.items k
+        ≡ patch_at_index_or_unread patches.old.items k) }
     ensures long { OnOk result
         (length patches.new.items ≡ max (length patches.old.items) count) }
 {
@@ -29,12 +35,18 @@ fn make_room(patches: &mut Vec<Patch>, count: usize) -> Result<(), Memory>
 
 // Adds a cell to the patch with this number.
 #[inline(always)]
-fn add_found(patches: &mut Vec<Patch>, number: u32, found: Found) -> Result<(), Memory>
+fn add_cell_to_numbered_patch(
+    patches: &mut Vec<Patch>,
+    number: u32,
+    found: CellContribution,
+) -> Result<(), Memory>
     requires least { 1 ≤ number }
-    requires room { HasRoomForCell (patch_in patches.old.items (number - 1)) found }
-    ensures { OnOk result (IsAdded patches.old.items patches.new.items (number - 1) found) }
+    requires room { PatchMeasuresCannotOverflow (patch_at_index_or_unread patches.old.items
+        (number - 1)) found }
+    ensures { OnOk result (IsCellAddedToPatch patches.old.items patches.new.items
+        (number - 1) found) }
 {
-    make_room(patches, number as usize)?;
+    extend_patch_list(patches, number as usize)?;
     let place = number as usize - 1;
     patches[place].add(found);
     Ok(())
@@ -42,7 +54,7 @@ fn add_found(patches: &mut Vec<Patch>, number: u32, found: Found) -> Result<(), 
 
 // Returns the category of a cell, or 0 for null.
 #[inline(always)]
-fn category_of(cell: Cell) -> i32
+fn category_or_zero(cell: Cell) -> i32
     ensures { (v : ℤ) → cell ≡ Some v → result ≡ v }
 {
     match cell.get() {
@@ -53,7 +65,7 @@ fn category_of(cell: Cell) -> i32
 
 // Returns the patch number of a cell, or 0 for null.
 #[inline(always)]
-fn number_of(cell: Cell) -> u32
+fn patch_number_or_zero(cell: Cell) -> u32
     ensures { (n : ℕ) → cell ≡ Some (pos n) → result ≡ n }
 {
     match cell.get() {
@@ -72,25 +84,25 @@ fn is_null(cell: Cell) -> bool
 
 // Returns the contribution of a cell to its patch.
 #[inline(always)]
-fn found_at(
-    lines: &NearRows<'_>,
+fn contribution_of_cell(
+    lines: &PatchNumberRowsAroundRow<'_>,
     cell: Cell,
     class: Cell,
     steps: u32,
     depth: u32,
     row: u32,
     col: usize,
-) -> Found
+) -> CellContribution
     requires width { length lines.now.here.now ≤ 65535 }
     requires col { col < length lines.now.here.now }
-    ensures { IsFoundIn lines.now cell class steps depth row col result }
+    ensures { IsCellContributionFromRows lines.now cell class steps depth row col result }
 {
-    let category = category_of(class);
-    Found {
+    let category = category_or_zero(class);
+    CellContribution {
         class: category,
-        ends: ends_of(lines, cell, col),
-        flanks: flanks_of(lines, cell, col),
-        core: core_of(depth, steps),
+        ends: count_outer_north_south_sides(lines, cell, col),
+        flanks: count_outer_west_east_sides(lines, cell, col),
+        core: one_if_diamond_centre_is_core(depth, steps),
         row,
         col: col as u32,
     }
@@ -100,49 +112,51 @@ fn found_at(
 #[inline(always)]
 fn add_cell(
     patches: &mut Vec<Patch>,
-    lines: &NearRows<'_>,
+    lines: &PatchNumberRowsAroundRow<'_>,
     class: Cell,
     steps: u32,
     depth: u32,
     row: u32,
     col: usize,
 ) -> Result<(), Memory>
-    ghost maps: { MapPair }
-    requires ready { IsCellReady maps depth row col lines.now class steps }
-    requires read { ArePatchesRead maps.map maps.numbers depth row col patches.old.items }
+    ghost maps: { MapWithPatchNumbers }
+    requires ready { CanMeasurePatchesAtCell maps depth row col lines.now class steps }
+    requires read { AreMeasuresOfPatchesUpToCell maps.map maps.numbers depth row col
+        patches.old.items }
     ensures { OnOk result
-        (ArePatchesRead maps.map maps.numbers depth row (col + 1) patches.new.items) }
+        (AreMeasuresOfPatchesUpToCell maps.map maps.numbers depth row (col + 1) patches.new.items) }
 {
-    let cell = cell_in(lines.here, col);
+    let cell = cell_in_column_or_null(lines.here, col);
     if is_null(cell) {
         return Ok(());
     }
-    let found = found_at(lines, cell, class, steps, depth, row, col);
-    add_found(patches, number_of(cell), found)
+    let found = contribution_of_cell(lines, cell, class, steps, depth, row, col);
+    add_cell_to_numbered_patch(patches, patch_number_or_zero(cell), found)
 }
 
 // Adds the cells of a row to their patches.
 #[inline(never)]
-fn add_row(
+fn add_row_of_cells_to_patches(
     patches: &mut Vec<Patch>,
-    lines: &NearRows<'_>,
+    lines: &PatchNumberRowsAroundRow<'_>,
     classes: &[Cell],
     steps: &[u32],
     depth: u32,
     row: u32,
 ) -> Result<(), Memory>
-    ghost maps: { MapPair }
-    requires ready { IsRowReady maps depth row lines.now classes.now steps.now }
-    requires read { ArePatchesRead maps.map maps.numbers depth row 0 patches.old.items }
+    ghost maps: { MapWithPatchNumbers }
+    requires ready { CanMeasurePatchesInRow maps depth row lines.now classes.now steps.now }
+    requires read { AreMeasuresOfPatchesUpToCell maps.map maps.numbers depth row 0
+        patches.old.items }
     ensures { OnOk result
-        (ArePatchesRead maps.map maps.numbers depth (row + 1) 0 patches.new.items) }
+        (AreMeasuresOfPatchesUpToCell maps.map maps.numbers depth (row + 1) 0 patches.new.items) }
 {
     for col in 0..classes.len() {
         add_cell(
             patches,
             lines,
-            cell_in(classes, col),
-            steps_in(steps, col),
+            cell_in_column_or_null(classes, col),
+            diamond_steps_or_0_outside_map(steps, col),
             depth,
             row,
             col,
@@ -152,7 +166,7 @@ fn add_row(
 }
 
 // Returns a row of a map.
-pub(crate) fn line_of(alloc: Global, map: &CellMap, row: u32) -> Result<Vec<Cell>, Memory>
+pub(crate) fn row_of_map(alloc: Global, map: &CellMap, row: u32) -> Result<Vec<Cell>, Memory>
     requires { row < map.now.region.rows }
     ensures line { IfOk result (λ line. line.items ≡ row_at map.now row) }
     ensures wide { IfOk result (λ line. length line.items ≡ map.now.region.cols) }
@@ -163,30 +177,35 @@ pub(crate) fn line_of(alloc: Global, map: &CellMap, row: u32) -> Result<Vec<Cell
 }
 
 // Returns the row `steps` rows above `row`, with nulls outside the map.
-fn line_above(alloc: Global, numbers: &CellMap, row: u32, steps: u32) -> Result<Vec<Cell>, Memory>
+fn row_above_or_nulls(
+    alloc: Global,
+    numbers: &CellMap,
+    row: u32,
+    steps: u32,
+) -> Result<Vec<Cell>, Memory>
     requires { row < numbers.now.region.rows }
     ensures { IfOk result (λ line. (c : ℕ)
-        → slice_index_or line.items c None ≡ above_by steps numbers.now row c) }
+        → slice_index_or line.items c None ≡ cell_rows_above_or_null steps numbers.now row c) }
 {
     let mut line = vec![in alloc; Cell::null(); numbers.region().cols() as usize]?;
-    copy_above(numbers, row, steps, line.as_mut_slice());
+    copy_row_above(numbers, row, steps, line.as_mut_slice());
     Ok(line)
 }
 
 // Returns the row below `row`, with nulls outside the map.
-fn line_below(alloc: Global, numbers: &CellMap, row: u32) -> Result<Vec<Cell>, Memory>
+fn row_below_or_nulls(alloc: Global, numbers: &CellMap, row: u32) -> Result<Vec<Cell>, Memory>
     requires { row < numbers.now.region.rows }
     ensures { IfOk result (λ line. (c : ℕ)
         → slice_index_or line.items c None ≡ cell_at numbers.now (row + 1) c) }
 {
     let mut line = vec![in alloc; Cell::null(); numbers.region().cols() as usize]?;
-    copy_below(numbers, row, line.as_mut_slice());
+    copy_row_below(numbers, row, line.as_mut_slice());
     Ok(line)
 }
 
 // Adds the cells of a row of a map to their patches. Returns the steps of these cells, given the steps of the two rows
 // above.
-pub(crate) fn measure_row(
+pub(crate) fn measure_patches_in_row(
     alloc: Global,
     map: &CellMap,
     numbers: &CellMap,
@@ -196,23 +215,25 @@ pub(crate) fn measure_row(
     depth: u32,
     row: u32,
 ) -> Result<Vec<u32>, Memory>
-    ghost maps: { MapPair }
+    ghost maps: { MapWithPatchNumbers }
     requires same { maps ≡ record { map = map.now; numbers = numbers.now } }
-    requires ready { IsRowsReady maps depth row above.now second_above.now patches.old.items }
-    ensures { IfOk result (λ steps. IsRowsNext maps depth row steps.items patches.new.items) }
+    requires ready { CanMeasurePatchesFromRow maps depth row above.now second_above.now
+        patches.old.items }
+    ensures { IfOk result (λ steps. IsMeasuringStateAfterRow maps depth row steps.items
+        patches.new.items) }
 {
-    let classes = line_of(alloc, map, row)?;
-    let second_line = line_above(alloc, numbers, row, 2)?;
-    let above_line = line_above(alloc, numbers, row, 1)?;
-    let here = line_of(alloc, numbers, row)?;
-    let below = line_below(alloc, numbers, row)?;
-    let lines = NearRows {
+    let classes = row_of_map(alloc, map, row)?;
+    let second_line = row_above_or_nulls(alloc, numbers, row, 2)?;
+    let above_line = row_above_or_nulls(alloc, numbers, row, 1)?;
+    let here = row_of_map(alloc, numbers, row)?;
+    let below = row_below_or_nulls(alloc, numbers, row)?;
+    let lines = PatchNumberRowsAroundRow {
         second_above: &second_line,
         above: &above_line,
         here: &here,
         below: &below,
     };
-    let steps = steps_of(alloc, &lines, above, second_above)?;
-    add_row(patches, &lines, &classes, &steps, depth, row)?;
+    let steps = diamond_steps_of_row(alloc, &lines, above, second_above)?;
+    add_row_of_cells_to_patches(patches, &lines, &classes, &steps, depth, row)?;
     Ok(steps)
 }

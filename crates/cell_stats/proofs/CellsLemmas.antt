@@ -10,10 +10,12 @@ use Rattle.cell_core_values.specs.Region.{RegionValue}
 use Rattle.cell_core.specs.Grid.{Grid}
 use Rattle.cell_core.specs.Shelf.{ShelfValue}
 use Rattle.cell_stats_combinations.specs.declared.skip.Skip.{Skip}
-use Rattle.cell_stats_combinations.specs.Combinations.{Combination, combination_at, row_combinations, all_combinations}
-use Rattle.cell_stats_combinations.specs.Cursors.{AreCursorsReady, AreWideRows, CursorValue, row_in, to_come}
-use Rattle.cell_stats_combinations.specs.LeftOut.{kept_cells, is_left_out}
-use Rattle.cell_stats.specs.parts.OfPicks.{IsOfPicks}
+use Rattle.cell_stats_combinations.specs.Combinations.{Combination, combination_at_row_and_column, row_combinations}
+use Rattle.cell_stats_combinations.specs.Combinations.{all_combinations}
+use Rattle.cell_stats_combinations.specs.Cursors.{CursorHasNoEmptyLaterRun, RowsAreAsWideAsRegion, RunCursorValue}
+use Rattle.cell_stats_combinations.specs.Cursors.{row_of_map_at_place, to_come}
+use Rattle.cell_stats_combinations.specs.LeftOut.{kept_cells, combination_is_left_out}
+use Rattle.cell_stats.specs.parts.OfPicks.{HasCellPerPickedMap}
 use Rattle.cell_stats_combinations.proofs.WalkLemmas.{alike, alive, passed-on, stretch, kept-replicate}
 use Rattle.cell_stats_combinations.proofs.WalkLemmas.{all_combinations_more}
 
@@ -33,14 +35,14 @@ module _ (f : Combination → List ℕ) (skip : Skip) where
   text cells = kept_text f skip cells
 
   text-append : (xs ys : List Combination) → text (xs ++ ys) ≡ text xs ++ text ys
-  text-append xs ys = ap (flat_map f) (filter-append (λ k. not (is_left_out skip k)) xs ys)
+  text-append xs ys = ap (flat_map f) (filter-append (λ k. not (combination_is_left_out skip k)) xs ys)
       ∙ flat_map-append f (kept_cells skip xs) (kept_cells skip ys)
 
   -- equal cells that are left out have no text
-  pub alike-left : (k : Combination) (n : ℕ) → is_left_out skip k ≡ true → text (replicate n k) ≡ []
+  pub alike-left : (k : Combination) (n : ℕ) → combination_is_left_out skip k ≡ true → text (replicate n k) ≡ []
   alike-left k n left = ap (flat_map f) (kept-replicate skip k n true left)
 
-  pub alike-kept : (k : Combination) (n : ℕ) → is_left_out skip k ≡ false
+  pub alike-kept : (k : Combination) (n : ℕ) → combination_is_left_out skip k ≡ false
       → text (replicate n k) ≡ flat_map f (replicate n k)
   alike-kept k n kept = ap (flat_map f) (kept-replicate skip k n false kept)
 
@@ -84,89 +86,91 @@ flat_map-replicate-more f n x =
 -- ---- a walk over a row, stretch by stretch
 
 -- the walk is at a column, and `count` columns from there on have these cells
-pub record StandsAt (shelf : ShelfValue) (picks : List ℕ) (row cols col count : ℕ) (cursors : List CursorValue)
+pub record StandsAt (shelf : ShelfValue) (picks : List ℕ) (row cols col count : ℕ) (cursors : List RunCursorValue)
     (cells : Combination) : Type 0 where
-  pub wide : AreWideRows shelf row picks
+  pub wide : RowsAreAsWideAsRegion shelf row picks
   pub region : cols ≡ shelf.region.cols
-  pub ahead : map to_come cursors ≡ map (λ p. drop col (row_in shelf.maps row p)) picks
-  pub ready : All AreCursorsReady cursors
+  pub ahead : map to_come cursors ≡ map (λ p. drop col (row_of_map_at_place shelf.maps row p)) picks
+  pub ready : All CursorHasNoEmptyLaterRun cursors
   pub same : cells ≡ map (λ c. c.cell) cursors
   pub least : All (λ c. count ≤ c.left) cursors
   pub some : col < cols → 0 < count
   pub most : col + count ≤ cols
 
 -- before the first column, no columns of any run are passed
-pub stands-none : (cursors : List CursorValue) → All (λ c. 0 ≤ c.left) cursors
+pub stands-none : (cursors : List RunCursorValue) → All (λ c. 0 ≤ c.left) cursors
 stands-none cursors i d within = omega arith
 
-module _ {shelf : ShelfValue} {picks : List ℕ} {row cols next : ℕ} {new : List CursorValue} {cells : Combination} where
-  passed-to : (col count left : ℕ) (old : List CursorValue)
-      → AreWideRows shelf row picks → cols ≡ shelf.region.cols → col + count + left ≡ cols
-      → map to_come old ≡ map (λ p. drop col (row_in shelf.maps row p)) picks
-      → map to_come new ≡ map (λ c. drop count (to_come c)) old
-      → All AreCursorsReady new → cells ≡ map (λ c. c.cell) new → All (λ c. next ≤ c.left) new
-      → next ≤ left → (All (λ c. 0 < c.left) new → 0 < left → 0 < next)
-      → StandsAt shelf picks row cols (col + count) next new cells
-  passed-to col count left old wide region rest before passed ready same least most some =
-      let here = passed-on shelf.maps row col count old new picks passed before in
-      record {
-        wide = wide;
-        region = region;
-        ahead = here;
-        ready = ready;
-        same = same;
-        least = least;
-        some = λ inside.
-            let within : col + count < shelf.region.cols = omega (arith, inside, region) in
-            some (alive shelf.maps row (col + count) new picks shelf.region.cols here wide within ready)
-            (omega (arith, rest, inside));
-        most = omega (arith, most, rest);
-      }
+module _ {shelf : ShelfValue} {picks : List ℕ} {row cols next : ℕ} {new : List RunCursorValue} {cells : Combination}
+  where
+    passed-to : (col count left : ℕ) (old : List RunCursorValue)
+        → RowsAreAsWideAsRegion shelf row picks → cols ≡ shelf.region.cols → col + count + left ≡ cols
+        → map to_come old ≡ map (λ p. drop col (row_of_map_at_place shelf.maps row p)) picks
+        → map to_come new ≡ map (λ c. drop count (to_come c)) old
+        → All CursorHasNoEmptyLaterRun new → cells ≡ map (λ c. c.cell) new → All (λ c. next ≤ c.left) new
+        → next ≤ left → (All (λ c. 0 < c.left) new → 0 < left → 0 < next)
+        → StandsAt shelf picks row cols (col + count) next new cells
+    passed-to col count left old wide region rest before passed ready same least most some =
+        let here = passed-on shelf.maps row col count old new picks passed before in
+        record {
+          wide = wide;
+          region = region;
+          ahead = here;
+          ready = ready;
+          same = same;
+          least = least;
+          some = λ inside.
+              let within : col + count < shelf.region.cols = omega (arith, inside, region) in
+              some (alive shelf.maps row (col + count) new picks shelf.region.cols here wide within ready)
+              (omega (arith, rest, inside));
+          most = omega (arith, most, rest);
+        }
 
-  -- the walk starts at the first column
-  pub stands-start : (old : List CursorValue) {stored : RegionValue} → stored ≡ shelf.region → cols ≡ stored.cols
-      → AreWideRows shelf row picks → map to_come old ≡ map (λ p. row_in shelf.maps row p) picks
-      → map to_come new ≡ map to_come old
-      → All AreCursorsReady new → cells ≡ map (λ c. c.cell) new → All (λ c. next ≤ c.left) new
-      → next ≤ cols → (All (λ c. 0 < c.left) new → 0 < cols → 0 < next)
-      → StandsAt shelf picks row cols 0 next new cells
-  stands-start old region value wide before passed ready same least most some =
-      passed-to 0 0 cols old wide (value ∙ ap (λ (r : RegionValue). r.cols) region) (zero-add cols) before passed ready
-      same least most some
+    -- the walk starts at the first column
+    pub stands-start : (old : List RunCursorValue) {stored : RegionValue} → stored ≡ shelf.region → cols ≡ stored.cols
+        → RowsAreAsWideAsRegion shelf row picks → map to_come old ≡ map (λ p. row_of_map_at_place shelf.maps row p) picks
+        → map to_come new ≡ map to_come old
+        → All CursorHasNoEmptyLaterRun new → cells ≡ map (λ c. c.cell) new → All (λ c. next ≤ c.left) new
+        → next ≤ cols → (All (λ c. 0 < c.left) new → 0 < cols → 0 < next)
+        → StandsAt shelf picks row cols 0 next new cells
+    stands-start old region value wide before passed ready same least most some =
+        passed-to 0 0 cols old wide (value ∙ ap (λ (r : RegionValue). r.cols) region) (zero-add cols) before passed ready
+        same least most some
 
-  -- the walk continues after a stretch
-  pub stands-next : {col count : ℕ} {old : List CursorValue} {cells-before : Combination}
-      → StandsAt shelf picks row cols col count old cells-before
-      → map to_come new ≡ map (λ c. drop count (to_come c)) old
-      → All AreCursorsReady new → cells ≡ map (λ c. c.cell) new → All (λ c. next ≤ c.left) new
-      → next ≤ cols - (col + count) → (All (λ c. 0 < c.left) new → 0 < cols - (col + count) → 0 < next)
-      → StandsAt shelf picks row cols (col + count) next new cells
-  stands-next {col = col} {count = count} {old = old} walk passed ready same least most some =
-      passed-to col count (cols - (col + count)) old walk.wide walk.region (omega (arith, walk.most)) walk.ahead passed
-      ready same least most some
+    -- the walk continues after a stretch
+    pub stands-next : {col count : ℕ} {old : List RunCursorValue} {cells-before : Combination}
+        → StandsAt shelf picks row cols col count old cells-before
+        → map to_come new ≡ map (λ c. drop count (to_come c)) old
+        → All CursorHasNoEmptyLaterRun new → cells ≡ map (λ c. c.cell) new → All (λ c. next ≤ c.left) new
+        → next ≤ cols - (col + count) → (All (λ c. 0 < c.left) new → 0 < cols - (col + count) → 0 < next)
+        → StandsAt shelf picks row cols (col + count) next new cells
+    stands-next {col = col} {count = count} {old = old} walk passed ready same least most some =
+        passed-to col count (cols - (col + count)) old walk.wide walk.region (omega (arith, walk.most)) walk.ahead passed
+        ready same least most some
 
-module _ {shelf : ShelfValue} {picks : List ℕ} {row cols col count : ℕ} {cursors : List CursorValue}
+module _ {shelf : ShelfValue} {picks : List ℕ} {row cols col count : ℕ} {cursors : List RunCursorValue}
     {cells : Combination} (walk : StandsAt shelf picks row cols col count cursors cells) where
   -- there is one cell for each cursor
   pub stands-cells : length cells ≡ length cursors
-  stands-cells = ap length walk.same ∙ length-map cursors (λ (c : CursorValue). c.cell)
+  stands-cells = ap length walk.same ∙ length-map cursors (λ (c : RunCursorValue). c.cell)
 
   stands-width : length cells ≡ length picks
   stands-width =
       let all = length-map cursors to_come in
-      let ahead = ap length walk.ahead ∙ length-map picks (λ p. drop col (row_in shelf.maps row p)) in
+      let ahead = ap length walk.ahead ∙ length-map picks (λ p. drop col (row_of_map_at_place shelf.maps row p)) in
       omega (arith, stands-cells, all, ahead)
 
-  pub stands-picks : {before : Combination} → IsOfPicks shelf picks before → IsOfPicks shelf picks cells
+  pub stands-picks : {before : Combination} → HasCellPerPickedMap shelf picks before
+      → HasCellPerPickedMap shelf picks cells
   stands-picks is = record { picked = is.picked; some = is.some; width = stands-width }
 
   -- the text of the row grows by the cells of the stretch
   pub stands-more : (f : Combination → List ℕ) (skip : Skip)
-      → kept_text f skip (map (combination_at shelf.maps picks row) (range_with_len 0 (col + count)))
-      ≡ kept_text f skip (map (combination_at shelf.maps picks row) (range_with_len 0 col))
+      → kept_text f skip (map (combination_at_row_and_column shelf.maps picks row) (range_with_len 0 (col + count)))
+      ≡ kept_text f skip (map (combination_at_row_and_column shelf.maps picks row) (range_with_len 0 col))
       ++ kept_text f skip (replicate count cells)
   stands-more f skip =
-      let k = combination_at shelf.maps picks row in
+      let k = combination_at_row_and_column shelf.maps picks row in
       ap (kept_text f skip) (stretch k cells col count (λ j within.
       alike shelf.maps row col cursors picks count j walk.ahead walk.least within ∙ sym walk.same))
       ∙ text-append f skip (map k (range_with_len 0 col)) (replicate count cells)

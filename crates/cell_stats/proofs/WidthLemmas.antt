@@ -6,32 +6,33 @@ use Rattle.std.specs.List.{flat_map, range_with_len}
 use Rattle.std.specs.Ordering.{eq_by_cmp}
 use Rattle.cell_core.specs.Grid.{Grid}
 use Rattle.cell_stats_combinations.specs.declared.skip.Skip.{Skip}
-use Rattle.cell_stats_combinations.specs.Combinations.{Combination, combination_cmp, cell_of_map, combination_at, row_combinations, all_combinations}
-use Rattle.cell_stats_counts.specs.Counts.{count_of}
-use Rattle.cell_stats.specs.CategoryTables.{Pairs, IsTable}
+use Rattle.cell_stats_combinations.specs.Combinations.{Combination, combination_cmp, cell_of_map_at_place, combination_at_row_and_column, row_combinations, all_combinations}
+use Rattle.cell_stats_counts.specs.Counts.{cell_count_of_combination}
+use Rattle.cell_stats.specs.CategoryTables.{CombinationsWithCounts, IsTable}
 use Rattle.cell_stats_combinations.proofs.OrderLemmas.{combination_cmp-exact, is_equal}
 use Rattle.cell_stats.proofs.TableLemmas.{count_cons}
 
 -- a combination that occurs has each property that all cells have
-occurs : (P : Combination → Type 0) (k : Combination) (cells : List Combination) → All P cells → 0 < count_of k cells → P k
+occurs : (P : Combination → Type 0) (k : Combination) (cells : List Combination) → All P cells → 0 < cell_count_of_combination k cells → P k
 occurs P k [] all some = absurd (omega (arith, some))
 occurs P k (x ∷ cells) all some =
     elim (eq_by_cmp combination_cmp k x) as (λ b. eq_by_cmp combination_cmp k x ≡ b → P k) [
       | true ↦ λ same. subst P (sym (combination_cmp-exact k x (is_equal _ same))) (all 0 x (omega arith))
       | false ↦ λ other.
-          let fewer : count_of k (x ∷ cells) ≡ count_of k cells = count_cons k x cells ∙ ap (λ b. cond b 1 0 + count_of k cells) other ∙ zero-add (count_of k cells) in
+          let fewer : cell_count_of_combination k (x ∷ cells) ≡ cell_count_of_combination k cells = count_cons k x cells ∙ ap (λ b. cond b 1 0 + cell_count_of_combination k cells) other ∙ zero-add (cell_count_of_combination k cells) in
           occurs P k cells (λ i d within. all (suc i) d (omega (arith, within))) (omega (arith, some, fewer))
     ] refl
 
 module _ (maps : List Grid) (picks : List ℕ) where
-  wide-row : (row : ℕ) (cols : List ℕ) → All (λ k. length k ≡ length picks) (map (combination_at maps picks row) cols)
-  wide-row row cols = All-map (λ (k : Combination). length k ≡ length picks) (combination_at maps picks row) cols (λ i d within. length-map picks (cell_of_map maps row (get_or cols i d)))
+  wide-row : (row : ℕ) (cols : List ℕ) → All (λ k. length k ≡ length picks)
+      (map (combination_at_row_and_column maps picks row) cols)
+  wide-row row cols = All-map (λ (k : Combination). length k ≡ length picks) (combination_at_row_and_column maps picks row) cols (λ i d within. length-map picks (cell_of_map_at_place maps row (get_or cols i d)))
 
   wide-rows : (cols : ℕ) (rows : List ℕ) → All (λ k. length k ≡ length picks) (flat_map (row_combinations maps picks cols) rows)
   wide-rows cols [] = λ i d within. absurd (omega (arith, within))
   wide-rows cols (row ∷ rows) = All-append (λ (k : Combination). length k ≡ length picks) (row_combinations maps picks cols row) (flat_map (row_combinations maps picks cols) rows) (wide-row row (range_with_len 0 cols)) (wide-rows cols rows)
 
-  pub table-wide : (skip : Skip) (rows cols : ℕ) (es : Pairs) → IsTable skip (all_combinations maps picks rows cols) es → All (λ pair. length pair.0 ≡ length picks) es
+  pub table-wide : (skip : Skip) (rows cols : ℕ) (es : CombinationsWithCounts) → IsTable skip (all_combinations maps picks rows cols) es → All (λ pair. length pair.0 ≡ length picks) es
   table-wide skip rows cols es table i d within =
       let pair = get_or es i d in
       let stands = (table.counted pair.0 pair.1).0 (i, within, get_or-any es i d pair within) in

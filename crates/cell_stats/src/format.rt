@@ -7,27 +7,27 @@ use std::marker::Model;
 /// The format of printed lines: the byte between fields, the null text, and whether labels and counts are printed
 /// (r.stats manual, flags `-l` and `-c`).
 #[derive(Drop)]
-pub struct Format<'a> {
+pub struct TableFormat<'a> {
     separator: u8,
     null_text: &'a [u8],
     labels: bool,
     counts: bool,
 }
 
-impl<'a> Model for Format<'a> {
-    ghost use Rattle.cell_stats.specs.TableText.{FormatValue};
-    ghost use Rattle.cell_stats.specs.parts.PairsCode.{format_code};
+impl<'a> Model for TableFormat<'a> {
+    ghost use Rattle.cell_stats.specs.TableText.{TableFormatValue};
+    ghost use Rattle.cell_stats.specs.parts.PairsCode.{table_format_encoding};
 
-    ghost Value = { FormatValue };
+    ghost Value = { TableFormatValue };
 
-    ghost coded = { format_code };
+    ghost coded = { table_format_encoding };
 
     ghost view = { λ f. record { separator = f.separator; null_text = f.null_text.now; labels = f.labels; counts = f.counts } };
 }
 
-impl<'a> Format<'a> {
+impl<'a> TableFormat<'a> {
     /// Returns the format with these options.
-    pub fn new(separator: u8, null_text: &'a [u8], labels: bool, counts: bool) -> Format<'a>
+    pub fn new(separator: u8, null_text: &'a [u8], labels: bool, counts: bool) -> TableFormat<'a>
         ensures { result ≡ record {
           separator = separator;
           null_text = null_text.now;
@@ -35,7 +35,7 @@ impl<'a> Format<'a> {
           counts = counts;
         } }
     {
-        Format {
+        TableFormat {
             separator,
             null_text,
             labels,

@@ -3,8 +3,8 @@
 //! - `tallying`: `tally` returns the table of some maps of a shelf, given by their indices
 //! - `table`: `Table` contains each combination that occurs with its count, in order; `all` returns its
 //!   entries, and `after` the entries after a combination
-//! - `format`: `Format`, the separator, the null text, labels (`-l`) and counts (`-c`)
-//! - `printing`: `write_table`, and `label_of_cell`, the label in a line; `printed_cells`: `write_cells`, one line per
+//! - `format`: `TableFormat`, the separator, the null text, labels (`-l`) and counts (`-c`)
+//! - `printing`: `write_table`, and `label_of_cell`, the label in a line; `printed_cells`: `write_line_for_each_cell`, one line per
 //!   cell (`-1`)
 //! - `law`: there is exactly one table; if nothing is left out, its counts add up to the number of
 //!   cells in the region
@@ -13,9 +13,9 @@
 //! A map of four cells, picked 16 times. Each entry has a count and a combination:
 //!
 //! ```
-//! let shelf = shelf_of(rt.alloc(), &[&[5, NULL, 5, -3]], 2)?;
+//! let shelf = shelf_of(rt.alloc(), &[&[5, NULL_CATEGORY, 5, -3]], 2)?;
 //! let table = table_of(rt.alloc(), &shelf, &[0; 16])?;
-//! let wanted: [(i32, u64); 3] = [(-3, 1), (5, 2), (NULL, 1)];
+//! let wanted: [(i32, u64); 3] = [(-3, 1), (5, 2), (NULL_CATEGORY, 1)];
 //! assert_same!(rt; (table.width(), table.len()), (16, wanted.len()));
 //! ```
 #![tactic(auto)]

@@ -1,22 +1,24 @@
 //! Prints cells, one line per cell.
 
 ghost use Rattle.std.specs.Prelude.{◌≡◌, ◌<◌, length, replicate, IfOk};
-ghost use Rattle.cell_core_devices.specs.Blocks.{Appends};
-ghost use Rattle.cell_stats_combinations.specs.Combinations.{ArePicks};
+ghost use Rattle.cell_core_devices.specs.Blocks.{IsTextAppendedThroughBlock};
+ghost use Rattle.cell_stats_combinations.specs.Combinations.{ArePicksOnShelf};
 ghost use Rattle.cell_stats.specs.TableText.{cell_lines};
-ghost use Rattle.cell_stats.specs.parts.OfPicks.{IsOfPicks};
-ghost use Rattle.cell_stats.specs.parts.Selected.{selected_lines, selected_row};
+ghost use Rattle.cell_stats.specs.parts.OfPicks.{HasCellPerPickedMap};
+ghost use Rattle.cell_stats.specs.parts.Selected.{lines_of_kept_cells, combinations_of_selected_row};
 
-use crate::format::Format;
+use crate::format::TableFormat;
 use crate::printing::write_cell_line;
 use cell_core::block::OutputBlock;
 use cell_core::cell::Cell;
 use cell_core::memory::Memory;
 use cell_core::shelf::Shelf;
 use cell_core::sink::Sink;
-use cell_stats_combinations::cursor::{Cursor, cursors_of, pass_all, restart_all};
-use cell_stats_combinations::selection::Selection;
-use cell_stats_combinations::skip::{Skip, is_left_out};
+use cell_stats_combinations::cursor::{
+    RowCursor, advance_cursors_and_write_cells, cursors_over_maps, move_cursors_to_row_start,
+};
+use cell_stats_combinations::selection::TabulatedMaps;
+use cell_stats_combinations::skip::{Skip, combination_is_left_out};
 use std::alloc::Global;
 use std::marker::Model;
 
@@ -26,12 +28,12 @@ use std::marker::Model;
 /// It is allocated before the walk, because `-1` of r.stats prints during the walk, and a statement that runs out of
 /// memory must not have written anything.
 #[derive(Drop)]
-pub struct CellWalk<'a> {
-    cursors: Vec<Cursor<'a>>,
+pub struct CellWalkMemory<'a> {
+    cursors: Vec<RowCursor<'a>>,
     cells: Vec<Cell>,
 }
 
-impl<'a> Model for CellWalk<'a> {
+impl<'a> Model for CellWalkMemory<'a> {
     ghost use Rattle.std.specs.Prelude.{ℕ, ◌≡◌, length};
 
     ghost Value = { ℕ };
@@ -41,36 +43,41 @@ impl<'a> Model for CellWalk<'a> {
     ghost invariant = { λ walk. length walk.cursors.items ≡ length walk.cells.items };
 }
 
-impl<'a> CellWalk<'a> {
+impl<'a> CellWalkMemory<'a> {
     /// Allocates the memory for a walk over the picked maps, given by their indices on the shelf.
     ///
     /// # Errors
     ///
     /// `Memory` if memory runs out.
-    pub fn new(alloc: Global, shelf: &'a Shelf, picks: &[usize]) -> Result<CellWalk<'a>, Memory>
-        requires { ArePicks shelf.now picks.now }
+    pub fn new(
+        alloc: Global,
+        shelf: &'a Shelf,
+        picks: &[usize],
+    ) -> Result<CellWalkMemory<'a>, Memory>
+        requires { ArePicksOnShelf shelf.now picks.now }
         ensures { IfOk result (λ walk. walk ≡ length picks.now) }
     {
-        let cursors = cursors_of(alloc, shelf, picks)?;
+        let cursors = cursors_over_maps(alloc, shelf, picks)?;
         let cells = vec![in alloc; Cell::null(); picks.len()]?;
-        Ok(CellWalk { cursors, cells })
+        Ok(CellWalkMemory { cursors, cells })
     }
 }
 
 // Writes a line for each of `count` equal cells, or nothing if they are left out.
-fn write_lines<W: Sink>(
+fn write_lines_of_equal_cells<W: Sink>(
     out: &mut W,
     block: &mut OutputBlock,
-    selection: Selection<'_, '_>,
+    selection: TabulatedMaps<'_, '_>,
     cells: &[Cell],
     count: u32,
-    format: &Format,
+    format: &TableFormat,
 )
-    requires { IsOfPicks selection.shelf.now selection.picks.now cells.now }
-    ensures { Appends W.taken W.faults out.old block.old
-        (selected_lines format.now selection.entry (replicate count cells.now)) out.new block.new }
+    requires { HasCellPerPickedMap selection.shelf.now selection.picks.now cells.now }
+    ensures { IsTextAppendedThroughBlock W.taken W.faults out.old block.old
+        (lines_of_kept_cells format.now selection.entry
+        (replicate count cells.now)) out.new block.new }
 {
-    if is_left_out(selection.skip, cells) {
+    if combination_is_left_out(selection.skip, cells) {
         return;
     }
     for line in 0..count {
@@ -79,30 +86,31 @@ fn write_lines<W: Sink>(
 }
 
 // Writes a line for each cell of a row.
-fn write_cell_lines<'a, W: Sink>(
+fn write_cell_lines_of_row<'a, W: Sink>(
     out: &mut W,
     block: &mut OutputBlock,
-    selection: Selection<'a, '_>,
-    format: &Format,
+    selection: TabulatedMaps<'a, '_>,
+    format: &TableFormat,
     row: u32,
-    cursors: &mut [Cursor<'a>],
+    cursors: &mut [RowCursor<'a>],
     cells: &mut [Cell],
 )
-    requires picks { IsOfPicks selection.shelf.now selection.picks.now cells.old }
+    requires picks { HasCellPerPickedMap selection.shelf.now selection.picks.now cells.old }
     requires row_in_range { row < selection.shelf.now.region.rows }
     requires cursors { length cursors.old ≡ length selection.picks.now }
-    ensures { Appends W.taken W.faults out.old block.old
-        (selected_lines format.now selection.entry (selected_row selection.entry row))
+    ensures { IsTextAppendedThroughBlock W.taken W.faults out.old block.old
+        (lines_of_kept_cells format.now selection.entry
+        (combinations_of_selected_row selection.entry row))
         out.new block.new }
 {
     let cols = selection.shelf.region().cols();
-    restart_all(cursors, selection.shelf, selection.picks, row);
+    move_cursors_to_row_start(cursors, selection.shelf, selection.picks, row);
     let mut col = 0;
-    let mut count = pass_all(cursors, 0, cols, cells);
+    let mut count = advance_cursors_and_write_cells(cursors, 0, cols, cells);
     while col < cols {
-        write_lines(out, block, selection, cells, count, format);
+        write_lines_of_equal_cells(out, block, selection, cells, count, format);
         col += count;
-        count = pass_all(cursors, count, cols - col, cells);
+        count = advance_cursors_and_write_cells(cursors, count, cols - col, cells);
     }
 }
 
@@ -110,34 +118,34 @@ fn write_cell_lines<'a, W: Sink>(
 /// allocate, because the walk holds the memory.
 ///
 /// The block keeps the last part of the text. After a failed put, nothing more is written.
-pub fn write_cells<'a, W: Sink>(
+pub fn write_line_for_each_cell<'a, W: Sink>(
     out: &mut W,
     block: &mut OutputBlock,
-    walk: CellWalk<'a>,
+    walk: CellWalkMemory<'a>,
     shelf: &'a Shelf,
     picks: &[usize],
     skip: Skip,
-    format: &Format,
+    format: &TableFormat,
 )
-    requires picked { ArePicks shelf.now picks.now }
+    requires picked { ArePicksOnShelf shelf.now picks.now }
     requires some { 0 < length picks.now }
     requires width { walk ≡ length picks.now }
-    ensures { Appends W.taken W.faults out.old block.old
+    ensures { IsTextAppendedThroughBlock W.taken W.faults out.old block.old
         (cell_lines format.now skip shelf.now.maps picks.now
         shelf.now.region.rows shelf.now.region.cols)
         out.new block.new }
 {
-    let CellWalk {
+    let CellWalkMemory {
         mut cursors,
         mut cells,
     } = walk;
     let cursors = cursors.as_mut_slice();
     let cells = cells.as_mut_slice();
-    let selection = Selection { shelf, picks, skip };
+    let selection = TabulatedMaps { shelf, picks, skip };
     for row in 0..shelf.region().rows() {
         if block.has_failed() {
             return;
         }
-        write_cell_lines(out, block, selection, format, row, cursors, cells);
+        write_cell_lines_of_row(out, block, selection, format, row, cursors, cells);
     }
 }

@@ -3,13 +3,13 @@
 ghost use Rattle.std.specs.Prelude.{◌≡◌, ◌<◌, ◌∷◌, length, IfSome};
 ghost use Rattle.std.specs.List.{join_with_byte};
 ghost use Rattle.std.specs.Option.{option_map};
-ghost use Rattle.cell_core_devices.specs.Blocks.{Appends};
-ghost use Rattle.cell_stats_combinations.specs.Combinations.{ArePicks};
-ghost use Rattle.cell_stats.specs.TableText.{cell_line, combination_fields, count_fields, label_of_cell, pair_line, printed_pairs, table_text};
-ghost use Rattle.cell_stats.specs.parts.OfPicks.{IsOfPicks};
-ghost use Rattle.cell_stats.specs.parts.Preceded.{next_text, others_text, pick_text, preceded_texts};
+ghost use Rattle.cell_core_devices.specs.Blocks.{IsTextAppendedThroughBlock};
+ghost use Rattle.cell_stats_combinations.specs.Combinations.{ArePicksOnShelf};
+ghost use Rattle.cell_stats.specs.TableText.{cell_line, combination_fields, count_fields, label_of_cell, entry_line, table_entries_to_print, table_text};
+ghost use Rattle.cell_stats.specs.parts.OfPicks.{HasCellPerPickedMap};
+ghost use Rattle.cell_stats.specs.parts.Preceded.{separator_cell_and_label_text, text_of_cells_after_first, cell_and_label_text, texts_each_after_byte};
 
-use crate::format::Format;
+use crate::format::TableFormat;
 use crate::table::Table;
 use cell_core::block::OutputBlock;
 use cell_core::cell::Cell;
@@ -34,31 +34,37 @@ pub fn label_of_cell<'a>(shelf: &'a Shelf, place: usize, cell: Cell) -> &'a [u8]
 }
 
 // Writes a separator and a field.
-fn write_next<W: Sink>(out: &mut W, block: &mut OutputBlock, separator: u8, field: &[u8])
-    ensures { Appends W.taken W.faults out.old block.old (separator ∷ field.now) out.new block.new }
+fn write_separator_and_field<W: Sink>(
+    out: &mut W,
+    block: &mut OutputBlock,
+    separator: u8,
+    field: &[u8],
+)
+    ensures { IsTextAppendedThroughBlock W.taken W.faults out.old block.old (separator
+        ∷ field.now) out.new block.new }
 {
     block.push(out, &[separator]);
     block.push(out, field);
 }
 
 // Writes a cell of a map, followed by its label if labels are printed.
-fn write_pick<W: Sink>(
+fn write_cell_and_label<W: Sink>(
     out: &mut W,
     block: &mut OutputBlock,
     shelf: &Shelf,
     place: usize,
     cell: Cell,
-    format: &Format,
+    format: &TableFormat,
 )
     requires { place < length shelf.now.maps }
-    ensures { Appends W.taken W.faults out.old block.old
-        (pick_text format.now shelf.now.maps place cell) out.new block.new }
+    ensures { IsTextAppendedThroughBlock W.taken W.faults out.old block.old
+        (cell_and_label_text format.now shelf.now.maps place cell) out.new block.new }
 {
     write_cell(out, block, cell, format.null_text());
     if !format.labels() {
         return;
     }
-    write_next(
+    write_separator_and_field(
         out,
         block,
         format.separator(),
@@ -67,38 +73,39 @@ fn write_pick<W: Sink>(
 }
 
 // Writes a separator and a cell of a map, followed by its label if labels are printed.
-fn write_next_pick<W: Sink>(
+fn write_separator_cell_and_label<W: Sink>(
     out: &mut W,
     block: &mut OutputBlock,
     shelf: &Shelf,
     place: usize,
     cell: Cell,
-    format: &Format,
+    format: &TableFormat,
 )
     requires { place < length shelf.now.maps }
-    ensures { Appends W.taken W.faults out.old block.old
-        (next_text format.now shelf.now.maps (place, cell)) out.new block.new }
+    ensures { IsTextAppendedThroughBlock W.taken W.faults out.old block.old
+        (separator_cell_and_label_text format.now shelf.now.maps (place, cell)) out.new block.new }
 {
     block.push(out, &[format.separator()]);
-    write_pick(out, block, shelf, place, cell, format);
+    write_cell_and_label(out, block, shelf, place, cell, format);
 }
 
 // Writes the cells of all maps except the first, each after a separator.
-fn write_others<W: Sink>(
+fn write_cells_after_first<W: Sink>(
     out: &mut W,
     block: &mut OutputBlock,
     shelf: &Shelf,
     picks: &[usize],
     cells: &[Cell],
-    format: &Format,
+    format: &TableFormat,
 )
-    requires picked { ArePicks shelf.now picks.now }
+    requires picked { ArePicksOnShelf shelf.now picks.now }
     requires width { length cells.now ≡ length picks.now }
-    ensures { Appends W.taken W.faults out.old block.old
-        (others_text format.now shelf.now.maps picks.now cells.now) out.new block.new }
+    ensures { IsTextAppendedThroughBlock W.taken W.faults out.old block.old
+        (text_of_cells_after_first format.now shelf.now.maps picks.now cells.now) out.new
+        block.new }
 {
     for i in 0..cells.len() {
-        write_next_pick(out, block, shelf, picks[i], cells[i], format);
+        write_separator_cell_and_label(out, block, shelf, picks[i], cells[i], format);
     }
 }
 
@@ -109,27 +116,33 @@ fn write_combination<W: Sink>(
     shelf: &Shelf,
     picks: &[usize],
     cells: &[Cell],
-    format: &Format,
+    format: &TableFormat,
 )
-    requires { IsOfPicks shelf.now picks.now cells.now }
-    ensures { Appends W.taken W.faults out.old block.old
+    requires { HasCellPerPickedMap shelf.now picks.now cells.now }
+    ensures { IsTextAppendedThroughBlock W.taken W.faults out.old block.old
         (join_with_byte format.now.separator
         (combination_fields format.now shelf.now.maps picks.now cells.now))
         out.new block.new }
 {
-    write_pick(out, block, shelf, picks[0], cells[0], format);
-    write_others(out, block, shelf, &picks[1..], &cells[1..], format);
+    write_cell_and_label(out, block, shelf, picks[0], cells[0], format);
+    write_cells_after_first(out, block, shelf, &picks[1..], &cells[1..], format);
 }
 
 // Writes a separator and the count, if counts are printed.
-fn write_count<W: Sink>(out: &mut W, block: &mut OutputBlock, count: u64, format: &Format)
-    ensures { Appends W.taken W.faults out.old block.old
-        (preceded_texts format.now.separator (count_fields format.now count)) out.new block.new }
+fn write_separator_and_count<W: Sink>(
+    out: &mut W,
+    block: &mut OutputBlock,
+    count: u64,
+    format: &TableFormat,
+)
+    ensures { IsTextAppendedThroughBlock W.taken W.faults out.old block.old
+        (texts_each_after_byte format.now.separator
+        (count_fields format.now count)) out.new block.new }
 {
     if !format.counts() {
         return;
     }
-    write_next(
+    write_separator_and_field(
         out,
         block,
         format.separator(),
@@ -138,21 +151,21 @@ fn write_count<W: Sink>(out: &mut W, block: &mut OutputBlock, count: u64, format
 }
 
 // Writes the line of a combination and its count.
-fn write_pair<W: Sink>(
+fn write_entry_line<W: Sink>(
     out: &mut W,
     block: &mut OutputBlock,
     shelf: &Shelf,
     picks: &[usize],
     cells: &[Cell],
     count: u64,
-    format: &Format,
+    format: &TableFormat,
 )
-    requires { IsOfPicks shelf.now picks.now cells.now }
-    ensures { Appends W.taken W.faults out.old block.old
-        (pair_line format.now shelf.now.maps picks.now (cells.now, count)) out.new block.new }
+    requires { HasCellPerPickedMap shelf.now picks.now cells.now }
+    ensures { IsTextAppendedThroughBlock W.taken W.faults out.old block.old
+        (entry_line format.now shelf.now.maps picks.now (cells.now, count)) out.new block.new }
 {
     write_combination(out, block, shelf, picks, cells, format);
-    write_count(out, block, count, format);
+    write_separator_and_count(out, block, count, format);
     block.push(out, b"\n");
 }
 
@@ -163,10 +176,10 @@ pub(crate) fn write_cell_line<W: Sink>(
     shelf: &Shelf,
     picks: &[usize],
     cells: &[Cell],
-    format: &Format,
+    format: &TableFormat,
 )
-    requires { IsOfPicks shelf.now picks.now cells.now }
-    ensures { Appends W.taken W.faults out.old block.old
+    requires { HasCellPerPickedMap shelf.now picks.now cells.now }
+    ensures { IsTextAppendedThroughBlock W.taken W.faults out.old block.old
         (cell_line format.now shelf.now.maps picks.now cells.now) out.new block.new }
 {
     write_combination(out, block, shelf, picks, cells, format);
@@ -184,15 +197,15 @@ pub fn write_table<W: Sink>(
     after: Option<&Combo>,
     shelf: &Shelf,
     picks: &[usize],
-    format: &Format,
+    format: &TableFormat,
 )
-    requires picked { ArePicks shelf.now picks.now }
+    requires picked { ArePicksOnShelf shelf.now picks.now }
     requires some { 0 < length picks.now }
     requires width { table.now.width ≡ length picks.now }
     requires after { IfSome after (λ k. length k.now ≡ length picks.now) }
-    ensures { Appends W.taken W.faults out.old block.old
+    ensures { IsTextAppendedThroughBlock W.taken W.faults out.old block.old
         (table_text format.now shelf.now.maps picks.now
-        (printed_pairs (option_map (λ k. k.now) after.entry) table.now.pairs))
+        (table_entries_to_print (option_map (λ k. k.now) after.entry) table.now.pairs))
         out.new block.new }
 {
     let entries = table.printed_entries(after);
@@ -200,6 +213,6 @@ pub fn write_table<W: Sink>(
         if block.has_failed() {
             return;
         }
-        write_pair(out, block, shelf, picks, combo.cells(), *count, format);
+        write_entry_line(out, block, shelf, picks, combo.cells(), *count, format);
     }
 }

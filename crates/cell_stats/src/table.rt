@@ -5,9 +5,9 @@ ghost use Rattle.std.specs.Iterator.{YieldsFirstBy, item_count};
 ghost use Rattle.std.specs.List.Sorted.{IsStrictlySortedBy};
 ghost use Rattle.cell_stats_combinations.specs.Combinations.{combination_cmp};
 ghost use Rattle.std.specs.Option.{option_map};
-ghost use Rattle.cell_stats.specs.CategoryTables.{Pairs, TableValue, rest_after};
-ghost use Rattle.cell_stats.specs.TableText.{printed_pairs};
-ghost use Rattle.cell_stats_combinations.specs.Listed.{AreAscending};
+ghost use Rattle.cell_stats.specs.CategoryTables.{CombinationsWithCounts, TableValue, entries_after_combination};
+ghost use Rattle.cell_stats.specs.TableText.{table_entries_to_print};
+ghost use Rattle.cell_stats_combinations.specs.Listed.{CombinationsAreAscending};
 
 use cell_stats_combinations::combination::Combo;
 use std::cmp::Ordering;
@@ -25,11 +25,11 @@ impl Model for Table {
     ghost use Rattle.std.specs.List.Sorted.{IsStrictlySortedBy};
     ghost use Rattle.cell_stats_combinations.specs.Combinations.{combination_cmp};
     ghost use Rattle.cell_stats.specs.CategoryTables.{TableValue};
-    ghost use Rattle.cell_stats.specs.parts.PairsCode.{table_code};
+    ghost use Rattle.cell_stats.specs.parts.PairsCode.{table_encoding};
 
     ghost Value = { TableValue };
 
-    ghost coded = { table_code };
+    ghost coded = { table_encoding };
 
     ghost view = { λ t. record { width = t.width; pairs = t.entries.items } };
 
@@ -37,9 +37,9 @@ impl Model for Table {
 }
 
 // Returns the index of the first entry after a combination, using binary search.
-fn place_after(entries: &[(Combo, u64)], combo: &Combo) -> usize
-    requires { AreAscending entries.now }
-    ensures rest { drop result entries.now ≡ rest_after combo.now entries.now }
+fn place_after_combination(entries: &[(Combo, u64)], combo: &Combo) -> usize
+    requires { CombinationsAreAscending entries.now }
+    ensures rest { drop result entries.now ≡ entries_after_combination combo.now entries.now }
     ensures within { result ≤ length entries.now }
 {
     let mut low = 0;
@@ -57,7 +57,7 @@ fn place_after(entries: &[(Combo, u64)], combo: &Combo) -> usize
 impl Table {
     // Returns the table with these entries.
     pub(crate) fn of(width: usize, entries: Vec<(Combo, u64)>) -> Table
-        requires ascending { AreAscending entries.items }
+        requires ascending { CombinationsAreAscending entries.items }
         requires wide { All (λ pair. length pair.0 ≡ width) entries.items }
         ensures { result ≡ record { width = width; pairs = entries.items } }
     {
@@ -92,9 +92,9 @@ impl Table {
     /// not occur.
     pub fn after(&self, combo: &Combo) -> Listing<'_>
         requires { length combo.now ≡ self.now.width }
-        ensures { result ≡ rest_after combo.now self.now.pairs }
+        ensures { result ≡ entries_after_combination combo.now self.now.pairs }
     {
-        let at = place_after(&self.entries, combo);
+        let at = place_after_combination(&self.entries, combo);
         Listing {
             rest: &self.entries[at..],
         }
@@ -104,12 +104,12 @@ impl Table {
     pub(crate) fn printed_entries(&self, after: Option<&Combo>) -> &[(Combo, u64)]
         requires { IfSome after (λ k. length k.now ≡ self.now.width) }
         ensures value { result.now
-            ≡ printed_pairs (option_map (λ k. k.now) after.entry) self.now.pairs }
+            ≡ table_entries_to_print (option_map (λ k. k.now) after.entry) self.now.pairs }
         ensures wide { All (λ pair. length pair.0 ≡ self.now.width) result.now }
     {
         match after {
             None => &self.entries,
-            Some(combo) => &self.entries[place_after(&self.entries, combo)..],
+            Some(combo) => &self.entries[place_after_combination(&self.entries, combo)..],
         }
     }
 }
@@ -130,9 +130,9 @@ pub struct Listing<'a> {
 }
 
 impl<'a> Model for Listing<'a> {
-    ghost use Rattle.cell_stats.specs.CategoryTables.{Pairs};
+    ghost use Rattle.cell_stats.specs.CategoryTables.{CombinationsWithCounts};
 
-    ghost Value = { Pairs };
+    ghost Value = { CombinationsWithCounts };
 
     ghost view = { λ l. l.rest.now };
 }

@@ -7,7 +7,7 @@ use Rattle.std.specs.Option.{option_map_or}
 use Rattle.std.specs.Prelude.{slice_get}
 use Rattle.cell_core.specs.Grid.{Grid, CellValue, row_at}
 use Rattle.cell_core.specs.Runs.{RunValue}
-use Rattle.cell_stats_combinations.specs.Cursors.{AreCursorsReady, row_in}
+use Rattle.cell_stats_combinations.specs.Cursors.{CursorHasNoEmptyLaterRun, row_of_map_at_place}
 
 -- passing some columns of the first run leaves the rest of that run
 pub drop-run : (n left : ℕ) (x : CellValue) (rest : List CellValue) → n ≤ left → drop n (replicate left x ++ rest) ≡ replicate (left - n) x ++ rest
@@ -16,7 +16,7 @@ drop-run n left x rest h =
     drop-append-le n (replicate left x) rest fits ∙ ap (λ l. l ++ rest) (drop-replicate n left x)
 
 -- neither the next run nor any run after it is empty
-pub ready-next : (runs rest : List RunValue) (x : CellValue) (n : ℕ) → runs ≡ (x, n) ∷ rest → All (λ run. 0 < run.1) runs → AreCursorsReady (record { runs = rest; cell = x; left = n })
+pub ready-next : (runs rest : List RunValue) (x : CellValue) (n : ℕ) → runs ≡ (x, n) ∷ rest → All (λ run. 0 < run.1) runs → CursorHasNoEmptyLaterRun (record { runs = rest; cell = x; left = n })
 ready-next runs rest x n e all =
     let here : 0 < n = all_of e all 0 in
     record {
@@ -63,5 +63,6 @@ All-take-front P xs i y h all =
     )
 
 -- the row at a place is the row of the map at that place
-pub row-of : (maps : List Grid) (row p : ℕ) (m : Grid) → slice_get maps p ≡ Some m → row_in maps row p ≡ row_at m row
+pub row-of : (maps : List Grid) (row p : ℕ) (m : Grid) → slice_get maps p ≡ Some m
+    → row_of_map_at_place maps row p ≡ row_at m row
 row-of maps row p m e = ap (λ o. option_map_or (λ x. row_at x row) o []) e

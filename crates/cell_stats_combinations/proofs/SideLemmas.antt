@@ -6,12 +6,14 @@ use Rattle.std.proofs.lemmas.List.{take-append-le, drop-append-le}
 use Rattle.std.proofs.lemmas.List.Sums.{sum_by_push, sum_by-set, get_or-le-sum_by}
 use Rattle.cell_core.specs.Grid.{CellValue}
 use Rattle.cell_stats_combinations.specs.Combinations.{Combination}
-use Rattle.cell_stats_combinations.specs.Listed.{Counts, entry_of, listed_of}
-use Rattle.cell_stats_combinations.specs.parts.Same.{is_same}
-use Rattle.cell_stats_combinations.specs.SideBySide.{side_by_side}
+use Rattle.cell_stats_combinations.specs.Listed.{CombinationCounts, entry_count_of_combination}
+use Rattle.cell_stats_combinations.specs.Listed.{listed_count_of_combination}
+use Rattle.cell_stats_combinations.specs.parts.Same.{are_same_combination}
+use Rattle.cell_stats_combinations.specs.SideBySide.{counted_combinations_of_flat_list}
 use Rattle.cell_stats_combinations.proofs.GatheredLemmas.{entry-own, cond-add}
 
-pub length-side : (w : ℕ) (cells : List CellValue) (ns : List ℕ) → length (side_by_side w cells ns) ≡ length ns
+pub length-side : (w : ℕ) (cells : List CellValue) (ns : List ℕ)
+    → length (counted_combinations_of_flat_list w cells ns) ≡ length ns
 length-side w cells [] = refl
 length-side w cells (n ∷ ns) = ap suc (length-side w (drop w cells) ns)
 
@@ -28,7 +30,7 @@ key-first : (w : ℕ) (cells : List CellValue) → take w cells ≡ take w (drop
 key-first w cells = ap (λ n. take w (drop n cells)) (zero-times w)
 
 pub side-at : (w : ℕ) (cells : List CellValue) (ns : List ℕ) (i : ℕ) (d : Combination × ℕ) (e : ℕ) → i < length ns
-    → get_or (side_by_side w cells ns) i d ≡ (take w (drop (i * w) cells), get_or ns i e)
+    → get_or (counted_combinations_of_flat_list w cells ns) i d ≡ (take w (drop (i * w) cells), get_or ns i e)
 side-at w cells [] i d e within = absurd (omega (arith, within))
 side-at w cells (n ∷ ns) zero d e within = ap (λ (k : Combination). (k, n)) (key-first w cells)
 side-at w cells (n ∷ ns) (suc i) d e within =
@@ -36,17 +38,20 @@ side-at w cells (n ∷ ns) (suc i) d e within =
 
 -- setting a count sets it in the entries side by side
 pub side-set : (w : ℕ) (cells : List CellValue) (ns : List ℕ) (i m : ℕ) → i < length ns
-    → side_by_side w cells (set ns i m) ≡ set (side_by_side w cells ns) i (take w (drop (i * w) cells), m)
+    → counted_combinations_of_flat_list w cells (set ns i m) ≡ set (counted_combinations_of_flat_list w cells ns) i
+    (take w (drop (i * w) cells), m)
 side-set w cells [] i m within = absurd (omega (arith, within))
 side-set w cells (n ∷ ns) zero m within =
-    ap (λ (k : Combination). (k, m) ∷ side_by_side w (drop w cells) ns) (key-first w cells)
+    ap (λ (k : Combination). (k, m) ∷ counted_combinations_of_flat_list w (drop w cells) ns) (key-first w cells)
 side-set w cells (n ∷ ns) (suc i) m within =
-    ap (λ (l : Counts). (take w cells, n) ∷ l) (side-set w (drop w cells) ns i m (omega (arith, within))
-    ∙ ap (λ (k : Combination). set (side_by_side w (drop w cells) ns) i (k, m)) (key-next w i cells))
+    ap (λ (l : CombinationCounts). (take w cells, n) ∷ l) (side-set w (drop w cells) ns i m (omega (arith, within))
+    ∙ ap (λ (k : Combination). set (counted_combinations_of_flat_list w (drop w cells) ns) i (k, m))
+    (key-next w i cells))
 
 -- appending a combination and its count appends an entry
 pub side-push : (w : ℕ) (cells key : List CellValue) (ns : List ℕ) (n : ℕ) → length cells ≡ length ns * w → length key ≡ w
-    → side_by_side w (cells ++ key) (ns ++ n ∷ []) ≡ side_by_side w cells ns ++ (key, n) ∷ []
+    → counted_combinations_of_flat_list w (cells ++ key) (ns ++ n ∷ []) ≡ counted_combinations_of_flat_list w cells ns
+    ++ (key, n) ∷ []
 side-push w cells key [] n side wide =
     let none : cells ≡ [] = nothing cells (side ∙ sym (zero-times w)) in
     ap (λ (l : List CellValue). (take w (l ++ key), n) ∷ []) none
@@ -59,53 +64,60 @@ side-push w cells key (m ∷ ns) n side wide =
     let long : length cells ≡ length ns * w + w = side ∙ suc-mul (length ns) w in
     let enough : w ≤ length cells = omega (arith, long) in
     let rest : length (drop w cells) ≡ length ns * w = omega (arith, long, length-drop w cells) in
-    ap (λ (k : Combination). (k, m) ∷ side_by_side w (drop w (cells ++ key)) (ns ++ n ∷ [])) (take-append-le w cells key enough)
-    ∙ ap (λ (l : List CellValue). (take w cells, m) ∷ side_by_side w l (ns ++ n ∷ [])) (drop-append-le w cells key enough)
-    ∙ ap (λ (l : Counts). (take w cells, m) ∷ l) (side-push w (drop w cells) key ns n rest wide)
+    ap (λ (k : Combination). (k, m) ∷ counted_combinations_of_flat_list w (drop w (cells ++ key)) (ns ++ n ∷ [])) (take-append-le w cells key enough)
+    ∙ ap (λ (l : List CellValue). (take w cells, m) ∷ counted_combinations_of_flat_list w l (ns ++ n ∷ [])) (drop-append-le w cells key enough)
+    ∙ ap (λ (l : CombinationCounts). (take w cells, m) ∷ l) (side-push w (drop w cells) key ns n rest wide)
 
 -- appending a new combination adds its count
 pub gathered-push : (k : Combination) (w : ℕ) (key cells : List CellValue) (ns : List ℕ) (n : ℕ) → length cells ≡ length ns * w
-    → length key ≡ w → listed_of k (side_by_side w (cells ++ key) (ns ++ n ∷ []))
-    ≡ listed_of k (side_by_side w cells ns) + cond (is_same k key) n 0
+    → length key ≡ w → listed_count_of_combination k (counted_combinations_of_flat_list w (cells ++ key) (ns ++ n ∷ []))
+    ≡ listed_count_of_combination k (counted_combinations_of_flat_list w cells ns) + cond
+    (are_same_combination k key) n 0
 gathered-push k w key cells ns n side wide =
-    ap (listed_of k) (side-push w cells key ns n side wide) ∙ sum_by_push (entry_of k) (side_by_side w cells ns) (key, n)
+    ap (listed_count_of_combination k) (side-push w cells key ns n side wide) ∙ sum_by_push (entry_count_of_combination k) (counted_combinations_of_flat_list w cells ns) (key, n)
 
 module _ (k : Combination) (w : ℕ) (cells : List CellValue) (ns : List ℕ) (at : ℕ) (key : List CellValue) (within : at < length ns)
     (same : key ≡ take w (drop (at * w) cells)) where
-  inside : at < length (side_by_side w cells ns)
+  inside : at < length (counted_combinations_of_flat_list w cells ns)
   inside = omega (arith, within, length-side w cells ns)
 
   -- replacing the count of a place takes the old count away and adds the new one
-  turned : (m : ℕ) → listed_of k (side_by_side w cells (set ns at m)) + cond (is_same k key) (get_or ns at 0) 0
-      ≡ listed_of k (side_by_side w cells ns) + cond (is_same k key) m 0
+  turned : (m : ℕ) → listed_count_of_combination k (counted_combinations_of_flat_list w cells (set ns at m)) + cond
+      (are_same_combination k key) (get_or ns at 0) 0
+      ≡ listed_count_of_combination k (counted_combinations_of_flat_list w cells ns) + cond
+      (are_same_combination k key) m 0
   turned m =
-      let all = side_by_side w cells ns in
+      let all = counted_combinations_of_flat_list w cells ns in
       let there = side-at w cells ns at ([], 0) 0 within in
-      let sums = sum_by-set (entry_of k) all at (take w (drop (at * w) cells), m) ([], 0) inside in
-      let new = ap (listed_of k) (side-set w cells ns at m within) in
-      let was = ap (entry_of k) there in
-      let old = ap (λ x. cond (is_same k x) (get_or ns at 0) 0) same in
-      let now = ap (λ x. cond (is_same k x) m 0) same in
+      let sums = sum_by-set (entry_count_of_combination k) all at (take w (drop (at * w) cells), m) ([], 0) inside in
+      let new = ap (listed_count_of_combination k) (side-set w cells ns at m within) in
+      let was = ap (entry_count_of_combination k) there in
+      let old = ap (λ x. cond (are_same_combination k x) (get_or ns at 0) 0) same in
+      let now = ap (λ x. cond (are_same_combination k x) m 0) same in
       omega (arith, sums, new, was, old, now)
 
   -- setting the count of a place to 0 takes its count away
-  pub gathered-set : listed_of k (side_by_side w cells (set ns at 0)) + cond (is_same k key) (get_or ns at 0) 0
-      ≡ listed_of k (side_by_side w cells ns)
-  gathered-set = let none : ℕ = 0 in omega (arith, turned none, nothing (is_same k key) none refl)
+  pub gathered-set : listed_count_of_combination k (counted_combinations_of_flat_list w cells (set ns at 0)) + cond
+      (are_same_combination k key) (get_or ns at 0) 0
+      ≡ listed_count_of_combination k (counted_combinations_of_flat_list w cells ns)
+  gathered-set = let none : ℕ = 0 in omega (arith, turned none, nothing (are_same_combination k key) none refl)
     where
       nothing : (b : Bool) (m : ℕ) → m ≡ 0 → cond b m 0 ≡ 0
       nothing true m e = e
       nothing false m e = refl
 
   -- raising the count of a place raises the count of its combination
-  pub gathered-more : (n : ℕ) → listed_of k (side_by_side w cells (set ns at (get_or ns at 0 + n)))
-      ≡ listed_of k (side_by_side w cells ns) + cond (is_same k key) n 0
-  gathered-more n = omega (arith, turned (get_or ns at 0 + n), cond-add (is_same k key) (get_or ns at 0) n)
+  pub gathered-more : (n : ℕ) → listed_count_of_combination k (counted_combinations_of_flat_list w cells
+      (set ns at (get_or ns at 0 + n)))
+      ≡ listed_count_of_combination k (counted_combinations_of_flat_list w cells ns) + cond
+      (are_same_combination k key) n 0
+  gathered-more n = omega (arith, turned (get_or ns at 0 + n), cond-add (are_same_combination k key) (get_or ns at 0) n)
 
   -- the count of a place is at most the count of its combination
-  pub gathered-least : k ≡ key → get_or ns at 0 ≤ listed_of k (side_by_side w cells ns)
+  pub gathered-least : k ≡ key → get_or ns at 0 ≤ listed_count_of_combination k
+      (counted_combinations_of_flat_list w cells ns)
   gathered-least own =
-      let all = side_by_side w cells ns in
+      let all = counted_combinations_of_flat_list w cells ns in
       let there = side-at w cells ns at ([], 0) 0 within in
-      let least = get_or-le-sum_by (entry_of k) all at ([], 0) inside in
-      omega (arith, least, ap (entry_of k) there, entry-own k (take w (drop (at * w) cells), get_or ns at 0) (sym (own ∙ same)))
+      let least = get_or-le-sum_by (entry_count_of_combination k) all at ([], 0) inside in
+      omega (arith, least, ap (entry_count_of_combination k) there, entry-own k (take w (drop (at * w) cells), get_or ns at 0) (sym (own ∙ same)))

@@ -7,25 +7,27 @@ use Rattle.std.proofs.lemmas.Grind.{flat_map-append}
 use Rattle.std.specs.Option.{option_map_or}
 use Rattle.std.specs.Prelude.{slice_get}
 use Rattle.cell_core.specs.Grid.{Grid, CellValue, cell_at, row_at}
-use Rattle.cell_core.specs.Runs.{RunValue, written_out}
+use Rattle.cell_core.specs.Runs.{RunValue, cells_of_runs}
 use Rattle.cell_stats_combinations.specs.declared.skip.Skip.{Skip}
-use Rattle.cell_stats_combinations.specs.Combinations.{Combination, cell_of_map, combination_at, all_combinations, row_combinations}
-use Rattle.cell_stats_combinations.specs.Cursors.{CursorValue, to_come, AreCursorsReady, row_in}
-use Rattle.cell_stats_combinations.specs.LeftOut.{kept_cells, is_left_out}
+use Rattle.cell_stats_combinations.specs.Combinations.{Combination, cell_of_map_at_place, combination_at_row_and_column, all_combinations, row_combinations}
+use Rattle.cell_stats_combinations.specs.Cursors.{RunCursorValue, to_come, CursorHasNoEmptyLaterRun}
+use Rattle.cell_stats_combinations.specs.Cursors.{row_of_map_at_place}
+use Rattle.cell_stats_combinations.specs.LeftOut.{kept_cells, combination_is_left_out}
 
 -- ---- the cells of a stretch
 
-pub cell-row : (maps : List Grid) (row col p : ℕ) → cell_of_map maps row col p ≡ get_or (row_in maps row p) col None
+pub cell-row : (maps : List Grid) (row col p : ℕ) → cell_of_map_at_place maps row col p
+    ≡ get_or (row_of_map_at_place maps row p) col None
 cell-row maps row col p = by (slice_get maps p)
   where
     by : (o : Option Grid) → option_map_or (λ m. cell_at m row col) o None ≡ get_or (option_map_or (λ m. row_at m row) o []) col None
     by None = refl
     by (Some m) = refl
 
-first-cell : (c : CursorValue) (j : ℕ) → j < c.left → get_or (to_come c) j None ≡ c.cell
+first-cell : (c : RunCursorValue) (j : ℕ) → j < c.left → get_or (to_come c) j None ≡ c.cell
 first-cell c j h =
     let fits : j < length (replicate c.left c.cell) = omega (arith, length-replicate c.left c.cell) in
-    get_or_append_left (replicate c.left c.cell) (written_out c.runs) None j fits ∙ get_or-replicate c.left j c.cell None h
+    get_or_append_left (replicate c.left c.cell) (cells_of_runs c.runs) None j fits ∙ get_or-replicate c.left j c.cell None h
 
 head_of : {X : Type 0} (P : X → Type 0) (x : X) (xs : List X) → All P (x ∷ xs) → P x
 head_of P x xs all = all 0 x (omega arith)
@@ -50,49 +52,49 @@ drop-drop n (suc i) (x ∷ xs) =
 
 module _ (maps : List Grid) (row col : ℕ) where
   -- in each column of the stretch, the combination is the cells of the cursors
-  pub alike : (cs : List CursorValue) (picks : List ℕ) (n j : ℕ) → map to_come cs ≡ map (λ p. drop col (row_in maps row p)) picks → All (λ c. n ≤ c.left) cs → j < n → combination_at maps picks row (col + j) ≡ map (λ c. c.cell) cs
+  pub alike : (cs : List RunCursorValue) (picks : List ℕ) (n j : ℕ) → map to_come cs ≡ map (λ p. drop col (row_of_map_at_place maps row p)) picks → All (λ c. n ≤ c.left) cs → j < n → combination_at_row_and_column maps picks row (col + j) ≡ map (λ c. c.cell) cs
   alike [] [] n j e all h = refl
   alike [] (p ∷ picks) n j e all h = cc
   alike (c ∷ cs) [] n j e all h = cc
   alike (c ∷ cs) (p ∷ picks) n j e all h =
-      let here : to_come c ≡ drop col (row_in maps row p) = ap (first-or []) e in
-      let others : map to_come cs ≡ map (λ p. drop col (row_in maps row p)) picks = ap (drop 1) e in
-      let within : j < c.left = omega (arith, head_of (λ (x : CursorValue). n ≤ x.left) c cs all) in
-      let cell : cell_of_map maps row (col + j) p ≡ c.cell = cell-row maps row (col + j) p ∙ sym (get_or-drop col (row_in maps row p) j None) ∙ ap (λ l. get_or l j None) (sym here) ∙ first-cell c j within in
-      ap (λ x. x ∷ combination_at maps picks row (col + j)) cell ∙ ap (λ l. c.cell ∷ l) (alike cs picks n j others (tail_of (λ (x : CursorValue). n ≤ x.left) c cs all) h)
+      let here : to_come c ≡ drop col (row_of_map_at_place maps row p) = ap (first-or []) e in
+      let others : map to_come cs ≡ map (λ p. drop col (row_of_map_at_place maps row p)) picks = ap (drop 1) e in
+      let within : j < c.left = omega (arith, head_of (λ (x : RunCursorValue). n ≤ x.left) c cs all) in
+      let cell : cell_of_map_at_place maps row (col + j) p ≡ c.cell = cell-row maps row (col + j) p ∙ sym (get_or-drop col (row_of_map_at_place maps row p) j None) ∙ ap (λ l. get_or l j None) (sym here) ∙ first-cell c j within in
+      ap (λ x. x ∷ combination_at_row_and_column maps picks row (col + j)) cell ∙ ap (λ l. c.cell ∷ l) (alike cs picks n j others (tail_of (λ (x : RunCursorValue). n ≤ x.left) c cs all) h)
 
   -- in each column within the region, each cursor has a cell
-  pub alive : (cs : List CursorValue) (picks : List ℕ) (cols : ℕ) → map to_come cs ≡ map (λ p. drop col (row_in maps row p)) picks → All (λ p. length (row_in maps row p) ≡ cols) picks → col < cols → All AreCursorsReady cs → All (λ c. 0 < c.left) cs
+  pub alive : (cs : List RunCursorValue) (picks : List ℕ) (cols : ℕ) → map to_come cs ≡ map (λ p. drop col (row_of_map_at_place maps row p)) picks → All (λ p. length (row_of_map_at_place maps row p) ≡ cols) picks → col < cols → All CursorHasNoEmptyLaterRun cs → All (λ c. 0 < c.left) cs
   alive cs picks cols e wide h ready i d within =
       let c = get_or cs i d in
-      let same_length : length cs ≡ length picks = sym (length-map cs to_come) ∙ ap length e ∙ length-map picks (λ p. drop col (row_in maps row p)) in
+      let same_length : length cs ≡ length picks = sym (length-map cs to_come) ∙ ap length e ∙ length-map picks (λ p. drop col (row_of_map_at_place maps row p)) in
       let in_picks : i < length picks = omega (arith, same_length) in
       let p = get_or picks i 0 in
-      let here : to_come c ≡ drop col (row_in maps row p) =
-      sym (get_or-map to_come cs i d (to_come d) within) ∙ ap (λ l. get_or l i (to_come d)) e ∙ get_or-map (λ p. drop col (row_in maps row p)) picks i 0 (to_come d) in_picks in
-      some c (ready i d within) (row_in maps row p) here (wide i 0 in_picks)
+      let here : to_come c ≡ drop col (row_of_map_at_place maps row p) =
+      sym (get_or-map to_come cs i d (to_come d) within) ∙ ap (λ l. get_or l i (to_come d)) e ∙ get_or-map (λ p. drop col (row_of_map_at_place maps row p)) picks i 0 (to_come d) in_picks in
+      some c (ready i d within) (row_of_map_at_place maps row p) here (wide i 0 in_picks)
     where
-      some : (c : CursorValue) → AreCursorsReady c → (line : List CellValue) → to_come c ≡ drop col line → length line ≡ cols → 0 < c.left
+      some : (c : RunCursorValue) → CursorHasNoEmptyLaterRun c → (line : List CellValue) → to_come c ≡ drop col line → length line ≡ cols → 0 < c.left
       some c r line e w = by c.left refl
         where
           by : (n : ℕ) → c.left ≡ n → 0 < c.left
           by zero z =
-              let none : length (written_out c.runs) ≡ 0 = ap (λ (l : List RunValue). length (written_out l)) (r.present z) in
-              absurd (omega (arith, z, none, w, h, ap length e, length-append (replicate c.left c.cell) (written_out c.runs), length-replicate c.left c.cell, length-drop col line))
+              let none : length (cells_of_runs c.runs) ≡ 0 = ap (λ (l : List RunValue). length (cells_of_runs l)) (r.present z) in
+              absurd (omega (arith, z, none, w, h, ap length e, length-append (replicate c.left c.cell) (cells_of_runs c.runs), length-replicate c.left c.cell, length-drop col line))
           by (suc n) z = omega (arith, z)
 
 -- after a stretch, the cursors are past its columns
-pub passed-on : (maps : List Grid) (row col n : ℕ) (old new : List CursorValue) (picks : List ℕ) → map to_come new ≡ map (λ c. drop n (to_come c)) old → map to_come old ≡ map (λ p. drop col (row_in maps row p)) picks → map to_come new ≡ map (λ p. drop (col + n) (row_in maps row p)) picks
+pub passed-on : (maps : List Grid) (row col n : ℕ) (old new : List RunCursorValue) (picks : List ℕ) → map to_come new ≡ map (λ c. drop n (to_come c)) old → map to_come old ≡ map (λ p. drop col (row_of_map_at_place maps row p)) picks → map to_come new ≡ map (λ p. drop (col + n) (row_of_map_at_place maps row p)) picks
 passed-on maps row col n old new picks e f = e ∙ twice old picks f
   where
-    twice : (old : List CursorValue) (picks : List ℕ) → map to_come old ≡ map (λ p. drop col (row_in maps row p)) picks → map (λ c. drop n (to_come c)) old ≡ map (λ p. drop (col + n) (row_in maps row p)) picks
+    twice : (old : List RunCursorValue) (picks : List ℕ) → map to_come old ≡ map (λ p. drop col (row_of_map_at_place maps row p)) picks → map (λ c. drop n (to_come c)) old ≡ map (λ p. drop (col + n) (row_of_map_at_place maps row p)) picks
     twice [] [] f = refl
     twice [] (p ∷ picks) f = cc
     twice (c ∷ old) [] f = cc
     twice (c ∷ old) (p ∷ picks) f =
-        let here : to_come c ≡ drop col (row_in maps row p) = ap (first-or []) f in
-        let others : map to_come old ≡ map (λ p. drop col (row_in maps row p)) picks = ap (drop 1) f in
-        ap (λ l. l ∷ map (λ c. drop n (to_come c)) old) (ap (drop n) here ∙ drop-drop n col (row_in maps row p)) ∙ ap (λ l. drop (col + n) (row_in maps row p) ∷ l) (twice old picks others)
+        let here : to_come c ≡ drop col (row_of_map_at_place maps row p) = ap (first-or []) f in
+        let others : map to_come old ≡ map (λ p. drop col (row_of_map_at_place maps row p)) picks = ap (drop 1) f in
+        ap (λ l. l ∷ map (λ c. drop n (to_come c)) old) (ap (drop n) here ∙ drop-drop n col (row_of_map_at_place maps row p)) ∙ ap (λ l. drop (col + n) (row_of_map_at_place maps row p) ∷ l) (twice old picks others)
 
 -- ---- the combinations of a stretch
 
@@ -110,7 +112,7 @@ stretch f k col (suc n) same =
     replicate-more zero x = refl
     replicate-more (suc n) x = ap (λ (l : List Combination). x ∷ l) (replicate-more n x)
 
-pub kept-replicate : (skip : Skip) (q : Combination) (n : ℕ) (b : Bool) → is_left_out skip q ≡ b → kept_cells skip (replicate n q) ≡ cond b [] (replicate n q)
+pub kept-replicate : (skip : Skip) (q : Combination) (n : ℕ) (b : Bool) → combination_is_left_out skip q ≡ b → kept_cells skip (replicate n q) ≡ cond b [] (replicate n q)
 kept-replicate skip q zero true l = refl
 kept-replicate skip q zero false l = refl
 kept-replicate skip q (suc n) true l = rw l (kept-replicate skip q n true l)
@@ -133,4 +135,4 @@ module _ (maps : List Grid) (picks : List ℕ) (cols : ℕ) where
   pub length_all : (r : ℕ) → length (all_combinations maps picks r cols) ≡ r * cols
   length_all zero = omega arith
   length_all (suc r) =
-      rw (all_combinations_more r) (omega (arith, length-append (all_combinations maps picks r cols) (row_combinations maps picks cols r), length_all r, length-map-range_with_len (combination_at maps picks r) 0 cols))
+      rw (all_combinations_more r) (omega (arith, length-append (all_combinations maps picks r cols) (row_combinations maps picks cols r), length_all r, length-map-range_with_len (combination_at_row_and_column maps picks r) 0 cols))

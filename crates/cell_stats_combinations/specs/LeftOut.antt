@@ -7,11 +7,11 @@ use Rattle.cell_stats_combinations.specs.declared.skip.Skip.TheVariants.{Nothing
 use Rattle.cell_stats_combinations.specs.Combinations.{Combination}
 
 -- the combination is left out
-abbrev pub is_left_out : Skip → Combination → Bool
-is_left_out Nothing k = false
-is_left_out AnyNull k = list_any is_none k
-is_left_out AllNull k = list_all is_none k
+abbrev pub combination_is_left_out : Skip → Combination → Bool
+combination_is_left_out Nothing k = false
+combination_is_left_out AnyNull k = list_any is_none k
+combination_is_left_out AllNull k = list_all is_none k
 
 -- the combinations that are not left out
 abbrev pub kept_cells : Skip → List Combination → List Combination
-kept_cells skip cells = filter (λ k. not (is_left_out skip k)) cells
+kept_cells skip cells = filter (λ k. not (combination_is_left_out skip k)) cells

@@ -5,29 +5,29 @@ use Rattle.std.specs.Ordering.{eq_by_cmp}
 use Rattle.cell_stats_combinations.specs.Combinations.{Combination, combination_cmp}
 
 -- combinations, each with a number of cells
-abbrev pub Counts : Type 0
-Counts = List (Combination × ℕ)
+abbrev pub CombinationCounts : Type 0
+CombinationCounts = List (Combination × ℕ)
 
 -- the number of cells of a combination that an entry counts
-abbrev pub entry_of : Combination → Combination × ℕ → ℕ
-entry_of k entry = cond (eq_by_cmp combination_cmp k entry.0) entry.1 0
+abbrev pub entry_count_of_combination : Combination → Combination × ℕ → ℕ
+entry_count_of_combination k entry = cond (eq_by_cmp combination_cmp k entry.0) entry.1 0
 
 -- the number of cells of a combination that the list counts: the sum over its entries
-abbrev pub listed_of : Combination → Counts → ℕ
-listed_of k entries = sum_by (entry_of k) entries
+abbrev pub listed_count_of_combination : Combination → CombinationCounts → ℕ
+listed_count_of_combination k entries = sum_by (entry_count_of_combination k) entries
 
 -- no entry has a count of 0
-abbrev pub HasNoZero : Counts → Type 0
-HasNoZero entries = All (λ entry. 0 < entry.1) entries
+abbrev pub NoEntryCountIsZero : CombinationCounts → Type 0
+NoEntryCountIsZero entries = All (λ entry. 0 < entry.1) entries
 
 -- each combination is listed once, in ascending order
-abbrev pub AreAscending : Counts → Type 0
-AreAscending entries = IsStrictlySortedBy combination_cmp (map (λ entry. entry.0) entries)
+abbrev pub CombinationsAreAscending : CombinationCounts → Type 0
+CombinationsAreAscending entries = IsStrictlySortedBy combination_cmp (map (λ entry. entry.0) entries)
 
 -- the count of each combination fits in 64 bits
-abbrev pub ListedFits : Counts → Type 0
-ListedFits entries = (k : Combination) → listed_of k entries < 2 ^ 64
+abbrev pub ListedCountsFitInSixtyFourBits : CombinationCounts → Type 0
+ListedCountsFitInSixtyFourBits entries = (k : Combination) → listed_count_of_combination k entries < 2 ^ 64
 
 -- the count of each combination is unchanged
-abbrev pub ListsSame : Counts → Counts → Type 0
-ListsSame old new = (k : Combination) → listed_of k new ≡ listed_of k old
+abbrev pub ListsHaveSameCounts : CombinationCounts → CombinationCounts → Type 0
+ListsHaveSameCounts old new = (k : Combination) → listed_count_of_combination k new ≡ listed_count_of_combination k old

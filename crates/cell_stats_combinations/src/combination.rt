@@ -10,12 +10,12 @@ use std::cmp::Ordering;
 use std::marker::Model;
 
 // Maximum number of cells stored without an allocation.
-const FEW: usize = 4;
+const MIN_COMBINATIONS_FOR_RADIX_SORT: usize = 4;
 
 // The cells of a combination: a few cells with their number, or many.
 #[derive(Debug, Drop)]
 enum Cells {
-    Few([Cell; FEW], usize),
+    Few([Cell; MIN_COMBINATIONS_FOR_RADIX_SORT], usize),
     Many(Vec<Cell>),
 }
 
@@ -31,9 +31,9 @@ impl Model for Combo {
 
     ghost Value = { Combination };
 
-    ghost use Rattle.cell_stats_combinations.specs.parts.Few.{cells_of_few};
+    ghost use Rattle.cell_stats_combinations.specs.parts.Few.{cells_of_combination};
 
-    ghost view = { λ combo. cells_of_few combo.cells };
+    ghost view = { λ combo. cells_of_combination combo.cells };
 }
 
 impl Combo {
@@ -54,8 +54,8 @@ impl Combo {
     pub fn from_cells(alloc: Global, cells: &[Cell]) -> Result<Combo, Memory>
         ensures { IfOk result (λ combo. combo ≡ cells.now) }
     {
-        if cells.len() <= FEW {
-            let mut few = [Cell::null(); FEW];
+        if cells.len() <= MIN_COMBINATIONS_FOR_RADIX_SORT {
+            let mut few = [Cell::null(); MIN_COMBINATIONS_FOR_RADIX_SORT];
             few[..cells.len()].copy_from_slice(cells);
             return Ok(Combo {
                 cells: Cells::Few(few, cells.len()),
@@ -69,7 +69,7 @@ impl Combo {
 
     /// Returns the combination of the first `width` of two cells. Needs no memory.
     #[inline(always)]
-    pub fn of_pair(cells: [Cell; 2], width: usize) -> Combo
+    pub fn of_first_cells_of_pair(cells: [Cell; 2], width: usize) -> Combo
         ensures { result ≡ take width cells }
     {
         let [first, second] = cells;
@@ -100,7 +100,7 @@ impl Combo {
         ensures { result.now ≡ self.now }
     {
         match &self.cells {
-            Cells::Few(few, count) => &few[..(*count).min(FEW)],
+            Cells::Few(few, count) => &few[..(*count).min(MIN_COMBINATIONS_FOR_RADIX_SORT)],
             Cells::Many(many) => many,
         }
     }

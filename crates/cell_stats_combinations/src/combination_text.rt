@@ -1,14 +1,14 @@
 //! Reads combinations from texts.
 
 ghost use Rattle.std.specs.Prelude.{◌≡◌, ◌≤◌};
-ghost use Rattle.cell_core_values.specs.Answers.{Answers};
-ghost use Rattle.cell_stats_combinations.specs.ComboReading.{cell_of_part, combo_of};
+ghost use Rattle.cell_core_values.specs.Answers.{EqualsUnlessOutOfMemory};
+ghost use Rattle.cell_stats_combinations.specs.ComboReading.{cell_of_text_part, combination_of_text};
 
 use crate::combination::Combo;
 use cell_core::cell::Cell;
 use cell_core::memory::Memory;
-use cell_core_values::whole_numbers::whole_in_range;
-use cell_core_values::words::parts_of;
+use cell_core_values::whole_numbers::whole_number_in_category_range;
+use cell_core_values::words::parts_between_commas;
 use std::alloc::{AllocFailed, Global};
 
 /// Why a text is not a combination. If several reasons apply, the first in this order is reported (profile).
@@ -45,13 +45,13 @@ impl<T: Drop> From<AllocFailed<T>> for ComboFault {
 }
 
 // Reads a part as a cell.
-fn cell_of_part(part: &[u8]) -> Option<Cell>
-    ensures { result ≡ cell_of_part part.now }
+fn cell_of_text_part(part: &[u8]) -> Option<Cell>
+    ensures { result ≡ cell_of_text_part part.now }
 {
     if part == b"*".as_slice() {
         return Some(Cell::null());
     }
-    match whole_in_range(part) {
+    match whole_number_in_category_range(part) {
         Some(category) => Cell::value(category),
         None => None,
     }
@@ -66,12 +66,13 @@ impl Combo {
     /// The first [`ComboFault`] that applies, in the order of its variants.
     pub fn read(alloc: Global, text: &[u8], width: usize) -> Result<Combo, ComboFault>
         requires { (1 ≤ width) × (width ≤ 16) }
-        ensures { Answers ComboFault.Memory (λ combo. combo) result (combo_of width text.now) }
+        ensures { EqualsUnlessOutOfMemory ComboFault.Memory (λ combo. combo) result
+            (combination_of_text width text.now) }
     {
-        let parts = parts_of(alloc, text)?;
+        let parts = parts_between_commas(alloc, text)?;
         let mut cells = Vec::new(alloc);
         for part in &parts {
-            let Some(cell) = cell_of_part(part) else {
+            let Some(cell) = cell_of_text_part(part) else {
                 return Err(ComboFault::BadCombo);
             };
             cells.push(cell)?;

@@ -2,46 +2,46 @@
 
 ghost use Rattle.std.specs.Prelude.{◌≡◌, ◌<◌, ◌≤◌, length, map, drop, All, OnOk, IfOk};
 ghost use Rattle.cell_core.specs.Grid.{row_at};
-ghost use Rattle.cell_core.specs.Runs.{written_out};
-ghost use Rattle.cell_stats_combinations.specs.Combinations.{ArePicks};
-ghost use Rattle.cell_stats_combinations.specs.Cursors.{to_come, AreCursorsReady, AreWideRows, row_in};
+ghost use Rattle.cell_core.specs.Runs.{cells_of_runs};
+ghost use Rattle.cell_stats_combinations.specs.Combinations.{ArePicksOnShelf};
+ghost use Rattle.cell_stats_combinations.specs.Cursors.{to_come, CursorHasNoEmptyLaterRun, RowsAreAsWideAsRegion, row_of_map_at_place};
 
 use cell_core::cell::Cell;
 use cell_core::map::CellMap;
 use cell_core::memory::Memory;
 use cell_core::shelf::Shelf;
-use cell_core::stretches::Stretches;
+use cell_core::stretches::RunsOrCells;
 use std::alloc::Global;
 use std::marker::Model;
 
 /// A position in a row: the current cell, the remaining number of columns with this cell, and the runs after them.
 #[derive(Drop)]
-pub struct Cursor<'a> {
-    runs: Stretches<'a>,
+pub struct RowCursor<'a> {
+    runs: RunsOrCells<'a>,
     cell: Cell,
     left: u32,
 }
 
-impl<'a> Model for Cursor<'a> {
-    ghost use Rattle.cell_stats_combinations.specs.Cursors.{CursorValue, cursor_code};
+impl<'a> Model for RowCursor<'a> {
+    ghost use Rattle.cell_stats_combinations.specs.Cursors.{RunCursorValue, cursor_encoding};
 
-    ghost Value = { CursorValue };
+    ghost Value = { RunCursorValue };
 
-    ghost coded = { cursor_code };
+    ghost coded = { cursor_encoding };
 
     ghost view = { λ c. record { runs = c.runs; cell = c.cell; left = c.left } };
 }
 
-impl<'a> Cursor<'a> {
+impl<'a> RowCursor<'a> {
     // Returns a cursor at the first cell of a row.
-    fn over(mut runs: Stretches<'a>) -> Cursor<'a>
+    fn over(mut runs: RunsOrCells<'a>) -> RowCursor<'a>
         requires { All (λ run. 0 < run.1) runs }
-        ensures cells { to_come result ≡ written_out runs.entry }
-        ensures ready { AreCursorsReady result }
+        ensures cells { to_come result ≡ cells_of_runs runs.entry }
+        ensures ready { CursorHasNoEmptyLaterRun result }
     {
         match runs.next() {
-            Some((cell, left)) => Cursor { runs, cell, left },
-            None => Cursor {
+            Some((cell, left)) => RowCursor { runs, cell, left },
+            None => RowCursor {
                 runs,
                 cell: Cell::null(),
                 left: 0,
@@ -53,9 +53,9 @@ impl<'a> Cursor<'a> {
     #[inline(always)]
     fn pass(&mut self, count: u32)
         requires within { count ≤ self.old.left }
-        requires ready { AreCursorsReady self.old }
+        requires ready { CursorHasNoEmptyLaterRun self.old }
         ensures cells { to_come self.new ≡ drop count (to_come self.old) }
-        ensures ready { AreCursorsReady self.new }
+        ensures ready { CursorHasNoEmptyLaterRun self.new }
     {
         self.left -= count;
         if self.left == 0 {
@@ -68,28 +68,29 @@ impl<'a> Cursor<'a> {
 }
 
 /// Returns a cursor at the first cell of a row of a map.
-pub fn start<'a>(map: &'a CellMap, row: u32) -> Cursor<'a>
+pub fn start<'a>(map: &'a CellMap, row: u32) -> RowCursor<'a>
     requires { row < map.now.region.rows }
     ensures cells { to_come result ≡ row_at map.now row }
     ensures width { length (row_at map.now row) ≡ map.now.region.cols }
-    ensures ready { AreCursorsReady result }
+    ensures ready { CursorHasNoEmptyLaterRun result }
 {
-    Cursor::over(map.stretches(row))
+    RowCursor::over(map.stretches(row))
 }
 
 // Returns cursors at the first cell of a row of each picked map.
-fn start_all<'a>(
+fn cursors_at_row_start<'a>(
     alloc: Global,
     shelf: &'a Shelf,
     picks: &[usize],
     row: u32,
-) -> Result<Vec<Cursor<'a>>, Memory>
-    requires picked { ArePicks shelf.now picks.now }
+) -> Result<Vec<RowCursor<'a>>, Memory>
+    requires picked { ArePicksOnShelf shelf.now picks.now }
     requires row_in_range { row < shelf.now.region.rows }
     ensures cells { IfOk result
-        (λ cursors. map to_come cursors.items ≡ map (row_in shelf.now.maps row) picks.now) }
-    ensures width { OnOk result (AreWideRows shelf.now row picks.now) }
-    ensures ready { IfOk result (λ cursors. All AreCursorsReady cursors.items) }
+        (λ cursors. map to_come cursors.items ≡ map
+        (row_of_map_at_place shelf.now.maps row) picks.now) }
+    ensures width { OnOk result (RowsAreAsWideAsRegion shelf.now row picks.now) }
+    ensures ready { IfOk result (λ cursors. All CursorHasNoEmptyLaterRun cursors.items) }
 {
     let mut cursors = Vec::with_capacity(alloc, picks.len())?;
     for place in picks {
@@ -104,26 +105,32 @@ fn start_all<'a>(
 /// # Errors
 ///
 /// `Memory` if memory runs out.
-pub fn cursors_of<'a>(
+pub fn cursors_over_maps<'a>(
     alloc: Global,
     shelf: &'a Shelf,
     picks: &[usize],
-) -> Result<Vec<Cursor<'a>>, Memory>
-    requires { ArePicks shelf.now picks.now }
+) -> Result<Vec<RowCursor<'a>>, Memory>
+    requires { ArePicksOnShelf shelf.now picks.now }
     ensures { IfOk result (λ cursors. length cursors.items ≡ length picks.now) }
 {
     let row = shelf.region().rows() - 1;
-    start_all(alloc, shelf, picks, row)
+    cursors_at_row_start(alloc, shelf, picks, row)
 }
 
 /// Moves all cursors to the first cell of a row.
-pub fn restart_all<'a>(cursors: &mut [Cursor<'a>], shelf: &'a Shelf, picks: &[usize], row: u32)
-    requires picked { ArePicks shelf.now picks.now }
+pub fn move_cursors_to_row_start<'a>(
+    cursors: &mut [RowCursor<'a>],
+    shelf: &'a Shelf,
+    picks: &[usize],
+    row: u32,
+)
+    requires picked { ArePicksOnShelf shelf.now picks.now }
     requires row_in_range { row < shelf.now.region.rows }
     requires width { length cursors.old ≡ length picks.now }
-    ensures cells { map to_come cursors.new ≡ map (row_in shelf.now.maps row) picks.now }
-    ensures width { AreWideRows shelf.now row picks.now }
-    ensures ready { All AreCursorsReady cursors.new }
+    ensures cells { map to_come cursors.new ≡ map
+        (row_of_map_at_place shelf.now.maps row) picks.now }
+    ensures width { RowsAreAsWideAsRegion shelf.now row picks.now }
+    ensures ready { All CursorHasNoEmptyLaterRun cursors.new }
 {
     for i in 0..picks.len() {
         cursors[i] = start(shelf.map(picks[i]), row);
@@ -131,7 +138,7 @@ pub fn restart_all<'a>(cursors: &mut [Cursor<'a>], shelf: &'a Shelf, picks: &[us
 }
 
 // Returns the smaller of two numbers of columns.
-fn lesser(a: u32, b: u32) -> u32
+fn lesser_column_count(a: u32, b: u32) -> u32
     ensures first { result ≤ a }
     ensures second { result ≤ b }
     ensures some { 0 < a → 0 < b → 0 < result }
@@ -142,13 +149,18 @@ fn lesser(a: u32, b: u32) -> u32
 /// Moves all cursors by `count` columns of their current runs, and writes the cells there. Returns for how many of the
 /// next `left` columns all cells stay the same.
 #[inline(always)]
-pub fn pass_all(cursors: &mut [Cursor], count: u32, left: u32, cells: &mut [Cell]) -> u32
+pub fn advance_cursors_and_write_cells(
+    cursors: &mut [RowCursor],
+    count: u32,
+    left: u32,
+    cells: &mut [Cell],
+) -> u32
     requires within { All (λ c. count ≤ c.left) cursors.old }
-    requires ready { All AreCursorsReady cursors.old }
+    requires ready { All CursorHasNoEmptyLaterRun cursors.old }
     requires width { length cells.old ≡ length cursors.old }
     ensures cells { cells.new ≡ map (λ c. c.cell) cursors.new }
     ensures passed { map to_come cursors.new ≡ map (λ c. drop count (to_come c)) cursors.old }
-    ensures ready { All AreCursorsReady cursors.new }
+    ensures ready { All CursorHasNoEmptyLaterRun cursors.new }
     ensures least { All (λ c. result ≤ c.left) cursors.new }
     ensures most { result ≤ left }
     ensures some { All (λ c. 0 < c.left) cursors.new → 0 < left → 0 < result }
@@ -158,7 +170,7 @@ pub fn pass_all(cursors: &mut [Cursor], count: u32, left: u32, cells: &mut [Cell
         let cursor = &mut cursors[i];
         cursor.pass(count);
         cells[i] = cursor.cell;
-        least = lesser(least, cursor.left);
+        least = lesser_column_count(least, cursor.left);
     }
     least
 }

@@ -5,14 +5,14 @@
 //! - `combination`: `Combo`, one cell of each map, ordered by the first, then the second, ..
 //! - `combination_text`: `Combo::read` reads cells separated by commas, or returns a `ComboFault`
 //! - `skip`: `Skip`, which combinations a table leaves out (flags `-n` and `-N`)
-//! - `selection`: `Selection`, the maps of a shelf that are tabulated, and the `Skip`
-//! - `cursor`: `Cursor` walks along a row by runs; `pass_all` walks over several maps at once
+//! - `selection`: `TabulatedMaps`, the maps of a shelf that are tabulated, and the `Skip`
+//! - `cursor`: `RowCursor` walks along a row by runs; `advance_cursors_and_write_cells` walks over several maps at once
 //! - `law`: a text is read as a combination if and only if it spells one
-//! - `ordered`: `ordered_entries` sorts a list of entries, with one entry per combination
-//! - `gathered`: `Gathered` keeps combinations of many maps side by side, and counts cells of them
-//! - `pair_place`: `PairPlace` keeps a combination of one or two maps with its count
-//! - `scattered`: `Ranks` numbers combinations in their order; `scatter` sorts places by these numbers, digit by digit
-//! - `codes`: `code_of` numbers a cell
+//! - `ordered`: `sorted_entries_with_summed_counts` sorts a list of entries, with one entry per combination
+//! - `gathered`: `CountedCombinations` keeps combinations of many maps side by side, and counts cells of them
+//! - `pair_place`: `CombinationCountSlot` keeps a combination of one or two maps with its count
+//! - `scattered`: `CombinationRanks` numbers combinations in their order; `sort_slots_by_digit` sorts places by these numbers, digit by digit
+//! - `codes`: `code_of_cell` numbers a cell
 //!
 //! Two categories, or null, from `text`:
 //!
@@ -21,7 +21,7 @@
 //! if combo.len() != 2 {
 //!     return Err(ComboFault::BadWidth);
 //! }
-//! let first = combo.get(0).get().unwrap_or(NULL);
+//! let first = combo.get(0).get().unwrap_or(NULL_CATEGORY);
 //! ```
 #![tactic(auto)]
 

@@ -3,28 +3,28 @@
 ghost use Rattle.std.specs.Prelude.{◌≡◌, ◌+◌, ◌<◌, IsTrue, length, take};
 ghost use Rattle.std.specs.declared.cmp.Ordering.TheVariants.{Less};
 ghost use Rattle.cell_stats_combinations.specs.Combinations.{combination_cmp};
-ghost use Rattle.cell_stats_combinations.specs.Listed.{HasNoZero, AreAscending, ListedFits, ListsSame};
-ghost use Rattle.cell_stats_combinations.specs.parts.Joined.{AreOfOne, CanAddUp, IsRising, JoinsMore};
+ghost use Rattle.cell_stats_combinations.specs.Listed.{NoEntryCountIsZero, CombinationsAreAscending, ListedCountsFitInSixtyFourBits, ListsHaveSameCounts};
+ghost use Rattle.cell_stats_combinations.specs.parts.Joined.{TellsIfCombinationsAreEqual, SumOfEqualEntriesFits, CombinationsNeverDescend, AddsUpOneMoreEntry};
 
 use crate::combination::Combo;
 use std::cmp::Ordering;
 
 // Returns whether two entries count the same combination.
-fn are_same(entries: &[(Combo, u64)], a: usize, b: usize) -> bool
+fn entries_have_same_combination(entries: &[(Combo, u64)], a: usize, b: usize) -> bool
     requires { (a < length entries.now) × (b < length entries.now) }
-    ensures { AreOfOne entries.now a b result }
+    ensures { TellsIfCombinationsAreEqual entries.now a b result }
 {
     entries[a].0 == entries[b].0
 }
 
 // Adds the entry at a place to the last entry if both have the same combination; otherwise keeps it as the next entry.
 // Returns the last place.
-fn take_in(entries: &mut [(Combo, u64)], last: usize, at: usize) -> usize
+fn add_up_or_keep_entry(entries: &mut [(Combo, u64)], last: usize, at: usize) -> usize
     requires places { (last < at) × (at < length entries.old) }
-    requires fits { CanAddUp entries.old last at }
-    ensures joined { JoinsMore entries.old last at entries.new result }
+    requires fits { SumOfEqualEntriesFits entries.old last at }
+    ensures joined { AddsUpOneMoreEntry entries.old last at entries.new result }
 {
-    if are_same(entries, at, last) {
+    if entries_have_same_combination(entries, at, last) {
         let more = entries[at].1;
         entries[last].1 += more;
         return last;
@@ -34,27 +34,27 @@ fn take_in(entries: &mut [(Combo, u64)], last: usize, at: usize) -> usize
 }
 
 // Adds up the entries of each combination in an ordered list, at its start. Returns the number of combinations.
-fn join(entries: &mut [(Combo, u64)]) -> usize
-    requires rising { IsRising entries.old }
-    requires fits { ListedFits entries.old }
-    requires no_zero { HasNoZero entries.old }
-    ensures ascending { AreAscending (take result entries.new) }
-    ensures counts { ListsSame entries.old (take result entries.new) }
-    ensures no_zero { HasNoZero (take result entries.new) }
+fn add_up_entries_of_combinations(entries: &mut [(Combo, u64)]) -> usize
+    requires rising { CombinationsNeverDescend entries.old }
+    requires fits { ListedCountsFitInSixtyFourBits entries.old }
+    requires no_zero { NoEntryCountIsZero entries.old }
+    ensures ascending { CombinationsAreAscending (take result entries.new) }
+    ensures counts { ListsHaveSameCounts entries.old (take result entries.new) }
+    ensures no_zero { NoEntryCountIsZero (take result entries.new) }
 {
     if entries.is_empty() {
         return 0;
     }
     let mut last = 0;
     for at in 1..entries.len() {
-        last = take_in(entries, last, at);
+        last = add_up_or_keep_entry(entries, last, at);
     }
     last + 1
 }
 
 // Returns whether a combination is less than another. In most cases, the first cells decide.
 #[inline(always)]
-fn is_less(one: &Combo, other: &Combo) -> bool
+fn combination_is_less(one: &Combo, other: &Combo) -> bool
     ensures { IsTrue result → combination_cmp one.now other.now ≡ Less }
 {
     let mine = one.cells();
@@ -66,11 +66,11 @@ fn is_less(one: &Combo, other: &Combo) -> bool
 }
 
 // Returns whether each combination is above the one before it.
-fn are_ascending(entries: &[(Combo, u64)]) -> bool
-    ensures { IsTrue result → AreAscending entries.now }
+fn entries_are_ascending(entries: &[(Combo, u64)]) -> bool
+    ensures { IsTrue result → CombinationsAreAscending entries.now }
 {
     for at in 1..entries.len() {
-        if !is_less(&entries[at - 1].0, &entries[at].0) {
+        if !combination_is_less(&entries[at - 1].0, &entries[at].0) {
             return false;
         }
     }
@@ -78,18 +78,18 @@ fn are_ascending(entries: &[(Combo, u64)]) -> bool
 }
 
 /// Sorts the list, with one entry per combination.
-pub fn ordered_entries(mut entries: Vec<(Combo, u64)>) -> Vec<(Combo, u64)>
-    requires fits { ListedFits entries.items }
-    requires no_zero { HasNoZero entries.items }
-    ensures ascending { AreAscending result.items }
-    ensures counts { ListsSame entries.items result.items }
-    ensures no_zero { HasNoZero result.items }
+pub fn sorted_entries_with_summed_counts(mut entries: Vec<(Combo, u64)>) -> Vec<(Combo, u64)>
+    requires fits { ListedCountsFitInSixtyFourBits entries.items }
+    requires no_zero { NoEntryCountIsZero entries.items }
+    ensures ascending { CombinationsAreAscending result.items }
+    ensures counts { ListsHaveSameCounts entries.items result.items }
+    ensures no_zero { NoEntryCountIsZero result.items }
 {
-    if are_ascending(&entries) {
+    if entries_are_ascending(&entries) {
         return entries;
     }
     entries.sort_unstable();
-    let kept = join(entries.as_mut_slice());
+    let kept = add_up_entries_of_combinations(entries.as_mut_slice());
     entries.truncate(kept);
     entries
 }

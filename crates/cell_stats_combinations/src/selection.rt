@@ -5,7 +5,7 @@ use cell_core::shelf::Shelf;
 
 /// Maps of a shelf that are tabulated together, and which of their combinations are left out.
 #[derive(Clone, Copy)]
-pub struct Selection<'a, 'b> {
+pub struct TabulatedMaps<'a, 'b> {
     /// The shelf.
     pub shelf: &'a Shelf,
     /// The indices of the maps on the shelf.

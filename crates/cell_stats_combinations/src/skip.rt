@@ -3,7 +3,7 @@
 ghost use Rattle.std.specs.Prelude.{◌≡◌};
 ghost use Rattle.std.specs.List.{list_any, list_all};
 ghost use Rattle.std.specs.Option.{is_none};
-ghost use Rattle.cell_stats_combinations.specs.LeftOut.{is_left_out};
+ghost use Rattle.cell_stats_combinations.specs.LeftOut.{combination_is_left_out};
 
 use cell_core::cell::Cell;
 
@@ -44,8 +44,8 @@ fn has_nulls_only(cells: &[Cell]) -> bool
 
 /// Returns whether a combination is left out. Inlined, because it is called for each run.
 #[inline(always)]
-pub fn is_left_out(skip: Skip, cells: &[Cell]) -> bool
-    ensures { result ≡ is_left_out skip cells.now }
+pub fn combination_is_left_out(skip: Skip, cells: &[Cell]) -> bool
+    ensures { result ≡ combination_is_left_out skip cells.now }
 {
     match skip {
         Skip::Nothing => false,

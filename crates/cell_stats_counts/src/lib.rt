@@ -1,8 +1,8 @@
 //! How many cells have each combination of the categories of several maps (GRASS manual: r.stats).
 //!
-//! - `counts`: `count_cells`, the counts of some maps of a shelf
+//! - `counts`: `combination_counts_of_maps`, the counts of some maps of a shelf
 //! - private: `counting`, which counts combinations of one or two maps in a table (`paired`, laid out by `ranges`,
-//!   listed by `rising` for one map), others side by side (`Gathered` of cell_stats_combinations); `alone`, one map by
+//!   listed by `rising` for one map), others side by side (`CountedCombinations` of cell_stats_combinations); `alone`, one map by
 //!   itself; `varied`, rows cell by cell
 #![tactic(auto)]
 

@@ -1,8 +1,8 @@
 //! The tests, one module per subject.
 
-mod areas_compared;
-mod areas_maps;
-mod areas_worked;
+mod clump_maps;
+mod clumps_compared;
+mod clumps_worked;
 mod compared;
 mod flood;
 mod growths;

@@ -6,11 +6,12 @@ use Rattle.std.proofs.lemmas.Option.{slice_get-get_or}
 use Rattle.std.proofs.Math.ListN.{set}
 use Rattle.std.specs.Prelude.{slice_get, slice_index_or, All}
 use Rattle.cell_core.specs.Grid.{Grid, CellValue}
-use Rattle.cell_calc.specs.Window.{IsOver, HasReach}
+use Rattle.cell_calc.specs.Window.{IsWindowOfMap, IsWindowAtRowWithReach}
 use Rattle.cell_calc_language.specs.Formula.{Formula}
-use Rattle.cell_calc_language.specs.Reach.{up_of, down_of}
-use Rattle.cell_calc.specs.Window.{Window, IsWindowOf}
-use Rattle.rcell.specs.parts.WindowsSet.{IsSet, AreSet, then_maps, picked_maps}
+use Rattle.cell_calc_language.specs.Reach.{rows_read_above_by_formula, rows_read_below_by_formula}
+use Rattle.cell_calc.specs.Window.{RowWindowValue, WindowHoldsMapRows}
+use Rattle.rcell.specs.parts.WindowsSet.{IsWindowAtRow, AreWindowsOfFirstMapsAtRow, maps_with_optional_first_map}
+use Rattle.rcell.specs.parts.WindowsSet.{maps_at_places}
 
 -- appending an item keeps the earlier items, and puts the item at the end
 pub before : {A : Type 0} (xs ys : List A) (i : ℕ) → i < length xs → slice_get (xs ++ ys) i ≡ slice_get xs i
@@ -25,29 +26,33 @@ behind (y ∷ xs) x zero e = absurd (let no : ⊥ = omega arith in no)
 behind (y ∷ xs) x (suc i) e = behind xs x i (omega arith)
 
 -- one more window is set at the first row of its map
-pub set_more : (f : Formula) (windows : List Window) (maps : List Grid) (n : ℕ) (w : Window) (m : Grid)
-    → length windows ≡ n → AreSet f n 0 windows maps → slice_get maps n ≡ Some m
-    → w.centre ≡ 0 → (w.above ≡ up_of n f) × (w.below ≡ down_of n f) → IsWindowOf w m
-    → AreSet f (n + 1) 0 (windows ++ w ∷ []) maps
+pub set_more : (f : Formula) (windows : List RowWindowValue) (maps : List Grid) (n : ℕ) (w : RowWindowValue) (m : Grid)
+    → length windows ≡ n → AreWindowsOfFirstMapsAtRow f n 0 windows maps → slice_get maps n ≡ Some m
+    → w.centre ≡ 0 → (w.above ≡ rows_read_above_by_formula n f) × (w.below ≡ rows_read_below_by_formula n f)
+    → WindowHoldsMapRows w m
+    → AreWindowsOfFirstMapsAtRow f (n + 1) 0 (windows ++ w ∷ []) maps
 set_more f windows maps n w m count set place centre reach window =
-    below_more (λ i. IsSet 0 (up_of i f) (down_of i f) (slice_get (windows ++ w ∷ []) i) (slice_get maps i)) n
+    below_more (λ i. IsWindowAtRow 0 (rows_read_above_by_formula i f) (rows_read_below_by_formula i f)
+    (slice_get (windows ++ w ∷ []) i) (slice_get maps i)) n
     (λ i lt. let short : i < length windows = omega arith in rw (before windows (w ∷ []) i short) (set i lt))
     (rw (behind windows w n count, place) (centre, (reach.0, (reach.1, window))))
 
 -- a window that is set is over its map
-pub set_over : (row up down : ℕ) (w : Option Window) (m : Option Grid) → IsSet row up down w m → IsOver w m
+pub set_over : (row up down : ℕ) (w : Option RowWindowValue) (m : Option Grid) → IsWindowAtRow row up down w m
+    → IsWindowOfMap w m
 set_over row up down None m h = h
 set_over row up down (Some w) None h = h
 set_over row up down (Some w) (Some m) h = h.1.1.1
 
-pub set_reach : (row up down : ℕ) (w : Option Window) (m : Option Grid) → IsSet row up down w m → HasReach row up down w
+pub set_reach : (row up down : ℕ) (w : Option RowWindowValue) (m : Option Grid) → IsWindowAtRow row up down w m
+    → IsWindowAtRowWithReach row up down w
 set_reach row up down None m h = h
 set_reach row up down (Some w) None h = absurd h
 set_reach row up down (Some w) (Some m) h = (h.0, (omega (arith, h.1.0), omega (arith, h.1.1.0)))
 
 -- a window that is read is over its map
-pub set_read : (row up down i : ℕ) (windows first : List Window) (d : Window) (maps : List Grid) (m : Grid) → i < length windows → slice_get windows i ≡ slice_get first i
-    → slice_get maps i ≡ Some m → IsSet row up down (slice_get first i) (slice_get maps i) → IsSet row up down (Some (get_or windows i d)) (Some m)
+pub set_read : (row up down i : ℕ) (windows first : List RowWindowValue) (d : RowWindowValue) (maps : List Grid) (m : Grid) → i < length windows → slice_get windows i ≡ slice_get first i
+    → slice_get maps i ≡ Some m → IsWindowAtRow row up down (slice_get first i) (slice_get maps i) → IsWindowAtRow row up down (Some (get_or windows i d)) (Some m)
 set_read row up down i windows first d maps m lt same place is = rw (sym same ∙ slice_get-get_or windows i d lt, place) at is
 
 -- setting an item changes that item
@@ -63,14 +68,15 @@ set_other (y ∷ xs) zero (suc k) x apart = refl
 set_other (y ∷ xs) (suc i) zero x apart = refl
 set_other (y ∷ xs) (suc i) (suc k) x apart = set_other xs i k x (λ e. apart (ap suc e))
 
-pub moved_set : (f : Formula) (row i : ℕ) (windows : List Window) (maps : List Grid) (w : Window) (m : Grid) → i < length windows → AreSet f i (row + 1) windows maps
-    → slice_get maps i ≡ Some m → IsSet (row + 1) (up_of i f) (down_of i f) (Some w) (Some m) → AreSet f (i + 1) (row + 1) (set windows i w) maps
+pub moved_set : (f : Formula) (row i : ℕ) (windows : List RowWindowValue) (maps : List Grid) (w : RowWindowValue) (m : Grid) → i < length windows → AreWindowsOfFirstMapsAtRow f i (row + 1) windows maps
+    → slice_get maps i ≡ Some m → IsWindowAtRow (row + 1) (rows_read_above_by_formula i f) (rows_read_below_by_formula i f) (Some w) (Some m) → AreWindowsOfFirstMapsAtRow f (i + 1) (row + 1) (set windows i w) maps
 moved_set f row i windows maps w m within done place here =
-    below_more (λ k. IsSet (row + 1) (up_of k f) (down_of k f) (slice_get (set windows i w) k) (slice_get maps k)) i
+    below_more (λ k. IsWindowAtRow (row + 1) (rows_read_above_by_formula k f) (rows_read_below_by_formula k f)
+    (slice_get (set windows i w) k) (slice_get maps k)) i
     (λ k lt. rw (set_other windows i k w (λ e. omega arith)) (done k lt))
     (rw (set_here windows i w within, place) here)
 
-pub moved_rest : (windows first : List Window) (i : ℕ) (w : Window) → ((k : ℕ) → i ≤ k → slice_get windows k ≡ slice_get first k)
+pub moved_rest : (windows first : List RowWindowValue) (i : ℕ) (w : RowWindowValue) → ((k : ℕ) → i ≤ k → slice_get windows k ≡ slice_get first k)
     → (k : ℕ) → i + 1 ≤ k → slice_get (set windows i w) k ≡ slice_get first k
 moved_rest windows first i w rest k past = set_other windows i k w (λ e. omega arith) ∙ rest k (omega arith)
 
@@ -106,28 +112,29 @@ got (m ∷ maps) zero lt e = cc
 got (m ∷ maps) (suc i) lt e = got maps i (omega arith) e
 
 -- a map put before others is the first map
-pub first : (o : Option Grid) (maps : List Grid) → (o ≡ None → ⊥) → slice_get (then_maps o maps) zero ≡ o
+pub first : (o : Option Grid) (maps : List Grid) → (o ≡ None → ⊥)
+    → slice_get (maps_with_optional_first_map o maps) zero ≡ o
 first None maps some = absurd (some refl)
 first (Some m) maps some = refl
 
-pub others : (o : Option Grid) (maps : List Grid) (k : ℕ) → (o ≡ None → ⊥) → slice_get (then_maps o maps) (suc k) ≡ slice_get maps k
+pub others : (o : Option Grid) (maps : List Grid) (k : ℕ) → (o ≡ None → ⊥) → slice_get (maps_with_optional_first_map o maps) (suc k) ≡ slice_get maps k
 others None maps k some = absurd (some refl)
 others (Some m) maps k some = refl
 
 -- the maps picked are the maps at the places
 pub picked_at : (places : List ℕ) (maps : List Grid) → All (λ place. place < length maps) places
-    → (k i : ℕ) → slice_get places k ≡ Some i → slice_get (picked_maps places maps) k ≡ slice_get maps i
+    → (k i : ℕ) → slice_get places k ≡ Some i → slice_get (maps_at_places places maps) k ≡ slice_get maps i
 picked_at [] maps within k i e = cc
 picked_at (p ∷ places) maps within zero i e =
     let same : p ≡ i = cc in
-    first (slice_get maps p) (picked_maps places maps) (got maps p (within zero p (omega arith))) ∙ ap (λ j. slice_get maps j) same
+    first (slice_get maps p) (maps_at_places places maps) (got maps p (within zero p (omega arith))) ∙ ap (λ j. slice_get maps j) same
 picked_at (p ∷ places) maps within (suc k) i e =
-    others (slice_get maps p) (picked_maps places maps) k (got maps p (within zero p (omega arith)))
+    others (slice_get maps p) (maps_at_places places maps) k (got maps p (within zero p (omega arith)))
     ∙ picked_at places maps (All-tail (λ place. place < length maps) p places within) k i e
 
 -- each place read from the list has its map
 pub map_read : (places : List ℕ) (maps : List Grid) (i d : ℕ) (m : Grid) → All (λ place. place < length maps) places → i < length places
-    → slice_get maps (get_or places i d) ≡ Some m → slice_get (picked_maps places maps) i ≡ Some m
+    → slice_get maps (get_or places i d) ≡ Some m → slice_get (maps_at_places places maps) i ≡ Some m
 map_read places maps i d m within lt e = picked_at places maps within i (get_or places i d) (slice_get-get_or places i d lt) ∙ e
 
 -- appending rows does not change earlier rows

@@ -1,16 +1,16 @@
 //! Executes statements in order. A statement that makes a map adds it to the shelf; any other writes its text.
 
 ghost use Rattle.std.specs.Prelude.{◌≡◌, OnOk, OnErr, IfOk, IfErr};
-ghost use Rattle.cell_core_devices.specs.Device.{after_put};
-ghost use Rattle.cell_core_devices.specs.Blocks.{Appends};
-ghost use Rattle.rcell_script.specs.FittingCommands.{FitsCommand};
-ghost use Rattle.rcell_script.specs.FittingScripts.{Fits};
-ghost use Rattle.rcell.specs.After.{IsShelfAfter};
-ghost use Rattle.rcell.specs.Output.{command_text};
-ghost use Rattle.rcell.specs.runs.Execution.{stops_write, Stops};
-ghost use Rattle.rcell.specs.runs.Outcomes.{IsDone};
+ghost use Rattle.cell_core_devices.specs.Device.{faults_after_put};
+ghost use Rattle.cell_core_devices.specs.Blocks.{IsTextAppendedThroughBlock};
+ghost use Rattle.rcell_script.specs.FittingCommands.{CommandFitsKnownMaps};
+ghost use Rattle.rcell_script.specs.FittingScripts.{StatementsFitKnownMaps};
+ghost use Rattle.rcell.specs.After.{IsShelfAfterCommand};
+ghost use Rattle.rcell.specs.Output.{command_output_text};
+ghost use Rattle.rcell.specs.runs.Execution.{is_stopped_by_failed_write, Stops};
+ghost use Rattle.rcell.specs.runs.Outcomes.{IsFullOutputWritten};
 
-use crate::making::make_map;
+use crate::making::add_map_made_by_command;
 use crate::tables::write_stats;
 use cell_ascii::writer::write_grid;
 use cell_core::block::OutputBlock;
@@ -22,7 +22,7 @@ use std::alloc::Global;
 
 /// Why an execution stopped.
 #[derive(Clone, Copy)]
-pub enum RunStop {
+pub enum ExecutionStopReason {
     /// Memory ran out at the statement of this line.
     Memory { line: u64 },
     /// A write failed.
@@ -31,27 +31,27 @@ pub enum RunStop {
 
 /// Why an execution stopped, and the number of bytes that the sink accepted.
 #[derive(Clone, Copy)]
-pub struct Stopped {
-    pub stop: RunStop,
+pub struct StoppedExecution {
+    pub stop: ExecutionStopReason,
     pub written: u64,
 }
 
 // Builds the result if a write failed after `written` bytes.
-fn stopped_by(written: u64) -> Stopped
-    ensures { result ≡ record { stop = RunStop.Write; written = written } }
+fn stopped_by_failed_write(written: u64) -> StoppedExecution
+    ensures { result ≡ record { stop = ExecutionStopReason.Write; written = written } }
 {
-    Stopped {
-        stop: RunStop::Write,
+    StoppedExecution {
+        stop: ExecutionStopReason::Write,
         written,
     }
 }
 
 // Builds the result if memory ran out after `written` bytes.
-fn out_of_memory(line: u64, written: u64) -> Stopped
-    ensures { result ≡ record { stop = RunStop.Memory line; written = written } }
+fn stopped_out_of_memory(line: u64, written: u64) -> StoppedExecution
+    ensures { result ≡ record { stop = ExecutionStopReason.Memory line; written = written } }
 {
-    Stopped {
-        stop: RunStop::Memory { line },
+    StoppedExecution {
+        stop: ExecutionStopReason::Memory { line },
         written,
     }
 }
@@ -64,10 +64,11 @@ fn execute_command<W: Sink>(
     block: &mut OutputBlock,
     out: &mut W,
 ) -> Result<(), Memory>
-    requires { FitsCommand shelf.old.names command.now }
-    ensures after { OnOk result (IsShelfAfter shelf.old command.now shelf.new) }
+    requires { CommandFitsKnownMaps shelf.old.names command.now }
+    ensures after { OnOk result (IsShelfAfterCommand shelf.old command.now shelf.new) }
     ensures ok { OnOk result
-        (Appends W.taken W.faults out.old block.old (command_text shelf.old command.now)
+        (IsTextAppendedThroughBlock W.taken W.faults out.old block.old
+        (command_output_text shelf.old command.now)
         out.new block.new) }
     ensures err { OnErr result ((out.new ≡ out.old) × (block.new ≡ block.old)) }
 {
@@ -80,9 +81,9 @@ fn execute_command<W: Sink>(
             write_grid(out, block, shelf.map(*place), null_text.bytes());
             Ok(())
         }
-        Command::Mapcalc { .. } => make_map(alloc, shelf, command),
-        Command::Reclass { .. } => make_map(alloc, shelf, command),
-        Command::Clump { .. } => make_map(alloc, shelf, command),
+        Command::Mapcalc { .. } => add_map_made_by_command(alloc, shelf, command),
+        Command::Reclass { .. } => add_map_made_by_command(alloc, shelf, command),
+        Command::Clump { .. } => add_map_made_by_command(alloc, shelf, command),
     }
 }
 
@@ -92,29 +93,31 @@ fn execute_command<W: Sink>(
 ///
 /// Each error contains the number of bytes that the sink accepted:
 ///
-/// - [`RunStop::Memory`] if memory runs out, with the line of the statement, for which nothing is written
-/// - [`RunStop::Write`] if the sink fails
+/// - [`ExecutionStopReason::Memory`] if memory runs out, with the line of the statement, for which nothing is written
+/// - [`ExecutionStopReason::Write`] if the sink fails
 pub fn execute<W: Sink>(
     alloc: Global,
     shelf: &mut Shelf,
     statements: &[Statement],
     out: &mut W,
-) -> Result<u64, Stopped>
-    requires { Fits shelf.old.names statements.now }
+) -> Result<u64, StoppedExecution>
+    requires { StatementsFitKnownMaps shelf.old.names statements.now }
     ensures ok { IfOk result
-        (λ written. IsDone shelf.old statements.now (W.taken out.old) (W.taken out.new) written) }
+        (λ written. IsFullOutputWritten shelf.old statements.now (W.taken out.old)
+        (W.taken out.new) written) }
     ensures err { IfErr result
         (λ s. Stops shelf.old statements.now (W.taken out.old) (W.taken out.new) s.written s.stop) }
-    ensures faults { W.faults out.new ≡ after_put (W.faults out.old) (stops_write result) }
+    ensures faults { W.faults out.new ≡ faults_after_put (W.faults out.old)
+        (is_stopped_by_failed_write result) }
 {
     let mut block = OutputBlock::new();
     for statement in statements {
         match execute_command(alloc, shelf, &statement.command, &mut block, out) {
             Ok(()) => block.empty(out),
-            Err(_) => return Err(out_of_memory(statement.line, block.written())),
+            Err(_) => return Err(stopped_out_of_memory(statement.line, block.written())),
         }
         if block.has_failed() {
-            return Err(stopped_by(block.written()));
+            return Err(stopped_by_failed_write(block.written()));
         }
     }
     Ok(block.written())

@@ -3,10 +3,10 @@
 //! works on sources and sinks, and opens no files.
 //!
 //! - `run`, in private `running`: reads all grids, then the script, and then executes the statements
-//! - `outcome`: `Ran`: the outcome of a run, and its sources after their last reads. `Outcome`: the exit status, the
+//! - `outcome`: `OutcomeWithSources`: the outcome of a run, and its sources after their last reads. `Outcome`: the exit status, the
 //!   number of bytes written, and the `RunFault` (in `run_fault`). The status is 1 for bad input, 3 if memory runs out,
 //!   4 if a read or write fails
-//! - `report`: `fault_line`, the error line `rcell: SOURCE:LINE: TEXT`
+//! - `report`: `fault_report_line`, the error line `rcell: SOURCE:LINE_BUFFER_BYTES: TEXT`
 //! - `loading`, `script_bytes`: read the grids onto a shelf, and the bytes of the script
 //! - `making`, `map_of_values`: make the maps of statements; `evaluate` makes the map of an expression
 //! - `execution`: `execute` executes the statements in order
@@ -41,7 +41,7 @@ pub mod script_bytes;
 pub(crate) mod tables;
 
 pub use map_of_values::evaluate;
-pub use outcome::{Outcome, Ran, RunFault};
+pub use outcome::{Outcome, OutcomeWithSources, RunFault};
 pub use rcell_script::script_fault::{ScriptFault, ScriptKind};
 pub use rcell_script::script_parsing::parse_script;
 pub use running::run;

@@ -1,7 +1,7 @@
 //! The outcome of a run.
 
 ghost use Rattle.std.specs.Prelude.{◌≡◌};
-ghost use Rattle.rcell.specs.runs.Statuses.{grid_status, script_status, fault_status};
+ghost use Rattle.rcell.specs.runs.Statuses.{exit_status_of_grid_kind, exit_status_of_script_kind, exit_status_of_run_fault};
 
 pub use crate::run_fault::RunFault;
 use cell_ascii::grid_fault::GridKind;
@@ -20,7 +20,7 @@ pub struct Outcome {
 
 /// The outcome of a run, and its sources after their last reads.
 #[derive(Drop)]
-pub struct Ran<R> {
+pub struct OutcomeWithSources<R> {
     /// The outcome of the run.
     pub outcome: Outcome,
     /// The source of the script.
@@ -29,8 +29,8 @@ pub struct Ran<R> {
     pub grids: Vec<R>,
 }
 
-fn grid_status(kind: GridKind) -> u8
-    ensures { result ≡ grid_status kind }
+fn exit_status_of_grid_kind(kind: GridKind) -> u8
+    ensures { result ≡ exit_status_of_grid_kind kind }
 {
     match kind {
         GridKind::Read => 4,
@@ -39,8 +39,8 @@ fn grid_status(kind: GridKind) -> u8
     }
 }
 
-fn script_status(kind: ScriptKind) -> u8
-    ensures { result ≡ script_status kind }
+fn exit_status_of_script_kind(kind: ScriptKind) -> u8
+    ensures { result ≡ exit_status_of_script_kind kind }
 {
     match kind {
         ScriptKind::Memory => 3,
@@ -49,16 +49,16 @@ fn script_status(kind: ScriptKind) -> u8
 }
 
 /// Returns the exit status for an error.
-pub fn status_of(fault: RunFault) -> u8
-    ensures { result ≡ fault_status fault }
+pub fn exit_status_of_fault(fault: RunFault) -> u8
+    ensures { result ≡ exit_status_of_run_fault fault }
 {
     match fault {
         RunFault::GridTwice { .. } => 1,
         RunFault::GridRegion { .. } => 1,
-        RunFault::Grid { grid: _, fault } => grid_status(fault.kind),
+        RunFault::Grid { grid: _, fault } => exit_status_of_grid_kind(fault.kind),
         RunFault::ScriptRead => 4,
         RunFault::ScriptSize => 1,
-        RunFault::Script(fault) => script_status(fault.kind),
+        RunFault::Script(fault) => exit_status_of_script_kind(fault.kind),
         RunFault::Memory { .. } => 3,
         RunFault::Write => 4,
     }

@@ -2,7 +2,7 @@
 
 ghost use Rattle.std.specs.Prelude.{◌≡◌};
 ghost use Rattle.std.specs.Option.{option_map};
-ghost use Rattle.rcell.specs.Reports.{name_at_place, fault_source, fault_line_number, text_of, line_parts};
+ghost use Rattle.rcell.specs.Reports.{grid_name_at_place, source_name_of_fault, fault_line_number, text_of_run_fault, fault_report_line_parts};
 
 use crate::outcome::{Outcome, RunFault};
 use bstr::ByteSlice;
@@ -14,7 +14,7 @@ use thiserror::Error;
 
 /// The text of a run's error.
 #[derive(Clone, Copy, Debug, PartialEq, Eq, Error)]
-pub enum FaultText {
+pub enum FaultReportText {
     #[error("name used twice")]
     GridTwice,
     #[error("other region")]
@@ -33,15 +33,15 @@ pub enum FaultText {
     Write { written: u64 },
 }
 
-/// A line `rcell: SOURCE:LINE: TEXT` (profile). The line number is 0 if the error has none.
+/// A line `rcell: SOURCE:LINE_BUFFER_BYTES: TEXT` (profile). The line number is 0 if the error has none.
 #[derive(Clone, Copy, Debug)]
-pub struct FaultLine<'a, T> {
+pub struct FaultReportLine<'a, T> {
     pub source: &'a [u8],
     pub line: u64,
     pub text: T,
 }
 
-impl<'a, T: fmt::Display> fmt::Display for FaultLine<'a, T> {
+impl<'a, T: fmt::Display> fmt::Display for FaultReportLine<'a, T> {
     fn fmt<W: fmt::Write>(&self, f: &mut fmt::Formatter<W>) -> fmt::Result {
         let source = self.source.as_bstr();
         let line = self.line;
@@ -50,8 +50,8 @@ impl<'a, T: fmt::Display> fmt::Display for FaultLine<'a, T> {
     }
 }
 
-fn name_at<'a>(names: &'a [Name], grid: usize) -> &'a [u8]
-    ensures { result.now ≡ name_at_place names.now grid }
+fn grid_name_by_place<'a>(names: &'a [Name], grid: usize) -> &'a [u8]
+    ensures { result.now ≡ grid_name_at_place names.now grid }
 {
     match names.get(grid) {
         Some(name) => name.bytes(),
@@ -59,13 +59,13 @@ fn name_at<'a>(names: &'a [Name], grid: usize) -> &'a [u8]
     }
 }
 
-fn fault_source<'a>(names: &'a [Name], fault: RunFault) -> &'a [u8]
-    ensures { result.now ≡ fault_source names.now fault }
+fn source_name_of_fault<'a>(names: &'a [Name], fault: RunFault) -> &'a [u8]
+    ensures { result.now ≡ source_name_of_fault names.now fault }
 {
     match fault {
-        RunFault::GridTwice { grid } => name_at(names, grid),
-        RunFault::GridRegion { grid } => name_at(names, grid),
-        RunFault::Grid { grid, fault: _ } => name_at(names, grid),
+        RunFault::GridTwice { grid } => grid_name_by_place(names, grid),
+        RunFault::GridRegion { grid } => grid_name_by_place(names, grid),
+        RunFault::Grid { grid, fault: _ } => grid_name_by_place(names, grid),
         RunFault::ScriptRead => b"script",
         RunFault::ScriptSize => b"script",
         RunFault::Script(_) => b"script",
@@ -89,32 +89,35 @@ fn fault_line_number(fault: RunFault) -> u64
     }
 }
 
-fn text_of(written: u64, fault: RunFault) -> FaultText
-    ensures { result ≡ text_of written fault }
+fn text_of_run_fault(written: u64, fault: RunFault) -> FaultReportText
+    ensures { result ≡ text_of_run_fault written fault }
 {
     match fault {
-        RunFault::GridTwice { .. } => FaultText::GridTwice,
-        RunFault::GridRegion { .. } => FaultText::GridRegion,
-        RunFault::Grid { grid: _, fault } => FaultText::Grid(fault.kind),
-        RunFault::ScriptRead => FaultText::ScriptRead,
-        RunFault::ScriptSize => FaultText::ScriptSize,
-        RunFault::Script(fault) => FaultText::Script(fault.kind),
-        RunFault::Memory { .. } => FaultText::Memory,
-        RunFault::Write => FaultText::Write { written },
+        RunFault::GridTwice { .. } => FaultReportText::GridTwice,
+        RunFault::GridRegion { .. } => FaultReportText::GridRegion,
+        RunFault::Grid { grid: _, fault } => FaultReportText::Grid(fault.kind),
+        RunFault::ScriptRead => FaultReportText::ScriptRead,
+        RunFault::ScriptSize => FaultReportText::ScriptSize,
+        RunFault::Script(fault) => FaultReportText::Script(fault.kind),
+        RunFault::Memory { .. } => FaultReportText::Memory,
+        RunFault::Write => FaultReportText::Write { written },
     }
 }
 
 /// Returns the line that reports the error of an outcome, or `None` if there is no error. `names` contains the names of
 /// the grids, in the order of the run. If a name is missing, the source is empty. Allocates no memory.
-pub fn fault_line<'a>(outcome: &Outcome, names: &'a [Name]) -> Option<FaultLine<'a, FaultText>>
+pub fn fault_report_line<'a>(
+    outcome: &Outcome,
+    names: &'a [Name],
+) -> Option<FaultReportLine<'a, FaultReportText>>
     ensures { option_map (λ reported. (reported.source.now, (reported.line, reported.text))) result
-        ≡ option_map (line_parts names.now outcome.now.written) outcome.now.fault }
+        ≡ option_map (fault_report_line_parts names.now outcome.now.written) outcome.now.fault }
 {
     match outcome.fault {
-        Some(fault) => Some(FaultLine {
-            source: fault_source(names, fault),
+        Some(fault) => Some(FaultReportLine {
+            source: source_name_of_fault(names, fault),
             line: fault_line_number(fault),
-            text: text_of(outcome.written, fault),
+            text: text_of_run_fault(outcome.written, fault),
         }),
         None => None,
     }

@@ -2,26 +2,26 @@
 
 ghost use Rattle.std.specs.Prelude.{◌≡◌, ◌<◌, ◌≤◌, All, length, OnOk, OnErr, IfSome};
 ghost use Rattle.std.specs.Option.{option_map};
-ghost use Rattle.cell_core_devices.specs.Blocks.{Appends};
-ghost use Rattle.rcell.specs.Output.{stats_text, format_of};
+ghost use Rattle.cell_core_devices.specs.Blocks.{IsTextAppendedThroughBlock};
+ghost use Rattle.rcell.specs.Output.{stats_text, table_format_of_stats_options};
 
 use cell_core::block::OutputBlock;
 use cell_core::memory::Memory;
 use cell_core::shelf::Shelf;
 use cell_core::sink::Sink;
 use cell_stats::combination::Combo;
-use cell_stats::format::Format;
-use cell_stats::printed_cells::{CellWalk, write_cells};
+use cell_stats::format::TableFormat;
+use cell_stats::printed_cells::{CellWalkMemory, write_line_for_each_cell};
 use cell_stats::printing::write_table;
 use cell_stats::tallying::tally;
 use rcell_script::statement::StatsOptions;
 use std::alloc::Global;
 
 // Returns the format that the options specify.
-fn format_of<'a>(options: &'a StatsOptions) -> Format<'a>
-    ensures { result ≡ format_of options.now }
+fn table_format_of_stats_options<'a>(options: &'a StatsOptions) -> TableFormat<'a>
+    ensures { result ≡ table_format_of_stats_options options.now }
 {
-    Format::new(
+    TableFormat::new(
         options.separator,
         options.null_text.bytes(),
         options.labels,
@@ -30,7 +30,7 @@ fn format_of<'a>(options: &'a StatsOptions) -> Format<'a>
 }
 
 // Returns the combination after which the table continues, if any.
-fn combination_before<'a>(options: &'a StatsOptions) -> Option<&'a Combo>
+fn combination_to_continue_after<'a>(options: &'a StatsOptions) -> Option<&'a Combo>
     ensures { option_map (λ k. k.now) result ≡ options.now.after }
 {
     match &options.after {
@@ -57,22 +57,23 @@ pub fn write_stats<W: Sink>(
     requires most { length places.now ≤ 16 }
     requires width { IfSome options.now.after (λ k. length k ≡ length places.now) }
     ensures ok { OnOk result
-        (Appends W.taken W.faults out.old block.old (stats_text shelf.now places.now options.now)
+        (IsTextAppendedThroughBlock W.taken W.faults out.old block.old
+        (stats_text shelf.now places.now options.now)
         out.new block.new) }
     ensures err { OnErr result ((out.new ≡ out.old) × (block.new ≡ block.old)) }
 {
-    let format = format_of(options);
+    let format = table_format_of_stats_options(options);
     if options.cells {
-        let Ok(walk) = CellWalk::new(alloc, shelf, places) else {
+        let Ok(walk) = CellWalkMemory::new(alloc, shelf, places) else {
             return Err(Memory);
         };
-        write_cells(out, block, walk, shelf, places, options.skip, &format);
+        write_line_for_each_cell(out, block, walk, shelf, places, options.skip, &format);
         return Ok(());
     }
     let Ok(table) = tally(alloc, shelf, places, options.skip) else {
         return Err(Memory);
     };
-    let after = combination_before(options);
+    let after = combination_to_continue_after(options);
     write_table(out, block, &table, after, shelf, places, &format);
     Ok(())
 }

@@ -12,12 +12,12 @@ use Rattle.clap.specs.Takes.{default_passes, entered_passes, is_valid, settle_pa
 use Rattle.clap.specs.Words.{all_of, first_of, is_simple, matches_of}
 use Rattle.clap.specs.declared.builder.value_parser.Reading.TheVariants.{AsWritten}
 use Rattle.clap.specs.declared.parser.matches.ValueSource.TheVariants.{CommandLine}
-use Rattle.rcell_command.specs.CommandWords.{begins_with_hyphen, is_command}
-use Rattle.rcell_command.specs.parts.ClapWords.{command_line}
+use Rattle.rcell_command.specs.CommandWords.{begins_with_hyphen, is_valid_command_line}
+use Rattle.rcell_command.specs.parts.ClapWords.{clap_command_line}
 
 -- the rules of the command, which do not depend on the program's name
 abbrev rules : List Rule
-rules = (built (command_line [])).top.rules
+rules = (built (clap_command_line [])).top.rules
 
 abbrev first_row : Text → Row
 first_row first = record {
@@ -69,7 +69,7 @@ no_short : (word : Text) → begins_with_hyphen word ≡ false → short_of word
 no_short [] plain = refl
 no_short (byte ∷ rest) plain = rw plain refl
 
-pub is_simple_line : (program : Text) → is_simple (command_line program) ≡ true
+pub is_simple_line : (program : Text) → is_simple (clap_command_line program) ≡ true
 is_simple_line program = refl
 
 apart : {X : Type 0} → false ≡ true → X
@@ -111,20 +111,21 @@ walk_is first second rest plain =
     ∙ ap (λ w. fold (walked rules []) w rest) (second_walked first second) ∙ words_walked first (second ∷ []) rest
 
 matches_are : (program own first second : Text) (rest : List Text) → begins_with_hyphen first ≡ false
-    → matches_of (command_line program) (own ∷ first ∷ second ∷ rest) ≡ first_row first ∷ rest_row (second ∷ rest) ∷ []
+    → matches_of (clap_command_line program) (own ∷ first ∷ second ∷ rest) ≡ first_row first
+    ∷ rest_row (second ∷ rest) ∷ []
 matches_are program own first second rest plain = ap (λ w. finished rules w.held) (walk_is first second rest plain)
 
 -- the words that clap finds are all words after the first, in order
 pub words_asked : (program : Text) (words : List Text) (first : Text) (rest : List Text)
-    → is_command (drop 1 words) ≡ true
-    → first_of (codes "FIRST") (matches_of (command_line program) words) ≡ Some first
-    → all_of (codes "REST") (matches_of (command_line program) words) ≡ Some rest → drop 1 words ≡ first ∷ rest
+    → is_valid_command_line (drop 1 words) ≡ true
+    → first_of (codes "FIRST") (matches_of (clap_command_line program) words) ≡ Some first
+    → all_of (codes "REST") (matches_of (clap_command_line program) words) ≡ Some rest → drop 1 words ≡ first ∷ rest
 words_asked program [] first rest good one others = apart good
 words_asked program (own ∷ []) first rest good one others = apart good
 words_asked program (own ∷ word ∷ []) first rest good one others = apart good
 words_asked program (own ∷ word ∷ second ∷ words) first rest good one others =
     let are = matches_are program own word second words (plain_of _ good) in
-    let rows = matches_of (command_line program) (own ∷ word ∷ second ∷ words) in
+    let rows = matches_of (clap_command_line program) (own ∷ word ∷ second ∷ words) in
     let first_is : first_of (codes "FIRST") rows ≡ Some word =
     ap (first_of (codes "FIRST")) are in
     let rest_is : all_of (codes "REST") rows ≡ Some (second ∷ words) =
@@ -132,9 +133,9 @@ words_asked program (own ∷ word ∷ second ∷ words) first rest good one othe
     cc
 
 -- clap finds all words if there are enough of them
-pub words_found : (program : Text) (words : List Text) → is_command (drop 1 words) ≡ true
-    → (is_some (first_of (codes "FIRST") (matches_of (command_line program) words)) ≡ true)
-    × (is_some (all_of (codes "REST") (matches_of (command_line program) words)) ≡ true)
+pub words_found : (program : Text) (words : List Text) → is_valid_command_line (drop 1 words) ≡ true
+    → (is_some (first_of (codes "FIRST") (matches_of (clap_command_line program) words)) ≡ true)
+    × (is_some (all_of (codes "REST") (matches_of (clap_command_line program) words)) ≡ true)
 words_found program [] good = apart good
 words_found program (own ∷ []) good = apart good
 words_found program (own ∷ word ∷ []) good = apart good
@@ -150,7 +151,7 @@ all_pass (word ∷ words) = all_pass words
 
 module _ (program : Text) where
   abbrev shape : Shape
-  shape = (built (command_line program)).top
+  shape = (built (clap_command_line program)).top
 
   rest_passes : (first : Text) (rest words : List Text) → walk_passes shape [] (at_rest first rest) words ≡ true
   unfolding walk_passes
@@ -162,14 +163,14 @@ module _ (program : Text) where
 
   -- the condition on the end of the walk under which the words are accepted
   abbrev ends : List Text → Walk → Bool
-  ends words end = entered_passes (built (command_line program)) end.stopped
+  ends words end = entered_passes (built (clap_command_line program)) end.stopped
       && (walk_passes shape [] (walk_from nothing_held) words
       && (settle_passes rules shape.args_override_self end.held
       && (list_all default_passes rules && is_valid shape (finished rules end.held)
-      (is_some (entered (built (command_line program)) end.stopped)))))
+      (is_some (entered (built (clap_command_line program)) end.stopped)))))
 
   taken_by_end : (own : Text) (words : List Text) → ends words (walk rules [] nothing_held words) ≡ true
-      → takes (command_line program) (own ∷ words) ≡ true
+      → takes (clap_command_line program) (own ∷ words) ≡ true
   taken_by_end own words good = good
 
   walk_passed : (first second : Text) (rest : List Text) → begins_with_hyphen first ≡ false
@@ -188,8 +189,8 @@ module _ (program : Text) where
       (first_walked first plain) ∙ others)
 
   -- two words or more are accepted if the first does not begin with a hyphen
-  pub words_taken : (words : List Text) → length words ≤ usize_max → is_command (drop 1 words) ≡ true
-      → takes (command_line program) words ≡ true
+  pub words_taken : (words : List Text) → length words ≤ usize_max → is_valid_command_line (drop 1 words) ≡ true
+      → takes (clap_command_line program) words ≡ true
   words_taken [] few good = apart good
   words_taken (own ∷ []) few good = apart good
   words_taken (own ∷ word ∷ []) few good = apart good

@@ -9,10 +9,10 @@ begins_with_hyphen [] = false
 begins_with_hyphen (b ∷ rest) = b == byte (codes "-")
 
 -- some word begins with a hyphen
-abbrev pub has_hyphen_word : List (List ℕ) → Bool
-has_hyphen_word words = list_any begins_with_hyphen words
+abbrev pub has_word_starting_with_hyphen : List (List ℕ) → Bool
+has_word_starting_with_hyphen words = list_any begins_with_hyphen words
 
 -- there are at least two words, and the first does not begin with a hyphen
-abbrev pub is_command : List (List ℕ) → Bool
-is_command (first ∷ word ∷ words) = not (begins_with_hyphen first)
-is_command words = false
+abbrev pub is_valid_command_line : List (List ℕ) → Bool
+is_valid_command_line (first ∷ word ∷ words) = not (begins_with_hyphen first)
+is_valid_command_line words = false

@@ -5,8 +5,8 @@ ghost use Rattle.std.specs.List.{list_any};
 ghost use Rattle.std.specs.String.{string_bytes};
 ghost use Rattle.clap.specs.Walk.{texts};
 ghost use Rattle.clap.specs.Words.{app_of};
-ghost use Rattle.rcell_command.specs.CommandWords.{begins_with_hyphen, has_hyphen_word, is_command};
-ghost use Rattle.rcell_command.specs.parts.ClapWords.{FindsAll, command_line};
+ghost use Rattle.rcell_command.specs.CommandWords.{begins_with_hyphen, has_word_starting_with_hyphen, is_valid_command_line};
+ghost use Rattle.rcell_command.specs.parts.ClapWords.{ClapFindsAllWords, clap_command_line};
 
 use clap::error::ErrorKind;
 use clap::{Arg, ArgAction, ArgMatches, Command};
@@ -18,22 +18,22 @@ fn begins_with_hyphen(word: &str) -> bool
     word.as_bytes().first() == Some(&b'-')
 }
 
-fn any_with_hyphen(words: &[&str]) -> bool
+fn any_word_starts_with_hyphen(words: &[&str]) -> bool
     ensures { result ≡ list_any (λ word. begins_with_hyphen word.now) words.now }
 {
     words.iter().any(|word| begins_with_hyphen(word))
 }
 
 /// Returns whether a word begins with a hyphen.
-pub fn has_hyphen_word(words: &[&str]) -> bool
-    ensures { result ≡ has_hyphen_word (texts words.now) }
+pub fn has_word_starting_with_hyphen(words: &[&str]) -> bool
+    ensures { result ≡ has_word_starting_with_hyphen (texts words.now) }
 {
-    any_with_hyphen(words)
+    any_word_starts_with_hyphen(words)
 }
 
 // Returns whether at least two words follow the program's own name, and the first of them does not begin with a hyphen.
-fn is_command(words: &[String]) -> bool
-    ensures { result ≡ is_command (drop 1 (map string_bytes words.now)) }
+fn is_valid_command_line(words: &[String]) -> bool
+    ensures { result ≡ is_valid_command_line (drop 1 (map string_bytes words.now)) }
 {
     match words {
         [_, first, _, ..] => !begins_with_hyphen(first.as_str()),
@@ -45,7 +45,7 @@ fn is_command(words: &[String]) -> bool
 //
 // The words after the first are a single list, because clap's treatment of flags between paths depends on all words.
 fn command<'a>(alloc: Global, program: &'a str) -> Result<Command<'a>, AllocError>
-    ensures { IfOk result (λ command. app_of command ≡ command_line program.now) }
+    ensures { IfOk result (λ command. app_of command ≡ clap_command_line program.now) }
 {
     let first = Arg::new(alloc, "FIRST")
         .required(true)
@@ -59,7 +59,7 @@ fn command<'a>(alloc: Global, program: &'a str) -> Result<Command<'a>, AllocErro
 }
 
 // Converts an error of clap.
-fn of_clap<E: Copy>(kind: ErrorKind, memory: E, usage: E) -> E
+fn error_of_clap_kind<E: Copy>(kind: ErrorKind, memory: E, usage: E) -> E
     ensures memory { kind ≡ ErrorKind.OutOfMemory → result ≡ memory }
     ensures usage { result ≢ memory → result ≡ usage }
 {
@@ -70,16 +70,16 @@ fn of_clap<E: Copy>(kind: ErrorKind, memory: E, usage: E) -> E
 }
 
 // Returns the words that clap finds after the program's own name.
-fn clap_matches<'a, E: Copy>(
+fn words_matched_by_clap<'a, E: Copy>(
     alloc: Global,
     program: &'a str,
     words: &'a [String],
     memory: E,
     usage: E,
 ) -> Result<ArgMatches<'a>, E>
-    ensures found { IfOk result (FindsAll (map string_bytes words.now)) }
+    ensures found { IfOk result (ClapFindsAllWords (map string_bytes words.now)) }
     ensures misuse { IfErr result (λ error. error ≢ memory → (error ≡ usage)
-        × (is_command (drop 1 (map string_bytes words.now)) ≡ false)) }
+        × (is_valid_command_line (drop 1 (map string_bytes words.now)) ≡ false)) }
 {
     let command = match command(alloc, program) {
         Ok(command) => command,
@@ -87,7 +87,7 @@ fn clap_matches<'a, E: Copy>(
     };
     match command.try_get_matches_from(words) {
         Ok(matches) => Ok(matches),
-        Err(fault) => Err(of_clap(fault.kind(), memory, usage)),
+        Err(fault) => Err(error_of_clap_kind(fault.kind(), memory, usage)),
     }
 }
 
@@ -97,7 +97,7 @@ fn clap_matches<'a, E: Copy>(
 ///
 /// Returns `usage` if fewer than two words follow the program's own name, or the first of them begins with `-`, or
 /// `memory` if memory runs out.
-pub fn first_and_rest<'a, E: Copy>(
+pub fn first_word_and_rest<'a, E: Copy>(
     alloc: Global,
     program: &'a str,
     words: &'a [String],
@@ -106,14 +106,15 @@ pub fn first_and_rest<'a, E: Copy>(
 ) -> Result<(&'a str, Vec<&'a str>), E>
     ensures found { IfOk result (λ found. drop 1 (map string_bytes words.now)
         ≡ found.0.now ∷ texts found.1.items) }
-    ensures good { OnOk result (is_command (drop 1 (map string_bytes words.now)) ≡ true) }
+    ensures good { OnOk result (is_valid_command_line (drop 1 (map string_bytes words.now))
+        ≡ true) }
     ensures refused { IfErr result (λ error. error ≢ memory → (error ≡ usage)
-        × (is_command (drop 1 (map string_bytes words.now)) ≡ false)) }
+        × (is_valid_command_line (drop 1 (map string_bytes words.now)) ≡ false)) }
 {
-    if !is_command(words) {
+    if !is_valid_command_line(words) {
         return Err(usage);
     }
-    let matches = match clap_matches(alloc, program, words, memory, usage) {
+    let matches = match words_matched_by_clap(alloc, program, words, memory, usage) {
         Ok(matches) => matches,
         Err(error) => return Err(error),
     };

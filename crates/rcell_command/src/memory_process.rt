@@ -4,11 +4,11 @@ ghost use Rattle.std.specs.Prelude.{◌≡◌, ◌≢◌, [], ◌∷◌, ◌++�
 ghost use Rattle.std.specs.Option.{option_map};
 ghost use Rattle.std.specs.String.{string_bytes};
 ghost use Rattle.cell_core_devices.specs.declared.source.Asked.{Asked};
-ghost use Rattle.rcell_command.specs.Processes.{error_line, file_of, text_of_file};
+ghost use Rattle.rcell_command.specs.Processes.{standard_error_line, first_file_with_path, coming_bytes_of_file};
 
 use crate::process::Process;
-use crate::reported::Place;
-use crate::shown::Shown;
+use crate::reported::ErrorPlace;
+use crate::shown::EscapedText;
 use cell_core_devices::device::DeviceFault;
 use cell_core_devices::source::MemorySource;
 use std::alloc::{AllocError, Global};
@@ -16,41 +16,41 @@ use std::fmt::Display;
 use std::marker::Model;
 
 // The largest number of bytes that a file's source returns per read.
-const PIECE: usize = 4096;
+const MOST_BYTES_PER_READ: usize = 4096;
 
 /// A line printed to standard error.
 #[derive(Drop)]
-pub struct PrintedLine {
+pub struct PrintedErrorLine {
     program: Vec<u8>,
     source: Vec<u8>,
     line: u64,
     text: String,
 }
 
-impl Model for PrintedLine {
-    ghost use Rattle.rcell_command.specs.Processes.{ErrorLine};
+impl Model for PrintedErrorLine {
+    ghost use Rattle.rcell_command.specs.Processes.{StandardErrorLine};
 
-    ghost Value = { ErrorLine };
+    ghost Value = { StandardErrorLine };
 
     ghost view = { λ l. record { program = l.program.items; source = l.source.items; line = l.line } };
 }
 
-impl PrintedLine {
+impl PrintedErrorLine {
     // Formats the line of an error.
     fn new<T: Display>(
         alloc: Global,
         program: &str,
-        place: &Place<'_>,
+        place: &ErrorPlace<'_>,
         text: &T,
-    ) -> Result<PrintedLine, AllocError>
-        ensures { IfOk result (λ made. made ≡ error_line program.now place.now) }
+    ) -> Result<PrintedErrorLine, AllocError>
+        ensures { IfOk result (λ made. made ≡ standard_error_line program.now place.now) }
     {
-        let source = Shown { text: place.source };
+        let source = EscapedText { text: place.source };
         let line = place.line;
         let text = format!(in alloc; "{program}: {source}:{line}: {text}\n")?;
         let program = Vec::from_slice(alloc, program.as_bytes())?;
         let source = Vec::from_slice(alloc, place.source)?;
-        Ok(PrintedLine {
+        Ok(PrintedErrorLine {
             program,
             source,
             line,
@@ -98,13 +98,14 @@ impl MemoryFile {
             ≡ record { bytes = self.now.1; fails = false; piece = 4096; asked = Asked.Going }) }
     {
         let bytes = Vec::from_slice(alloc, &self.bytes)?;
-        Ok(MemorySource::new(bytes, PIECE, false))
+        Ok(MemorySource::new(bytes, MOST_BYTES_PER_READ, false))
     }
 }
 
 // Returns the first file with this path.
-fn file_of<'a>(files: &'a [MemoryFile], path: &str) -> Option<&'a MemoryFile>
-    ensures { option_map (λ file. text_of_file file.now) result ≡ file_of files.now path.now }
+fn first_file_with_path<'a>(files: &'a [MemoryFile], path: &str) -> Option<&'a MemoryFile>
+    ensures { option_map (λ file. coming_bytes_of_file file.now) result
+        ≡ first_file_with_path files.now path.now }
 {
     for file in files {
         if file.has_path(path) {
@@ -121,7 +122,7 @@ pub struct MemoryProcess {
     words: Vec<String>,
     files: Vec<MemoryFile>,
     opened: Vec<String>,
-    errors: Vec<PrintedLine>,
+    errors: Vec<PrintedErrorLine>,
     failed: bool,
 }
 
@@ -139,7 +140,7 @@ impl MemoryProcess {
     }
 
     /// Returns the lines printed to standard error.
-    pub fn errors(&self) -> &[PrintedLine] {
+    pub fn errors(&self) -> &[PrintedErrorLine] {
         &self.errors
     }
 }
@@ -160,15 +161,15 @@ fn copies(alloc: Global, texts: &[String]) -> Result<Vec<String>, AllocError>
 impl Process for MemoryProcess {
     ghost use Rattle.std.specs.Prelude.{Some, map};
     ghost use Rattle.std.specs.String.{string_bytes};
-    ghost use Rattle.rcell_command.specs.Processes.{file_of, known_or_lost};
+    ghost use Rattle.rcell_command.specs.Processes.{first_file_with_path, supposition_of_known_content};
 
     type File = MemorySource;
 
     ghost words = { λ p. Some (map string_bytes p.words.items) };
 
-    ghost files = { λ p. file_of p.files.items };
+    ghost files = { λ p. first_file_with_path p.files.items };
 
-    ghost supposed_file = { λ p path. known_or_lost (file_of p.files.items path) };
+    ghost supposed_file = { λ p path. supposition_of_known_content (first_file_with_path p.files.items path) };
 
     ghost opened = { λ p. Some (map string_bytes p.opened.items) };
 
@@ -184,7 +185,7 @@ impl Process for MemoryProcess {
     }
 
     fn open<E: Copy>(&mut self, path: &str, memory: E, file: E) -> Result<MemorySource, E> {
-        let Some(found) = file_of(&self.files, path) else {
+        let Some(found) = first_file_with_path(&self.files, path) else {
             return Err(file);
         };
         let Ok(source) = found.open(self.alloc) else {
@@ -202,10 +203,10 @@ impl Process for MemoryProcess {
     fn print_error<T: Display>(
         &mut self,
         program: &str,
-        place: &Place<'_>,
+        place: &ErrorPlace<'_>,
         text: &T,
     ) -> Result<(), DeviceFault> {
-        let Ok(line) = PrintedLine::new(self.alloc, program, place, text) else {
+        let Ok(line) = PrintedErrorLine::new(self.alloc, program, place, text) else {
             self.failed = true;
             return Err(DeviceFault);
         };

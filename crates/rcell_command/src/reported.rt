@@ -1,11 +1,11 @@
 //! Prints why a program failed, and determines the exit status.
 
 ghost use Rattle.std.specs.Prelude.{◌≡◌, Option};
-ghost use Rattle.rcell_command.specs.Processes.{HasReported};
-ghost use Rattle.rcell_command.specs.Reported.{PlaceValue, on_line};
+ghost use Rattle.rcell_command.specs.Processes.{HasOnlyReportedError};
+ghost use Rattle.rcell_command.specs.Reported.{ErrorPlaceValue, error_place_on_line};
 
 use crate::process::Process;
-use crate::shown::Shown;
+use crate::shown::EscapedText;
 use std::fmt;
 use std::marker::Model;
 
@@ -13,25 +13,25 @@ use std::marker::Model;
 /// status is 1 if a text was rejected, 2 for the command line, 3 if memory ran out, and 4 if a file could not be
 /// opened, read or written.
 #[derive(Drop)]
-pub struct Place<'a> {
+pub struct ErrorPlace<'a> {
     pub source: &'a [u8],
     pub line: u64,
     pub status: u8,
 }
 
-impl<'a> Model for Place<'a> {
-    ghost use Rattle.rcell_command.specs.Reported.{PlaceValue};
+impl<'a> Model for ErrorPlace<'a> {
+    ghost use Rattle.rcell_command.specs.Reported.{ErrorPlaceValue};
 
-    ghost Value = { PlaceValue };
+    ghost Value = { ErrorPlaceValue };
 
     ghost view = { λ p. record { source = p.source.now; line = p.line; status = p.status } };
 }
 
 /// Creates the place of an error in a line of a source.
-pub fn on_line<'a>(source: &'a [u8], line: u64, status: u8) -> Place<'a>
-    ensures { result ≡ on_line source.now line status }
+pub fn error_place_on_line<'a>(source: &'a [u8], line: u64, status: u8) -> ErrorPlace<'a>
+    ensures { result ≡ error_place_on_line source.now line status }
 {
-    Place {
+    ErrorPlace {
         source,
         line,
         status,
@@ -41,17 +41,17 @@ pub fn on_line<'a>(source: &'a [u8], line: u64, status: u8) -> Place<'a>
 /// The result of a program's work. It is displayed as the text of its error.
 pub trait Reported: fmt::Display {
     /// The place of the error, or `None` if there is no error.
-    ghost place: { Self → Option PlaceValue };
+    ghost place: { Self → Option ErrorPlaceValue };
 
     /// Returns the place of the error, or `None` if there is no error.
-    fn place(&self) -> Option<Place<'_>>
+    fn place(&self) -> Option<ErrorPlace<'_>>
         ensures { result ≡ place self.now };
 }
 
-/// Prints the line `PROGRAM: SOURCE:LINE: TEXT` for an error (profile) to standard error. Returns the exit
+/// Prints the line `PROGRAM_NAME: SOURCE:LINE_BUFFER_BYTES: TEXT` for an error (profile) to standard error. Returns the exit
 /// status, which is 0 if there is no error. The status does not depend on whether standard error accepts the line.
 pub fn report_error<P: Process, T: Reported>(process: &mut P, program: &str, reported: &T) -> u8
-    ensures { HasReported P.opened P.errors P.failed process.old process.new program.now
+    ensures { HasOnlyReportedError P.opened P.errors P.failed process.old process.new program.now
         (T.place reported.now) result }
 {
     let Some(place) = reported.place() else {

@@ -5,12 +5,12 @@ use std::fmt;
 
 /// A text whose control characters are escaped, so that a terminal does not interpret them.
 #[derive(Clone, Copy, Debug)]
-pub struct Shown<'a> {
+pub struct EscapedText<'a> {
     /// The text.
     pub text: &'a [u8],
 }
 
-impl<'a> fmt::Display for Shown<'a> {
+impl<'a> fmt::Display for EscapedText<'a> {
     fn fmt<W: fmt::Write>(&self, f: &mut fmt::Formatter<W>) -> fmt::Result {
         for ch in self.text.chars() {
             if ch.is_control() {

@@ -3,8 +3,8 @@
 ghost use Rattle.std.specs.Prelude.{◌≡◌, false};
 
 use crate::process::Process;
-use crate::reported::Place;
-use crate::shown::Shown;
+use crate::reported::ErrorPlace;
+use crate::shown::EscapedText;
 use cell_core_devices::device::DeviceFault;
 use cell_core_devices::source::ReadSource;
 use std::alloc::Global;
@@ -18,11 +18,11 @@ use std::{env, io};
 // Exposes only the words: the environment is empty. With the environment and the working folder of `HostRuntime`, a
 // program would depend on calls that it never makes.
 #[derive(Drop)]
-struct WordsOnly<'a> {
+struct WordsOnlyRuntime<'a> {
     rt: &'a HostRuntime,
 }
 
-impl<'a> Env for WordsOnly<'a> {
+impl<'a> Env for WordsOnlyRuntime<'a> {
     fn arg(&self, i: usize, buf: &mut [u8]) -> Result<usize, FillError> {
         self.rt.arg(i, buf)
     }
@@ -76,7 +76,7 @@ impl<'a> Process for SystemProcess<'a> {
     ghost failed = { λ p. p.failed };
 
     fn words<E: Copy>(&self, alloc: Global, memory: E, usage: E) -> Result<Vec<String>, E> {
-        let given = match env::args(&(WordsOnly { rt: self.rt }, alloc)) {
+        let given = match env::args(&(WordsOnlyRuntime { rt: self.rt }, alloc)) {
             Ok(given) => given,
             Err(fault) => {
                 return match fault.kind() {
@@ -104,10 +104,10 @@ impl<'a> Process for SystemProcess<'a> {
     fn print_error<T: Display>(
         &mut self,
         program: &str,
-        place: &Place<'_>,
+        place: &ErrorPlace<'_>,
         text: &T,
     ) -> Result<(), DeviceFault> {
-        let source = Shown { text: place.source };
+        let source = EscapedText { text: place.source };
         let line = place.line;
         match eprintln!(self.rt; "{program}: {source}:{line}: {text}") {
             Ok(()) => Ok(()),

@@ -7,45 +7,50 @@ use Rattle.std.proofs.lemmas.List.{map-append}
 use Rattle.std.proofs.lemmas.List.Elements.{All-head, All-tail}
 use Rattle.std.proofs.lemmas.Option.{slice_get-map, same_Some}
 use Rattle.cell_core_values.specs.Region.{RegionValue}
-use Rattle.cell_core.specs.Grid.{Grid, CellValue, cell_at, no_labels}
+use Rattle.cell_core.specs.Grid.{Grid, CellValue, cell_at, empty_category_labels}
 use Rattle.cell_core.specs.Shelf.{ShelfValue}
 use Rattle.cell_calc_language.specs.Formula.{Formula}
 use Rattle.cell_calc_language.specs.Value.{value}
-use Rattle.cell_calc_language.specs.Applied.{GridPosition, grid_position}
+use Rattle.cell_calc_language.specs.Applied.{PositionAndGridSize, grid_position}
 use Rattle.cell_ascii_meaning.specs.Writing.{grid_text}
-use Rattle.cell_ascii_law.specs.WrittenLaw.{without_labels}
+use Rattle.cell_ascii_law.specs.WrittenLaw.{map_without_labels}
 use Rattle.cell_cats.specs.Rule.{RuleValue}
-use Rattle.cell_cats.specs.Reclass.{reclassed_map, new_rows}
-use Rattle.cell_cats_areas.specs.declared.clump.Joining.{Joining}
-use Rattle.cell_cats_areas.specs.Areas.{Position, cell_at_position, AreJoined, IsFirst, HasNumber, IsClumping}
+use Rattle.cell_cats.specs.Reclass.{reclassed_map, reclassed_rows}
+use Rattle.cell_clumps.specs.declared.clump.Joining.{Joining}
+use Rattle.cell_clumps.specs.Clumps.{Position, cell_at_position, AreCellsConnected, IsFirstCellOfClump, HasClumpNumber}
+use Rattle.cell_clumps.specs.Clumps.{IsClumpMapOf}
 use Rattle.cell_stats_combinations.specs.LeftOut.{kept_cells}
 use Rattle.cell_stats_combinations.specs.Combinations.{all_combinations}
-use Rattle.cell_stats.specs.CategoryTables.{table_of}
-use Rattle.cell_stats.specs.TableText.{printed_pairs}
+use Rattle.cell_stats.specs.CategoryTables.{table_of_cells}
+use Rattle.cell_stats.specs.TableText.{table_entries_to_print}
 use Rattle.rcell_script.specs.declared.command.Command.{Command}
 use Rattle.rcell_script.specs.declared.command.Command.TheVariants.{Mapcalc, Reclass, Clump, Stats, OutAscii}
 use Rattle.rcell_script.specs.declared.command.StatsOptions.{StatsOptions}
 use Rattle.rcell_script.specs.declared.statement.Statement.{Statement}
-use Rattle.rcell.specs.Making.{AreValues, AreNumbers, IsOfMap, with_map}
-use Rattle.rcell.specs.After.{IsShelfAfter}
-use Rattle.rcell.specs.Output.{Executes, command_text, format_of, stats_text, out_ascii_text}
-use Rattle.rcell_law.specs.ReadAgain.{bare, prints_labels, PrintNoLabels, LabelsChangeNoOtherText}
+use Rattle.rcell.specs.Making.{IsMapOfExpressionValues, IsMapOfClumpNumbers, MapExistsAndSatisfiesRelation}
+use Rattle.rcell.specs.Making.{shelf_with_map_at_end}
+use Rattle.rcell.specs.After.{IsShelfAfterCommand}
+use Rattle.rcell.specs.Output.{StatementsWriteTextAndLeaveShelf, command_output_text, table_format_of_stats_options}
+use Rattle.rcell.specs.Output.{stats_text}
+use Rattle.rcell.specs.Output.{out_ascii_text}
+use Rattle.rcell_law.specs.ReadAgain.{shelf_without_labels, command_prints_labels, StatementsPrintNoLabels}
+use Rattle.rcell_law.specs.ReadAgain.{LabelsChangeOnlyPrintedLabels}
 use Rattle.rcell_law.proofs.BareLemmas.{combinations_bare, grid_text_bare, value_bare, line_bare, pair_bare}
 
 -- shelves whose maps differ only in their labels
 pub record AreAlike (a b : ShelfValue) : Type 0 where
   pub region : a.region ≡ b.region
   pub names : a.names ≡ b.names
-  pub maps : map without_labels a.maps ≡ map without_labels b.maps
+  pub maps : map map_without_labels a.maps ≡ map map_without_labels b.maps
 
 pub AreAlike-sym : (a b : ShelfValue) → AreAlike a b → AreAlike b a
 AreAlike-sym a b h = record { region = sym h.region; names = sym h.names; maps = sym h.maps }
 
-bare_twice : (maps : List Grid) → map without_labels maps ≡ map without_labels (map without_labels maps)
+bare_twice : (maps : List Grid) → map map_without_labels maps ≡ map map_without_labels (map map_without_labels maps)
 bare_twice [] = refl
-bare_twice (m ∷ maps) = ap (λ (ms : List Grid). without_labels m ∷ ms) (bare_twice maps)
+bare_twice (m ∷ maps) = ap (λ (ms : List Grid). map_without_labels m ∷ ms) (bare_twice maps)
 
-pub bare_alike : (shelf : ShelfValue) → AreAlike shelf (bare shelf)
+pub bare_alike : (shelf : ShelfValue) → AreAlike shelf (shelf_without_labels shelf)
 bare_alike shelf = record { region = refl; names = refl; maps = bare_twice shelf.maps }
 
 -- ---- the output of a command
@@ -65,17 +70,19 @@ module _ (a b : ShelfValue) (alike : AreAlike a b) where
       ∙ (λ i. all_combinations (alike.maps i) places (same_rows i) (same_cols i))
       ∙ sym (combinations_bare b.maps places b.region.rows b.region.cols)
 
-  same_value : (f : Formula) (s : GridPosition) → value f a.maps s ≡ value f b.maps s
+  same_value : (f : Formula) (s : PositionAndGridSize) → value f a.maps s ≡ value f b.maps s
   same_value f s = value_bare f a.maps s ∙ ap (λ (ms : List Grid). value f ms s) alike.maps
       ∙ sym (value_bare f b.maps s)
 
   same_stats : (places : List ℕ) (options : StatsOptions) → options.labels ≡ false
       → stats_text a places options ≡ stats_text b places options
   same_stats places options none =
-      λ i. if options.cells then flat_map (λ k. line_bare (format_of options) none a.maps b.maps places k i)
+      λ i. if options.cells then flat_map (λ k. line_bare (table_format_of_stats_options options) none a.maps b.maps
+      places
+      k i)
       (kept_cells options.skip (same_combinations places i))
-      else flat_map (λ pair. pair_bare (format_of options) none a.maps b.maps places pair i)
-      (printed_pairs options.after (table_of options.skip (same_combinations places i)))
+      else flat_map (λ pair. pair_bare (table_format_of_stats_options options) none a.maps b.maps places pair i)
+      (table_entries_to_print options.after (table_of_cells options.skip (same_combinations places i)))
 
   same_grid_text : (place : ℕ) (null_text : List ℕ)
       → out_ascii_text a place null_text ≡ out_ascii_text b place null_text
@@ -84,7 +91,7 @@ module _ (a b : ShelfValue) (alike : AreAlike a b) where
       ∙ ap (λ (ms : List Grid). option_map_or (grid_text null_text) (slice_get ms place) []) alike.maps
       ∙ sym (grid_text_bare null_text b.maps place)
 
-  same_text : (c : Command) → prints_labels c ≡ false → command_text a c ≡ command_text b c
+  same_text : (c : Command) → command_prints_labels c ≡ false → command_output_text a c ≡ command_output_text b c
   same_text (Stats places options) none = same_stats places options none
   same_text (OutAscii place null_text) none = same_grid_text place null_text
   same_text _ none = refl
@@ -95,7 +102,7 @@ module _ (j : Joining) (m n : Grid) (same : m.rows ≡ n.rows) where
   cell_same : (p : Position) → cell_at_position m p ≡ cell_at_position n p
   cell_same p = ap (λ (rows : List (List CellValue)). cell_at (record m { rows = rows }) p.row p.col) same
 
-  joined_same : (p q : Position) → AreJoined j m p q → AreJoined j n p q
+  joined_same : (p q : Position) → AreCellsConnected j m p q → AreCellsConnected j n p q
   joined_same p q h = record {
     category = h.category;
     others = h.others;
@@ -105,14 +112,14 @@ module _ (j : Joining) (m n : Grid) (same : m.rows ≡ n.rows) where
   }
 
 module _ (j : Joining) (m n : Grid) (same : m.rows ≡ n.rows) where
-  first_same : (p : Position) → IsFirst j m p → IsFirst j n p
+  first_same : (p : Position) → IsFirstCellOfClump j m p → IsFirstCellOfClump j n p
   first_same p h = record {
     category = subst IsSome (cell_same j m n same p) h.category;
     none_before = λ q before joined. h.none_before q before (joined_same j n m (sym same) q p joined);
   }
 
 module _ (j : Joining) (m n : Grid) (same : m.rows ≡ n.rows) where
-  number_same : (p : Position) (k : ℕ) → HasNumber j m p k → HasNumber j n p k
+  number_same : (p : Position) (k : ℕ) → HasClumpNumber j m p k → HasClumpNumber j n p k
   number_same p k h = record {
     first = h.first;
     is_first = first_same j m n same h.first h.is_first;
@@ -128,7 +135,7 @@ module _ (j : Joining) (m n : Grid) (same : m.rows ≡ n.rows) where
     count = h.count;
   }
 
-  clumping_same : m.region ≡ n.region → (numbers : Grid) → IsClumping j m numbers → IsClumping j n numbers
+  clumping_same : m.region ≡ n.region → (numbers : Grid) → IsClumpMapOf j m numbers → IsClumpMapOf j n numbers
   clumping_same region numbers h = record {
     region = h.region ∙ region;
     labels = h.labels;
@@ -145,26 +152,27 @@ module _ (j : Joining) (m n : Grid) (same : m.rows ≡ n.rows) where
 -- ---- the shelf after a command
 
 abbrev AlikeAfter : ShelfValue → Command → ShelfValue → Type 0
-AlikeAfter b c x = (y : ShelfValue) × (IsShelfAfter b c y × AreAlike x y)
+AlikeAfter b c x = (y : ShelfValue) × (IsShelfAfterCommand b c y × AreAlike x y)
 
 module _ (a b : ShelfValue) (alike : AreAlike a b) where
-  with_alike : (target : List ℕ) (x y : Grid) → without_labels x ≡ without_labels y
-      → AreAlike (with_map a target x) (with_map b target y)
+  with_alike : (target : List ℕ) (x y : Grid) → map_without_labels x ≡ map_without_labels y
+      → AreAlike (shelf_with_map_at_end a target x) (shelf_with_map_at_end b target y)
   with_alike target x y same = record {
     region = alike.region;
     names = ap (λ (names : List (List ℕ)). names ++ target ∷ []) alike.names;
-    maps = map-append without_labels a.maps (x ∷ []) ∙ (λ i. alike.maps i ++ same i ∷ [])
-        ∙ sym (map-append without_labels b.maps (y ∷ []));
+    maps = map-append map_without_labels a.maps (x ∷ []) ∙ (λ i. alike.maps i ++ same i ∷ [])
+        ∙ sym (map-append map_without_labels b.maps (y ∷ []));
   }
 
   -- the maps at a place are equal without labels
   same_places : (place : ℕ)
-      → option_map without_labels (slice_get a.maps place) ≡ option_map without_labels (slice_get b.maps place)
+      → option_map map_without_labels (slice_get a.maps place) ≡ option_map map_without_labels (slice_get b.maps place)
   same_places place =
-      sym (slice_get-map without_labels a.maps place) ∙ ap (λ (ms : List Grid). slice_get ms place) alike.maps
-      ∙ slice_get-map without_labels b.maps place
+      sym (slice_get-map map_without_labels a.maps place) ∙ ap (λ (ms : List Grid). slice_get ms place) alike.maps
+      ∙ slice_get-map map_without_labels b.maps place
 
-  values_alike : (bound : Formula) (made : Grid) → AreValues bound a made → AreValues bound b made
+  values_alike : (bound : Formula) (made : Grid) → IsMapOfExpressionValues bound a made
+      → IsMapOfExpressionValues bound b made
   values_alike bound made h =
       let rows = same_rows a b alike in
       let cols = same_cols a b alike in
@@ -179,43 +187,52 @@ module _ (a b : ShelfValue) (alike : AreAlike a b) where
       }
 
   classes_alike : (target : List ℕ) (rules : List RuleValue) (x : ShelfValue) (o other : Option Grid)
-      → option_map without_labels o ≡ option_map without_labels other
-      → IsOfMap (λ m. x ≡ with_map a target (reclassed_map rules m)) o
-      → (y : ShelfValue) × (IsOfMap (λ m. y ≡ with_map b target (reclassed_map rules m)) other × AreAlike x y)
+      → option_map map_without_labels o ≡ option_map map_without_labels other
+      → MapExistsAndSatisfiesRelation (λ m. x ≡ shelf_with_map_at_end a target (reclassed_map rules m)) o
+      → (y : ShelfValue) × (MapExistsAndSatisfiesRelation (λ m. y
+      ≡ shelf_with_map_at_end b target (reclassed_map rules m)) other
+      × AreAlike x y)
   classes_alike target rules x None other same h = absurd h
   classes_alike target rules x (Some m) None same h = cc
   classes_alike target rules x (Some m) (Some n) same h =
-      let bares : without_labels m ≡ without_labels n = same_Some (without_labels m) (without_labels n) same in
-      let made : without_labels (reclassed_map rules m) ≡ without_labels (reclassed_map rules n) =
-      ap (λ (g : Grid). record { region = g.region; rows = new_rows rules g.rows; labels = no_labels }) bares in (
-        with_map b target (reclassed_map rules n),
+      let bares : map_without_labels m ≡ map_without_labels n = same_Some (map_without_labels m)
+      (map_without_labels n) same in
+      let made : map_without_labels (reclassed_map rules m) ≡ map_without_labels (reclassed_map rules n) =
+      ap (λ (g : Grid). record {
+        region = g.region;
+        rows = reclassed_rows rules g.rows;
+        labels = empty_category_labels;
+      }) bares in (
+        shelf_with_map_at_end b target (reclassed_map rules n),
         (
           refl,
-          subst (λ (s : ShelfValue). AreAlike s (with_map b target (reclassed_map rules n))) (sym h)
+          subst (λ (s : ShelfValue). AreAlike s (shelf_with_map_at_end b target (reclassed_map rules n))) (sym h)
               (with_alike target (reclassed_map rules m) (reclassed_map rules n) made),
         ),
       )
 
   numbers_alike : (joining : Joining) (made : Grid) (o other : Option Grid)
-      → option_map without_labels o ≡ option_map without_labels other
-      → IsOfMap (λ m. AreNumbers joining m made) o → IsOfMap (λ m. AreNumbers joining m made) other
+      → option_map map_without_labels o ≡ option_map map_without_labels other
+      → MapExistsAndSatisfiesRelation (λ m. IsMapOfClumpNumbers joining m made) o
+      → MapExistsAndSatisfiesRelation (λ m. IsMapOfClumpNumbers joining m made) other
   numbers_alike joining made None other same h = absurd h
   numbers_alike joining made (Some m) None same h = cc
   numbers_alike joining made (Some m) (Some n) same h =
-      let bares : without_labels m ≡ without_labels n = same_Some (without_labels m) (without_labels n) same in
+      let bares : map_without_labels m ≡ map_without_labels n = same_Some (map_without_labels m)
+      (map_without_labels n) same in
       record {
         filled = h.filled;
         clumping = clumping_same joining m n (ap (λ (g : Grid). g.rows) bares)
             (ap (λ (g : Grid). g.region) bares) made h.clumping;
       }
 
-  after_alike : (c : Command) (x : ShelfValue) → IsShelfAfter a c x → AlikeAfter b c x
+  after_alike : (c : Command) (x : ShelfValue) → IsShelfAfterCommand a c x → AlikeAfter b c x
   after_alike (Mapcalc target bound) x h =
       let made = h.0 in (
-        with_map b target made,
+        shelf_with_map_at_end b target made,
         (
           (made, (values_alike bound made h.1.0, refl)),
-          subst (λ (s : ShelfValue). AreAlike s (with_map b target made)) (sym h.1.1)
+          subst (λ (s : ShelfValue). AreAlike s (shelf_with_map_at_end b target made)) (sym h.1.1)
               (with_alike target made made refl),
         ),
       )
@@ -223,7 +240,7 @@ module _ (a b : ShelfValue) (alike : AreAlike a b) where
       (slice_get b.maps place) (same_places place) h
   after_alike (Clump place target joining) x h =
       let made = h.0 in (
-        with_map b target made,
+        shelf_with_map_at_end b target made,
         (
           (
             made,
@@ -233,7 +250,7 @@ module _ (a b : ShelfValue) (alike : AreAlike a b) where
               refl,
             ),
           ),
-          subst (λ (s : ShelfValue). AreAlike s (with_map b target made)) (sym h.1.1)
+          subst (λ (s : ShelfValue). AreAlike s (shelf_with_map_at_end b target made)) (sym h.1.1)
               (with_alike target made made refl),
         ),
       )
@@ -241,15 +258,17 @@ module _ (a b : ShelfValue) (alike : AreAlike a b) where
   after_alike (OutAscii place null_text) x h = (b, (refl, subst (λ (s : ShelfValue). AreAlike s b) (sym h) alike))
 
 -- statements write the same text, and leave shelves that differ only in labels
-pub executes_alike : (statements : List Statement) → PrintNoLabels statements → (a b : ShelfValue) → AreAlike a b
-    → (text : List ℕ) (x : ShelfValue) → Executes a statements text x
-    → (y : ShelfValue) × (Executes b statements text y × AreAlike x y)
+pub executes_alike : (statements : List Statement) → StatementsPrintNoLabels statements → (a b : ShelfValue)
+    → AreAlike a b
+    → (text : List ℕ) (x : ShelfValue) → StatementsWriteTextAndLeaveShelf a statements text x
+    → (y : ShelfValue) × (StatementsWriteTextAndLeaveShelf b statements text y × AreAlike x y)
 executes_alike [] none a b alike text x h = (b, ((h.0, refl), subst (λ (s : ShelfValue). AreAlike s b) (sym h.1) alike))
 executes_alike (s ∷ ss) none a b alike text x (next, (rest, (step, (others, is)))) =
-    let first = All-head (λ (s : Statement). prints_labels s.command ≡ false) s ss none in
+    let first = All-head (λ (s : Statement). command_prints_labels s.command ≡ false) s ss none in
     let after = after_alike a b alike s.command next step in
     let more = executes_alike ss
-    (All-tail (λ (s : Statement). prints_labels s.command ≡ false) s ss none) next after.0 after.1.1 rest x others in (
+    (All-tail (λ (s : Statement). command_prints_labels s.command
+    ≡ false) s ss none) next after.0 after.1.1 rest x others in (
       more.0,
       (
         (
@@ -263,10 +282,10 @@ executes_alike (s ∷ ss) none a b alike text x (next, (rest, (step, (others, is
       ),
     )
 
-pub labels_change_no_other_text : LabelsChangeNoOtherText
-labels_change_no_other_text shelf statements none text = (
-  λ h. let there = executes_alike statements none shelf (bare shelf) (bare_alike shelf) text h.0 h.1 in
+pub labels_change_only_printed_labels : LabelsChangeOnlyPrintedLabels
+labels_change_only_printed_labels shelf statements none text = (
+  λ h. let there = executes_alike statements none shelf (shelf_without_labels shelf) (bare_alike shelf) text h.0 h.1 in
       (there.0, there.1.0),
-  λ h. let there = executes_alike statements none (bare shelf) shelf
-      (AreAlike-sym shelf (bare shelf) (bare_alike shelf)) text h.0 h.1 in (there.0, there.1.0),
+  λ h. let there = executes_alike statements none (shelf_without_labels shelf) shelf
+      (AreAlike-sym shelf (shelf_without_labels shelf) (bare_alike shelf)) text h.0 h.1 in (there.0, there.1.0),
 )

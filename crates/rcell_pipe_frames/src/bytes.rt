@@ -1,9 +1,9 @@
 //! Writes numbers, texts and cells as bytes.
 
 ghost use Rattle.std.specs.Prelude.{◌≡◌, ◌≤◌, flat_map};
-ghost use Rattle.cell_core_devices.specs.Blocks.{Appends};
-ghost use Rattle.cell_core_values.specs.Cell.{pattern_of_cell};
-ghost use Rattle.rcell_pipe_frames.specs.FrameBytes.{flag, number_bytes, text_bytes, wide_bytes};
+ghost use Rattle.cell_core_devices.specs.Blocks.{IsTextAppendedThroughBlock};
+ghost use Rattle.cell_core_values.specs.Cell.{stored_number_of_cell};
+ghost use Rattle.rcell_pipe_frames.specs.FrameBytes.{one_if_true_else_zero, eight_bytes_of_number, length_and_text_bytes, four_bytes_of_cell};
 
 use cell_core::block::OutputBlock;
 use cell_core::cell::Cell;
@@ -11,8 +11,8 @@ use cell_core::sink::Sink;
 
 // Returns the number that encodes a cell: its category, or the smallest `i32` for null.
 #[inline(always)]
-fn pattern_of(cell: Cell) -> i32
-    ensures { result ≡ pattern_of_cell cell }
+fn number_encoding_cell(cell: Cell) -> i32
+    ensures { result ≡ stored_number_of_cell cell }
 {
     match cell.get() {
         Some(category) => category,
@@ -21,50 +21,53 @@ fn pattern_of(cell: Cell) -> i32
 }
 
 /// Returns 1 for true and 0 for false.
-pub fn flag(is_so: bool) -> u8
-    ensures value { result ≡ flag is_so }
+pub fn one_if_true_else_zero(is_so: bool) -> u8
+    ensures value { result ≡ one_if_true_else_zero is_so }
     ensures most { result ≤ 1 }
 {
     if is_so { 1 } else { 0 }
 }
 
 /// Writes a number in eight bytes.
-pub fn push_number<W: Sink>(out: &mut W, block: &mut OutputBlock, n: u64)
-    ensures { Appends W.taken W.faults out.old block.old (number_bytes n) out.new block.new }
+pub fn push_eight_byte_number<W: Sink>(out: &mut W, block: &mut OutputBlock, n: u64)
+    ensures { IsTextAppendedThroughBlock W.taken W.faults out.old block.old
+        (eight_bytes_of_number n) out.new block.new }
 {
     block.push(out, &n.to_le_bytes());
 }
 
 /// Writes a text's length, then the text.
-pub fn push_text<W: Sink>(out: &mut W, block: &mut OutputBlock, text: &[u8])
-    ensures { Appends W.taken W.faults out.old block.old (text_bytes text.now) out.new block.new }
+pub fn push_length_and_text<W: Sink>(out: &mut W, block: &mut OutputBlock, text: &[u8])
+    ensures { IsTextAppendedThroughBlock W.taken W.faults out.old block.old
+        (length_and_text_bytes text.now) out.new block.new }
 {
-    push_number(out, block, text.len() as u64);
+    push_eight_byte_number(out, block, text.len() as u64);
     block.push(out, text);
 }
 
 /// Returns the four bytes that encode a cell.
 #[inline(always)]
-pub(crate) fn bytes_of_cell(cell: Cell) -> [u8; 4]
-    ensures { result ≡ wide_bytes cell }
+pub(crate) fn cell_as_four_bytes(cell: Cell) -> [u8; 4]
+    ensures { result ≡ four_bytes_of_cell cell }
 {
-    pattern_of(cell).to_le_bytes()
+    number_encoding_cell(cell).to_le_bytes()
 }
 
 /// Writes a cell in four bytes.
 #[inline(always)]
-pub(crate) fn push_cell<W: Sink>(out: &mut W, block: &mut OutputBlock, cell: Cell)
-    ensures { Appends W.taken W.faults out.old block.old (wide_bytes cell) out.new block.new }
+pub(crate) fn push_cell_in_four_bytes<W: Sink>(out: &mut W, block: &mut OutputBlock, cell: Cell)
+    ensures { IsTextAppendedThroughBlock W.taken W.faults out.old block.old
+        (four_bytes_of_cell cell) out.new block.new }
 {
-    block.push(out, &bytes_of_cell(cell));
+    block.push(out, &cell_as_four_bytes(cell));
 }
 
 /// Writes cells in four bytes each.
-pub fn push_cells<W: Sink>(out: &mut W, block: &mut OutputBlock, cells: &[Cell])
-    ensures { Appends W.taken W.faults out.old block.old
-        (flat_map wide_bytes cells.now) out.new block.new }
+pub fn push_cells_in_four_bytes<W: Sink>(out: &mut W, block: &mut OutputBlock, cells: &[Cell])
+    ensures { IsTextAppendedThroughBlock W.taken W.faults out.old block.old
+        (flat_map four_bytes_of_cell cells.now) out.new block.new }
 {
     for cell in cells {
-        push_cell(out, block, *cell);
+        push_cell_in_four_bytes(out, block, *cell);
     }
 }

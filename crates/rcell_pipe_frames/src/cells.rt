@@ -4,11 +4,11 @@ ghost use Rattle.std.specs.Prelude.{◌≡◌, ◌<◌, ◌≤◌, ◌+◌, ◌+
 ghost use Rattle.std.specs.List.{list_all};
 ghost use Rattle.cell_core_values.specs.SmallCells.{cells_of_bytes};
 ghost use Rattle.cell_core.specs.Grid.{row_at};
-ghost use Rattle.cell_core.specs.Runs.{AreRuns, written_out};
-ghost use Rattle.cell_core_devices.specs.Blocks.{Appends};
-ghost use Rattle.rcell_pipe_frames.specs.FrameBytes.{is_small_cell, are_small, byte_of_cell, wide_bytes, rows_bytes};
+ghost use Rattle.cell_core.specs.Runs.{AreMaximalRuns, cells_of_runs};
+ghost use Rattle.cell_core_devices.specs.Blocks.{IsTextAppendedThroughBlock};
+ghost use Rattle.rcell_pipe_frames.specs.FrameBytes.{is_one_byte_cell, are_one_byte_cells, byte_of_cell, four_bytes_of_cell, cell_size_and_map_rows_bytes};
 
-use crate::wide_cells::{WIDE_BYTES, push_wide_row};
+use crate::wide_cells::{FOUR_BYTE_ROW_BUFFER_BYTES, push_four_byte_row};
 use cell_core::block::OutputBlock;
 use cell_core::cell::Cell;
 use cell_core::map::CellMap;
@@ -19,8 +19,8 @@ use std::alloc::Global;
 
 // Returns whether a cell fits in a byte.
 #[inline(always)]
-fn is_small_cell(cell: Cell) -> bool
-    ensures { result ≡ is_small_cell cell }
+fn is_one_byte_cell(cell: Cell) -> bool
+    ensures { result ≡ is_one_byte_cell cell }
 {
     match cell.get() {
         Some(category) => 0 <= category && category <= 254,
@@ -29,24 +29,24 @@ fn is_small_cell(cell: Cell) -> bool
 }
 
 // Returns whether each cell of a row fits in a byte.
-fn is_small_row(cells: &[Cell]) -> bool
-    ensures { result ≡ list_all is_small_cell cells.now }
+fn is_one_byte_row(cells: &[Cell]) -> bool
+    ensures { result ≡ list_all is_one_byte_cell cells.now }
 {
     // There is no early exit, so that the loop can be vectorized.
     let mut all = true;
     for cell in cells {
-        all = all & is_small_cell(*cell);
+        all = all & is_one_byte_cell(*cell);
     }
     all
 }
 
 // Returns whether the cell of each run fits in a byte.
-fn are_small_runs(runs: Runs<'_>) -> bool
-    requires { AreRuns runs }
-    ensures { result ≡ list_all is_small_cell (written_out runs.entry) }
+fn are_one_byte_runs(runs: Runs<'_>) -> bool
+    requires { AreMaximalRuns runs }
+    ensures { result ≡ list_all is_one_byte_cell (cells_of_runs runs.entry) }
 {
     for (cell, _) in runs {
-        if !is_small_cell(cell) {
+        if !is_one_byte_cell(cell) {
             return false;
         }
     }
@@ -54,8 +54,8 @@ fn are_small_runs(runs: Runs<'_>) -> bool
 }
 
 // Returns true: each cell that is stored as a byte fits in a byte.
-fn are_small_bytes(bytes: &[u8]) -> bool
-    ensures { result ≡ list_all is_small_cell (cells_of_bytes bytes.now) }
+fn cells_stored_as_bytes_fit_in_byte(bytes: &[u8]) -> bool
+    ensures { result ≡ list_all is_one_byte_cell (cells_of_bytes bytes.now) }
 {
     // Only the proof looks at the bytes.
     let _ = bytes;
@@ -63,25 +63,25 @@ fn are_small_bytes(bytes: &[u8]) -> bool
 }
 
 // Returns whether each cell in a row of a map fits in a byte.
-fn has_small_row(grid: &CellMap, row: u32) -> bool
+fn is_one_byte_map_row(grid: &CellMap, row: u32) -> bool
     requires { row < grid.now.region.rows }
-    ensures { result ≡ list_all is_small_cell (row_at grid.now row) }
+    ensures { result ≡ list_all is_one_byte_cell (row_at grid.now row) }
 {
     if let Some(bytes) = grid.bytes(row) {
-        return are_small_bytes(bytes);
+        return cells_stored_as_bytes_fit_in_byte(bytes);
     }
     match grid.cells(row) {
-        Some(cells) => is_small_row(cells),
-        None => are_small_runs(grid.runs(row)),
+        Some(cells) => is_one_byte_row(cells),
+        None => are_one_byte_runs(grid.runs(row)),
     }
 }
 
 // Returns whether each cell of a map fits in a byte.
-fn are_small(grid: &CellMap) -> bool
-    ensures { result ≡ are_small grid.now.rows }
+fn are_one_byte_cells(grid: &CellMap) -> bool
+    ensures { result ≡ are_one_byte_cells grid.now.rows }
 {
     for row in 0..grid.region().rows() {
-        if !has_small_row(grid, row) {
+        if !is_one_byte_map_row(grid, row) {
             return false;
         }
     }
@@ -107,7 +107,7 @@ fn byte_of_cell(cell: Cell) -> u8
 
 // Writes a byte `count` times, starting at column `at`.
 #[inline(always)]
-fn fill_bytes(bytes: &mut [u8], at: usize, count: u32, byte: u8)
+fn fill_columns_with_byte(bytes: &mut [u8], at: usize, count: u32, byte: u8)
     requires { at + count ≤ length bytes.old }
     ensures width { length bytes.new ≡ length bytes.old }
     ensures value { bytes.new
@@ -117,28 +117,28 @@ fn fill_bytes(bytes: &mut [u8], at: usize, count: u32, byte: u8)
 }
 
 // Writes the bytes of the cells of runs.
-fn write_runs(runs: Runs<'_>, bytes: &mut [u8])
-    requires { length bytes.old ≡ length (written_out runs) }
+fn write_bytes_of_runs(runs: Runs<'_>, bytes: &mut [u8])
+    requires { length bytes.old ≡ length (cells_of_runs runs) }
     ensures width { length bytes.new ≡ length bytes.old }
-    ensures value { bytes.new ≡ map byte_of_cell (written_out runs.entry) }
+    ensures value { bytes.new ≡ map byte_of_cell (cells_of_runs runs.entry) }
 {
     let mut at = 0;
     for (cell, count) in runs {
-        fill_bytes(bytes, at, count, byte_of_cell(cell));
+        fill_columns_with_byte(bytes, at, count, byte_of_cell(cell));
         at += count as usize;
     }
 }
 
 // Appends a row that the map stores as bytes. The output uses the same bytes.
-fn push_kept<W: Sink>(out: &mut W, block: &mut OutputBlock, kept: &[u8])
-    ensures { Appends W.taken W.faults out.old block.old
+fn push_row_stored_as_bytes<W: Sink>(out: &mut W, block: &mut OutputBlock, kept: &[u8])
+    ensures { IsTextAppendedThroughBlock W.taken W.faults out.old block.old
         (map byte_of_cell (cells_of_bytes kept.now)) out.new block.new }
 {
     block.push(out, kept);
 }
 
 // Writes a row of a map, one byte per cell.
-fn push_small_row<W: Sink>(
+fn push_one_byte_row<W: Sink>(
     out: &mut W,
     block: &mut OutputBlock,
     grid: &CellMap,
@@ -147,44 +147,57 @@ fn push_small_row<W: Sink>(
 )
     requires row { row < grid.now.region.rows }
     requires bytes { length bytes.old ≡ grid.now.region.cols }
-    ensures pushed { Appends W.taken W.faults out.old block.old
+    ensures pushed { IsTextAppendedThroughBlock W.taken W.faults out.old block.old
         (map byte_of_cell (row_at grid.now row)) out.new block.new }
     ensures width { length bytes.new ≡ length bytes.old }
 {
     if let Some(kept) = grid.bytes(row) {
-        push_kept(out, block, kept);
+        push_row_stored_as_bytes(out, block, kept);
         return;
     }
-    write_runs(grid.runs(row), bytes);
+    write_bytes_of_runs(grid.runs(row), bytes);
     block.push(out, bytes);
 }
 
 // Writes the rows of a map, one byte per cell.
-fn push_small_rows<W: Sink>(out: &mut W, block: &mut OutputBlock, grid: &CellMap, bytes: &mut [u8])
+fn push_one_byte_rows<W: Sink>(
+    out: &mut W,
+    block: &mut OutputBlock,
+    grid: &CellMap,
+    bytes: &mut [u8],
+)
     requires { length bytes.old ≡ grid.now.region.cols }
-    ensures { Appends W.taken W.faults out.old block.old
+    ensures { IsTextAppendedThroughBlock W.taken W.faults out.old block.old
         (flat_map (map byte_of_cell) grid.now.rows) out.new block.new }
 {
     for row in 0..grid.region().rows() {
-        push_small_row(out, block, grid, row, bytes);
+        push_one_byte_row(out, block, grid, row, bytes);
     }
 }
 
 // Writes the rows of a map, four bytes per cell.
-fn push_wide_rows<W: Sink>(out: &mut W, block: &mut OutputBlock, grid: &CellMap, cells: &mut [Cell])
+fn push_four_byte_rows<W: Sink>(
+    out: &mut W,
+    block: &mut OutputBlock,
+    grid: &CellMap,
+    cells: &mut [Cell],
+)
     requires { length cells.old ≡ grid.now.region.cols }
-    ensures { Appends W.taken W.faults out.old block.old
-        (flat_map (flat_map wide_bytes) grid.now.rows) out.new block.new }
+    ensures { IsTextAppendedThroughBlock W.taken W.faults out.old block.old
+        (flat_map (flat_map four_bytes_of_cell) grid.now.rows) out.new block.new }
 {
-    let mut bytes = [0; WIDE_BYTES];
+    let mut bytes = [0; FOUR_BYTE_ROW_BUFFER_BYTES];
     for row in 0..grid.region().rows() {
         grid.copy_row(row, cells);
-        push_wide_row(out, block, cells, &mut bytes);
+        push_four_byte_row(out, block, cells, &mut bytes);
     }
 }
 
-/// Allocates the buffers that [`push_rows`] needs: for a row's cells, and for their bytes.
-pub(crate) fn row_buffers(alloc: Global, grid: &CellMap) -> Result<(Vec<Cell>, Vec<u8>), Memory>
+/// Allocates the buffers that [`push_map_rows`] needs: for a row's cells, and for their bytes.
+pub(crate) fn new_row_cell_and_byte_buffers(
+    alloc: Global,
+    grid: &CellMap,
+) -> Result<(Vec<Cell>, Vec<u8>), Memory>
     ensures cells { IfOk result (λ both. length both.0.items ≡ grid.now.region.cols) }
     ensures bytes { IfOk result (λ both. length both.1.items ≡ grid.now.region.cols) }
 {
@@ -199,7 +212,7 @@ pub(crate) fn row_buffers(alloc: Global, grid: &CellMap) -> Result<(Vec<Cell>, V
 }
 
 /// Writes the cells of a map, row by row. The slices are buffers for a row's cells and their bytes.
-pub(crate) fn push_rows<W: Sink>(
+pub(crate) fn push_map_rows<W: Sink>(
     out: &mut W,
     block: &mut OutputBlock,
     grid: &CellMap,
@@ -208,14 +221,14 @@ pub(crate) fn push_rows<W: Sink>(
 )
     requires cells { length cells.old ≡ grid.now.region.cols }
     requires bytes { length bytes.old ≡ grid.now.region.cols }
-    ensures { Appends W.taken W.faults out.old block.old
-        (rows_bytes grid.now.rows) out.new block.new }
+    ensures { IsTextAppendedThroughBlock W.taken W.faults out.old block.old
+        (cell_size_and_map_rows_bytes grid.now.rows) out.new block.new }
 {
-    if are_small(grid) {
+    if are_one_byte_cells(grid) {
         block.push(out, &[1]);
-        push_small_rows(out, block, grid, bytes);
+        push_one_byte_rows(out, block, grid, bytes);
         return;
     }
     block.push(out, &[6]);
-    push_wide_rows(out, block, grid, cells);
+    push_four_byte_rows(out, block, grid, cells);
 }

@@ -1,22 +1,22 @@
 //! A sink that discards all bytes, used to count the bytes of a text.
 
 ghost use Rattle.std.specs.Prelude.{◌≡◌};
-ghost use Rattle.cell_core_devices.specs.declared.sink.Flushes.TheVariants.{Never};
+ghost use Rattle.cell_core_devices.specs.declared.sink.FlushCount.TheVariants.{Never};
 
 use cell_core::device::DeviceFault;
-use cell_core::sink::{Flushes, Sink};
+use cell_core::sink::{FlushCount, Sink};
 use std::marker::Model;
 
 /// A sink that accepts and discards all bytes.
 #[derive(Debug, Drop)]
 pub(crate) struct NullSink {
-    flushes: Flushes,
+    flushes: FlushCount,
 }
 
 impl Model for NullSink {
-    ghost use Rattle.cell_core_devices.specs.declared.sink.Flushes.{Flushes};
+    ghost use Rattle.cell_core_devices.specs.declared.sink.FlushCount.{FlushCount};
 
-    ghost Value = { Flushes };
+    ghost Value = { FlushCount };
 
     ghost view = { λ s. s.flushes };
 }
@@ -26,14 +26,14 @@ impl NullSink {
         ensures { result ≡ Never }
     {
         NullSink {
-            flushes: Flushes::Never,
+            flushes: FlushCount::Never,
         }
     }
 }
 
 impl Sink for NullSink {
     ghost use Rattle.std.specs.Prelude.{None, false, ◌≡◌, ◌<◌, length, Ok};
-    ghost use Rattle.cell_core_devices.specs.Device.{flushed_again};
+    ghost use Rattle.cell_core_devices.specs.Device.{flush_count_after_flush};
 
     ghost taken = { λ _. None };
 
@@ -49,7 +49,7 @@ impl Sink for NullSink {
 
     fn flush(&mut self) -> Result<(), DeviceFault>
         ensures done { result ≡ Ok tt }
-        ensures again { self.new ≡ flushed_again self.old }
+        ensures again { self.new ≡ flush_count_after_flush self.old }
     {
         self.flushes = self.flushes.again();
         Ok(())

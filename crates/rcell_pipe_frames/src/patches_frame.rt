@@ -4,11 +4,11 @@ ghost use Rattle.std.specs.Prelude.{◌≡◌, [], ◌∷◌, flat_map, length, 
 ghost use Rattle.std.specs.List.{zip};
 ghost use Rattle.std.specs.Option.{option_map};
 ghost use Rattle.std.specs.Int.{w32, to_le_bytes};
-ghost use Rattle.cell_core_devices.specs.Blocks.{Appends};
-ghost use Rattle.rcell_pipe_frames.specs.FrameBytes.{flag, joining_code, patch_bytes, patch_rows_bytes, patches_bytes, wide_bytes, zoned_bytes};
+ghost use Rattle.cell_core_devices.specs.Blocks.{IsTextAppendedThroughBlock};
+ghost use Rattle.rcell_pipe_frames.specs.FrameBytes.{one_if_true_else_zero, joining_code, patch_bytes, patches_and_any_zones_bytes, patches_frame_bytes, four_bytes_of_cell, zoned_patch_bytes};
 
-use crate::bytes::{flag, push_number};
-use cell_cats_areas::clump::Joining;
+use crate::bytes::{one_if_true_else_zero, push_eight_byte_number};
+use cell_clumps::clump::Joining;
 use cell_core::block::OutputBlock;
 use cell_core::sink::Sink;
 use cell_patches::patch::Patch;
@@ -23,22 +23,24 @@ fn joining_code(joining: Joining) -> u8
     }
 }
 
-fn push_joining<W: Sink>(out: &mut W, block: &mut OutputBlock, joining: Joining)
-    ensures { Appends W.taken W.faults out.old block.old (joining_code joining ∷ [])
+fn push_joining_code<W: Sink>(out: &mut W, block: &mut OutputBlock, joining: Joining)
+    ensures { IsTextAppendedThroughBlock W.taken W.faults out.old block.old (joining_code joining
+        ∷ [])
         out.new block.new }
 {
     block.push(out, &[joining_code(joining)]);
 }
 
-fn push_depth<W: Sink>(out: &mut W, block: &mut OutputBlock, depth: u32)
-    ensures { Appends W.taken W.faults out.old block.old (to_le_bytes w32 depth)
+fn push_patch_core_depth<W: Sink>(out: &mut W, block: &mut OutputBlock, depth: u32)
+    ensures { IsTextAppendedThroughBlock W.taken W.faults out.old block.old (to_le_bytes w32 depth)
         out.new block.new }
 {
     block.push(out, &depth.to_le_bytes());
 }
 
-fn push_class<W: Sink>(out: &mut W, block: &mut OutputBlock, class: i32)
-    ensures { Appends W.taken W.faults out.old block.old (wide_bytes (Some class))
+fn push_patch_category<W: Sink>(out: &mut W, block: &mut OutputBlock, class: i32)
+    ensures { IsTextAppendedThroughBlock W.taken W.faults out.old block.old
+        (four_bytes_of_cell (Some class))
         out.new block.new }
 {
     block.push(out, &class.to_le_bytes());
@@ -46,22 +48,24 @@ fn push_class<W: Sink>(out: &mut W, block: &mut OutputBlock, class: i32)
 
 // Writes a patch.
 fn push_patch<W: Sink>(out: &mut W, block: &mut OutputBlock, patch: &Patch)
-    ensures { Appends W.taken W.faults out.old block.old (patch_bytes patch.now) out.new block.new }
+    ensures { IsTextAppendedThroughBlock W.taken W.faults out.old block.old
+        (patch_bytes patch.now) out.new block.new }
 {
-    push_class(out, block, patch.class);
-    push_number(out, block, patch.cells);
-    push_number(out, block, patch.ends);
-    push_number(out, block, patch.flanks);
-    push_number(out, block, patch.core);
-    push_number(out, block, patch.first_row as u64);
-    push_number(out, block, patch.last_row as u64);
-    push_number(out, block, patch.first_col as u64);
-    push_number(out, block, patch.last_col as u64);
+    push_patch_category(out, block, patch.class);
+    push_eight_byte_number(out, block, patch.cells);
+    push_eight_byte_number(out, block, patch.ends);
+    push_eight_byte_number(out, block, patch.flanks);
+    push_eight_byte_number(out, block, patch.core);
+    push_eight_byte_number(out, block, patch.first_row as u64);
+    push_eight_byte_number(out, block, patch.last_row as u64);
+    push_eight_byte_number(out, block, patch.first_col as u64);
+    push_eight_byte_number(out, block, patch.last_col as u64);
 }
 
 // Writes each patch.
 fn push_each_patch<W: Sink>(out: &mut W, block: &mut OutputBlock, patches: &[Patch])
-    ensures { Appends W.taken W.faults out.old block.old (flat_map patch_bytes patches.now)
+    ensures { IsTextAppendedThroughBlock W.taken W.faults out.old block.old
+        (flat_map patch_bytes patches.now)
         out.new block.new }
 {
     for patch in patches {
@@ -70,63 +74,73 @@ fn push_each_patch<W: Sink>(out: &mut W, block: &mut OutputBlock, patches: &[Pat
 }
 
 // Writes the zone of a patch, or the smallest `i32` if it has none.
-fn push_zone<W: Sink>(out: &mut W, block: &mut OutputBlock, zone: Option<i32>)
-    ensures { Appends W.taken W.faults out.old block.old (wide_bytes zone) out.new block.new }
+fn push_zone_of_patch<W: Sink>(out: &mut W, block: &mut OutputBlock, zone: Option<i32>)
+    ensures { IsTextAppendedThroughBlock W.taken W.faults out.old block.old
+        (four_bytes_of_cell zone) out.new block.new }
 {
-    push_class(out, block, zone.unwrap_or(i32::MIN));
+    push_patch_category(out, block, zone.unwrap_or(i32::MIN));
 }
 
 // Writes a patch and its zone.
-fn push_zoned<W: Sink>(out: &mut W, block: &mut OutputBlock, patch: &Patch, zone: Option<i32>)
-    ensures { Appends W.taken W.faults out.old block.old (zoned_bytes (patch.now, zone))
+fn push_patch_with_zone<W: Sink>(
+    out: &mut W,
+    block: &mut OutputBlock,
+    patch: &Patch,
+    zone: Option<i32>,
+)
+    ensures { IsTextAppendedThroughBlock W.taken W.faults out.old block.old
+        (zoned_patch_bytes (patch.now, zone))
         out.new block.new }
 {
     push_patch(out, block, patch);
-    push_zone(out, block, zone);
+    push_zone_of_patch(out, block, zone);
 }
 
 // Writes each patch with its zone.
-fn push_each_zoned<W: Sink>(
+fn push_patches_with_zones<W: Sink>(
     out: &mut W,
     block: &mut OutputBlock,
     patches: &[Patch],
     zones: &[Option<i32>],
 )
     requires { length zones.now ≡ length patches.now }
-    ensures { Appends W.taken W.faults out.old block.old
-        (flat_map zoned_bytes (zip patches.now zones.now)) out.new block.new }
+    ensures { IsTextAppendedThroughBlock W.taken W.faults out.old block.old
+        (flat_map zoned_patch_bytes (zip patches.now zones.now)) out.new block.new }
 {
     for i in 0..patches.len() {
-        push_zoned(out, block, &patches[i], zones[i]);
+        push_patch_with_zone(out, block, &patches[i], zones[i]);
     }
 }
 
 // Writes whether there are zones, as one byte.
-fn push_has_zones<W: Sink>(out: &mut W, block: &mut OutputBlock, has_zones: bool)
-    ensures { Appends W.taken W.faults out.old block.old (flag has_zones ∷ []) out.new block.new }
+fn push_whether_zones_follow<W: Sink>(out: &mut W, block: &mut OutputBlock, has_zones: bool)
+    ensures { IsTextAppendedThroughBlock W.taken W.faults out.old block.old
+        (one_if_true_else_zero has_zones
+        ∷ []) out.new block.new }
 {
-    block.push(out, &[flag(has_zones)]);
+    block.push(out, &[one_if_true_else_zero(has_zones)]);
 }
 
 // Writes each patch, with its zone if there are zones.
-fn push_rows<W: Sink>(
+fn push_map_rows<W: Sink>(
     out: &mut W,
     block: &mut OutputBlock,
     patches: &[Patch],
     zones: &Option<Vec<Option<i32>>>,
 )
     requires { IfSome zones.now (λ zones. length zones.items ≡ length patches.now) }
-    ensures { Appends W.taken W.faults out.old block.old
-        (patch_rows_bytes patches.now (option_map (λ z. z.items) zones.now)) out.new block.new }
+    ensures { IsTextAppendedThroughBlock W.taken W.faults out.old block.old
+        (patches_and_any_zones_bytes patches.now
+        (option_map (λ z. z.items) zones.now)) out.new block.new }
 {
     match zones {
-        Some(zones) => push_each_zoned(out, block, patches, zones),
+        Some(zones) => push_patches_with_zones(out, block, patches, zones),
         None => push_each_patch(out, block, patches),
     }
 }
 
 /// Writes the frame for the question at index `place`, from 0.
-pub fn push_patches<W: Sink>(
+pub fn push_patches_frame<W: Sink>(
     out: &mut W,
     block: &mut OutputBlock,
     place: u64,
@@ -136,19 +150,20 @@ pub fn push_patches<W: Sink>(
     zones: &Option<Vec<Option<i32>>>,
 )
     requires { IfSome zones.now (λ zones. length zones.items ≡ length patches.now) }
-    ensures { Appends W.taken W.faults out.old block.old (patches_bytes (record {
-      question = place;
-      joining = joining;
-      depth = depth;
-      patches = patches.now;
-      zones = option_map (λ z. z.items) zones.now;
-    })) out.new block.new }
+    ensures { IsTextAppendedThroughBlock W.taken W.faults out.old block.old
+        (patches_frame_bytes (record {
+          question = place;
+          joining = joining;
+          depth = depth;
+          patches = patches.now;
+          zones = option_map (λ z. z.items) zones.now;
+        })) out.new block.new }
 {
     block.push(out, b"PTCH");
-    push_number(out, block, place);
-    push_joining(out, block, joining);
-    push_depth(out, block, depth);
-    push_has_zones(out, block, zones.is_some());
-    push_number(out, block, patches.len() as u64);
-    push_rows(out, block, patches, zones);
+    push_eight_byte_number(out, block, place);
+    push_joining_code(out, block, joining);
+    push_patch_core_depth(out, block, depth);
+    push_whether_zones_follow(out, block, zones.is_some());
+    push_eight_byte_number(out, block, patches.len() as u64);
+    push_map_rows(out, block, patches, zones);
 }

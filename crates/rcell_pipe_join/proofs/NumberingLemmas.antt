@@ -4,51 +4,56 @@ use Rattle.std.proofs.Common.{append_assoc, append-nil, length, subst, refl, Res
 use Rattle.std.specs.Prelude.{IfOk}
 use Rattle.std.proofs.lemmas.List.{map-append}
 use Rattle.std.proofs.lemmas.List.Sums.{sum_by-append, sum_by-cons}
-use Rattle.cell_join_tiles.specs.Beginnings.{clumps_in_grid, clumps_in_row}
-use Rattle.cell_join_tiles.specs.JoinedBorders.{begun_in}
-use Rattle.cell_join_tiles.specs.JoinedTiles.{AreJoinedTiles, TileJoinerValue}
-use Rattle.cell_join_tiles.specs.Values.{BorderValue}
-use Rattle.cell_join_tiles.specs.parts.RowMarks.{begun_of}
+use Rattle.cell_join_tiles.specs.Beginnings.{clump_count_of_tile_grid, clump_count_of_tile_row}
+use Rattle.cell_join_tiles.specs.JoinedBorders.{begun_clump_counts_of_grid}
+use Rattle.cell_join_tiles.specs.JoinedTiles.{JoinerHasJoinedTileRows, TileJoinerValue}
+use Rattle.cell_join_tiles.specs.Values.{TileBorderValue}
+use Rattle.cell_join_tiles.specs.parts.RowMarks.{begun_clump_counts_of_tile_row}
 
 -- some rows of a grid are joined, and these are left
-pub record AreJoinedSo (grid left : List (List BorderValue)) (joiner : TileJoinerValue) : Type 0 where
-  pub done : List (List BorderValue)
+pub record AreJoinedSo (grid left : List (List TileBorderValue)) (joiner : TileJoinerValue) : Type 0 where
+  pub done : List (List TileBorderValue)
   pub whole : grid ≡ done ++ left
-  pub joined : AreJoinedTiles done joiner
+  pub joined : JoinerHasJoinedTileRows done joiner
 
 -- the patches of the joined rows and of the next row are among all patches
-pub so-few : (grid left rest : List (List BorderValue)) (row : List BorderValue) (joiner : TileJoinerValue)
-    → AreJoinedSo grid left joiner → left ≡ row ∷ rest → clumps_in_grid (begun_in grid) < 2 ^ 64
-    → joiner.clumps + clumps_in_row (begun_of row) < 2 ^ 64
+pub so-few : (grid left rest : List (List TileBorderValue)) (row : List TileBorderValue) (joiner : TileJoinerValue)
+    → AreJoinedSo grid left joiner → left ≡ row ∷ rest → clump_count_of_tile_grid
+    (begun_clump_counts_of_grid grid) < 2 ^ 64
+    → joiner.clumps + clump_count_of_tile_row (begun_clump_counts_of_tile_row row) < 2 ^ 64
 so-few grid left rest row joiner so is few =
-    let all : begun_in grid ≡ begun_in so.done ++ begun_of row ∷ begun_in rest =
-    ap begun_in (so.whole ∙ ap (λ (l : List (List BorderValue)). so.done ++ l) is)
-    ∙ map-append begun_of so.done (row ∷ rest) in
-    let sum : clumps_in_grid (begun_in grid)
-    ≡ clumps_in_grid (begun_in so.done) + (clumps_in_row (begun_of row) + clumps_in_grid (begun_in rest)) =
-    ap clumps_in_grid all ∙ sum_by-append clumps_in_row (begun_in so.done) (begun_of row ∷ begun_in rest)
-    ∙ ap (λ (n : ℕ). clumps_in_grid (begun_in so.done) + n)
-    (sum_by-cons clumps_in_row (begun_of row) (begun_in rest)) in
+    let all : begun_clump_counts_of_grid grid ≡ begun_clump_counts_of_grid so.done ++ begun_clump_counts_of_tile_row row
+    ∷ begun_clump_counts_of_grid rest =
+    ap begun_clump_counts_of_grid (so.whole ∙ ap (λ (l : List (List TileBorderValue)). so.done ++ l) is)
+    ∙ map-append begun_clump_counts_of_tile_row so.done (row ∷ rest) in
+    let sum : clump_count_of_tile_grid (begun_clump_counts_of_grid grid)
+    ≡ clump_count_of_tile_grid (begun_clump_counts_of_grid so.done) + (clump_count_of_tile_row
+    (begun_clump_counts_of_tile_row row) + clump_count_of_tile_grid (begun_clump_counts_of_grid rest)) =
+    ap clump_count_of_tile_grid all ∙ sum_by-append clump_count_of_tile_row (begun_clump_counts_of_grid so.done)
+    (begun_clump_counts_of_tile_row row ∷ begun_clump_counts_of_grid rest)
+    ∙ ap (λ (n : ℕ). clump_count_of_tile_grid (begun_clump_counts_of_grid so.done) + n)
+    (sum_by-cons clump_count_of_tile_row (begun_clump_counts_of_tile_row row) (begun_clump_counts_of_grid rest)) in
     omega (arith, sum, so.joined.clumps, few)
 
 -- one more row is joined
-pub so-more : (grid left rest : List (List BorderValue)) (row : List BorderValue) (old new : TileJoinerValue)
+pub so-more : (grid left rest : List (List TileBorderValue)) (row : List TileBorderValue) (old new : TileJoinerValue)
     → AreJoinedSo grid left old → left ≡ row ∷ rest
-    → ((done : List (List BorderValue)) → AreJoinedTiles done old → AreJoinedTiles (done ++ row ∷ []) new)
+    → ((done : List (List TileBorderValue)) → JoinerHasJoinedTileRows done old
+    → JoinerHasJoinedTileRows (done ++ row ∷ []) new)
     → AreJoinedSo grid rest new
 so-more grid left rest row old new so is on = record {
   done = so.done ++ row ∷ [];
   whole =
-      so.whole ∙ ap (λ (l : List (List BorderValue)). so.done ++ l) is ∙ sym (append_assoc so.done (row ∷ []) rest);
+      so.whole ∙ ap (λ (l : List (List TileBorderValue)). so.done ++ l) is ∙ sym (append_assoc so.done (row ∷ []) rest);
   joined = on so.done so.joined;
 }
 
 -- once no row is left, all are joined
-pub so-all : (grid left : List (List BorderValue)) (joiner : TileJoinerValue) → AreJoinedSo grid left joiner
-    → left ≡ [] → AreJoinedTiles grid joiner
+pub so-all : (grid left : List (List TileBorderValue)) (joiner : TileJoinerValue) → AreJoinedSo grid left joiner
+    → left ≡ [] → JoinerHasJoinedTileRows grid joiner
 so-all grid left joiner so is =
-    subst (λ (g : List (List BorderValue)). AreJoinedTiles g joiner)
-    (sym (so.whole ∙ ap (λ (l : List (List BorderValue)). so.done ++ l) is ∙ append-nil so.done)) so.joined
+    subst (λ (g : List (List TileBorderValue)). JoinerHasJoinedTileRows g joiner)
+    (sym (so.whole ∙ ap (λ (l : List (List TileBorderValue)). so.done ++ l) is ∙ append-nil so.done)) so.joined
 
 pub if-ok : {A E : Type 0} (P Q : A → Type 0) (r : Result A E) → ((x : A) → P x → Q x) → IfOk r P → IfOk r Q
 if-ok P Q (Ok x) on h = on x h

@@ -4,24 +4,26 @@ use Rattle.std.proofs.Common.{ap, sym, arith}
 use Rattle.std.specs.Global.{Global}
 use Rattle.std.proofs.lemmas.List.{take_more}
 use Rattle.std.proofs.lemmas.List.Sums.{sum_by-cons}
-use Rattle.cell_join_tiles.specs.Beginnings.{clumps_in_grid, clumps_in_row}
-use Rattle.cell_join_tiles.specs.JoinedBorders.{begun_in}
-use Rattle.cell_join_tiles.specs.Values.{border_values}
-use Rattle.cell_join_tiles.specs.declared.border.Border.{Border}
-use Rattle.cell_join_tiles.specs.parts.RowMarks.{begun_of}
-use Rattle.rcell_pipe_join.specs.BorderGrids.{grid_values}
+use Rattle.cell_join_tiles.specs.Beginnings.{clump_count_of_tile_grid, clump_count_of_tile_row}
+use Rattle.cell_join_tiles.specs.JoinedBorders.{begun_clump_counts_of_grid}
+use Rattle.cell_join_tiles.specs.Values.{values_of_tile_borders}
+use Rattle.cell_join_tiles.specs.declared.border.TileBorder.{TileBorder}
+use Rattle.cell_join_tiles.specs.parts.RowMarks.{begun_clump_counts_of_tile_row}
+use Rattle.rcell_pipe_join.specs.BorderGrids.{borders_as_values}
 
-abbrev patches : List (Vec Border Global) → ℕ
-patches grid = clumps_in_grid (begun_in (grid_values grid))
+abbrev patches : List (Vec TileBorder Global) → ℕ
+patches grid = clump_count_of_tile_grid (begun_clump_counts_of_grid (borders_as_values grid))
 
-abbrev of_row : List Border → ℕ
-of_row row = clumps_in_row (begun_of (border_values row))
+abbrev of_row : List TileBorder → ℕ
+of_row row = clump_count_of_tile_row (begun_clump_counts_of_tile_row (values_of_tile_borders row))
 
-patches-cons : (row : Vec Border Global) (grid : List (Vec Border Global))
+patches-cons : (row : Vec TileBorder Global) (grid : List (Vec TileBorder Global))
     → patches (row ∷ grid) ≡ of_row row.items + patches grid
-patches-cons row grid = sum_by-cons clumps_in_row (begun_of (border_values row.items)) (begun_in (grid_values grid))
+patches-cons row grid = sum_by-cons clump_count_of_tile_row (begun_clump_counts_of_tile_row
+    (values_of_tile_borders row.items))
+    (begun_clump_counts_of_grid (borders_as_values grid))
 
-patches-push : (grid : List (Vec Border Global)) (row : Vec Border Global)
+patches-push : (grid : List (Vec TileBorder Global)) (row : Vec TileBorder Global)
     → patches (grid ++ row ∷ []) ≡ patches grid + of_row row.items
 patches-push [] row = let one = patches-cons row [] in omega (arith, one)
 patches-push (first ∷ grid) row =
@@ -31,12 +33,12 @@ patches-push (first ∷ grid) row =
     omega (arith, more, whole, before)
 
 -- one more row
-pub patches-more : (grid : List (Vec Border Global)) (i : ℕ) (d : Vec Border Global) → i < length grid
+pub patches-more : (grid : List (Vec TileBorder Global)) (i : ℕ) (d : Vec TileBorder Global) → i < length grid
     → patches (take (i + 1) grid) ≡ patches (take i grid) + of_row (get_or grid i d).items
 patches-more grid i d within = ap patches (take_more grid i d within) ∙ patches-push (take i grid) (get_or grid i d)
 
 -- the first rows have at most all patches
-pub patches-first : (grid : List (Vec Border Global)) (n : ℕ) → patches (take n grid) ≤ patches grid
+pub patches-first : (grid : List (Vec TileBorder Global)) (n : ℕ) → patches (take n grid) ≤ patches grid
 patches-first [] zero = omega arith
 patches-first [] (suc n) = omega arith
 patches-first (row ∷ grid) zero = omega arith
@@ -47,6 +49,6 @@ patches-first (row ∷ grid) (suc n) =
     omega (arith, less, some, all)
 
 -- the patches of the row at an index
-pub row-patches : (grid : List (Vec Border Global)) (i : ℕ) (row : Vec Border Global) (slice : List Border)
+pub row-patches : (grid : List (Vec TileBorder Global)) (i : ℕ) (row : Vec TileBorder Global) (slice : List TileBorder)
     → row ≡ get_or grid i row → slice ≡ row.items → of_row slice ≡ of_row (get_or grid i row).items
-row-patches grid i row slice is value = ap of_row (value ∙ ap (λ (v : Vec Border Global). v.items) is)
+row-patches grid i row slice is value = ap of_row (value ∙ ap (λ (v : Vec TileBorder Global). v.items) is)

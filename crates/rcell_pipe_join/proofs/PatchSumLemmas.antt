@@ -6,57 +6,61 @@ use Rattle.std.specs.Ordering.{eq_by_cmp}
 use Rattle.std.proofs.lemmas.List.Elements.{All-cons, All-head, All-nil, All-tail}
 use Rattle.std.proofs.lemmas.List.Sums.{sum_by-cons}
 use Rattle.cell_core.specs.Grid.{Grid, CellValue}
-use Rattle.cell_cats_areas.specs.declared.clump.Joining.{Joining}
-use Rattle.cell_cats_areas.specs.Areas.{Position, cell_at_position, HasNumber, IsClumping}
-use Rattle.cell_cats_areas.specs.parts.CellPlaces.{position}
-use Rattle.cell_cats_areas.proofs.LawLemmas.{HasNumber-one}
+use Rattle.cell_clumps.specs.declared.clump.Joining.{Joining}
+use Rattle.cell_clumps.specs.Clumps.{Position, cell_at_position, HasClumpNumber, IsClumpMapOf}
+use Rattle.cell_clumps.specs.parts.CellPlaces.{position_at_row_and_column}
+use Rattle.cell_clumps.proofs.LawLemmas.{HasClumpNumber-one}
 use Rattle.cell_stats_combinations.specs.declared.skip.Skip.{Skip}
 use Rattle.cell_stats_combinations.specs.declared.skip.Skip.TheVariants.{Nothing, AnyNull, AllNull}
-use Rattle.cell_stats_combinations.specs.Combinations.{Combination, combination_cmp, cell_of_map, combination_at}
-use Rattle.cell_stats_combinations.specs.LeftOut.{is_left_out, kept_cells}
-use Rattle.cell_stats_counts.specs.Counts.{count_of}
-use Rattle.cell_stats_combinations.specs.Listed.{Counts, entry_of, listed_of}
-use Rattle.cell_join_numbers.specs.Parts.{AreTiling, IsPart, Rectangle}
-use Rattle.cell_join_numbers.specs.AreaParts.{moved_position}
-use Rattle.cell_join_numbers.specs.TableParts.{Part}
-use Rattle.cell_join_numbers.proofs.AreaLemmas.{is-some}
-use Rattle.cell_join_numbers.specs.declared.stretch.Stretch.{Stretch}
-use Rattle.cell_join_tiles.specs.Beginnings.{IsCutIntoTiles}
-use Rattle.cell_join_tiles.specs.JoinedBorders.{HaveBorders}
-use Rattle.cell_join_tiles.specs.JoinedTiles.{GridNumbers}
-use Rattle.cell_join_tiles.specs.Values.{BorderValue}
-use Rattle.rcell_pipe_join.specs.JoinLaw.{FramesNumberTheMap, run_numbers}
-use Rattle.rcell_pipe_join.specs.SumLaw.{HasTableOfPart, TablesOfTilesAddUp}
-use Rattle.rcell_pipe_join.specs.PatchSumLaw.{GridTile, HasRenumberedTable, IsGridTile, TablesOfPatchesAddUp}
-use Rattle.rcell_pipe_join.specs.PatchSumLaw.{number_by_runs, patch_combinations, place_in_grid, tile_combinations}
+use Rattle.cell_stats_combinations.specs.Combinations.{Combination, combination_cmp, cell_of_map_at_place}
+use Rattle.cell_stats_combinations.specs.Combinations.{combination_at_row_and_column}
+use Rattle.cell_stats_combinations.specs.LeftOut.{combination_is_left_out, kept_cells}
+use Rattle.cell_stats_counts.specs.Counts.{cell_count_of_combination}
+use Rattle.cell_stats_combinations.specs.Listed.{CombinationCounts, entry_count_of_combination}
+use Rattle.cell_stats_combinations.specs.Listed.{listed_count_of_combination}
+use Rattle.cell_join_numbers.specs.Parts.{RectanglesCoverMap, MapsAreTileOfFullMaps, Rectangle}
+use Rattle.cell_join_numbers.specs.ClumpParts.{position_in_full_map}
+use Rattle.cell_join_numbers.specs.TableParts.{TileOfMaps}
+use Rattle.cell_join_numbers.proofs.ClumpCellLemmas.{is-some}
+use Rattle.cell_join_numbers.specs.declared.stretch.ConsecutiveClumps.{ConsecutiveClumps}
+use Rattle.cell_join_tiles.specs.Beginnings.{MapIsCutIntoTiles}
+use Rattle.cell_join_tiles.specs.JoinedBorders.{TilesHaveBorders}
+use Rattle.cell_join_tiles.specs.JoinedTiles.{AreClumpNumbersOfTileGrid}
+use Rattle.cell_join_tiles.specs.Values.{TileBorderValue}
+use Rattle.rcell_pipe_join.specs.JoinLaw.{RunsNumberFullMapPatches, full_map_numbers_of_run}
+use Rattle.rcell_pipe_join.specs.SumLaw.{AreEntriesOfTileTable, TablesOfTilesAddUp}
+use Rattle.rcell_pipe_join.specs.PatchSumLaw.{TileInTileGrid, AreRenumberedTableEntries, IsTileInTileGrid}
+use Rattle.rcell_pipe_join.specs.PatchSumLaw.{RenumberedPatchTablesAddUp}
+use Rattle.rcell_pipe_join.specs.PatchSumLaw.{full_map_patch_number_by_runs, combinations_with_patch_number}
+use Rattle.rcell_pipe_join.specs.PatchSumLaw.{tile_rectangle_in_grid, combinations_of_tile_with_patch}
 use Rattle.rcell_pipe_join.specs.PatchSumLaw.{renumbered_cell, renumbered_combination}
 use Rattle.rcell_pipe_join.proofs.CountLemmas.{listed-table, listed-with, listed_with}
 
 -- ---- counts of combinations that are replaced
 
-replaced-listed : (f : Combination → Combination) (k : Combination) (entries : Counts)
-    → listed_of k (map (λ entry. (f entry.0, entry.1)) entries)
+replaced-listed : (f : Combination → Combination) (k : Combination) (entries : CombinationCounts)
+    → listed_count_of_combination k (map (λ entry. (f entry.0, entry.1)) entries)
     ≡ listed_with (λ x. eq_by_cmp combination_cmp k (f x)) entries
 replaced-listed f k [] = refl
 replaced-listed f k (e ∷ es) =
     let rest = replaced-listed f k es in
-    sum_by-cons (entry_of k) (f e.0, e.1) (map (λ entry. (f entry.0, entry.1)) es)
-    ∙ ap (λ (n : ℕ). entry_of k (f e.0, e.1) + n) rest
+    sum_by-cons (entry_count_of_combination k) (f e.0, e.1) (map (λ entry. (f entry.0, entry.1)) es)
+    ∙ ap (λ (n : ℕ). entry_count_of_combination k (f e.0, e.1) + n) rest
     ∙ sym (sum_by-cons (λ (entry : Combination × ℕ). cond (eq_by_cmp combination_cmp k (f entry.0)) entry.1 0) e es)
 
 replaced-count : (f : Combination → Combination) (k : Combination) (cells : List Combination)
-    → count_by (λ x. eq_by_cmp combination_cmp k (f x)) cells ≡ count_of k (map f cells)
+    → count_by (λ x. eq_by_cmp combination_cmp k (f x)) cells ≡ cell_count_of_combination k (map f cells)
 replaced-count f k [] = refl
 replaced-count f k (c ∷ cells) =
     sum_by-cons (λ (x : Combination). cond (eq_by_cmp combination_cmp k (f x)) 1 0) c cells
     ∙ ap (λ (n : ℕ). cond (eq_by_cmp combination_cmp k (f c)) 1 0 + n) (replaced-count f k cells)
     ∙ sym (sum_by-cons (λ (x : Combination). cond (eq_by_cmp combination_cmp k x) 1 0) (f c) (map f cells))
 
-kept-out : (skip : Skip) (x : Combination) (cells : List Combination) → is_left_out skip x ≡ true
+kept-out : (skip : Skip) (x : Combination) (cells : List Combination) → combination_is_left_out skip x ≡ true
     → kept_cells skip (x ∷ cells) ≡ kept_cells skip cells
 kept-out skip x cells out = rw out refl
 
-kept-in : (skip : Skip) (x : Combination) (cells : List Combination) → is_left_out skip x ≡ false
+kept-in : (skip : Skip) (x : Combination) (cells : List Combination) → combination_is_left_out skip x ≡ false
     → kept_cells skip (x ∷ cells) ≡ x ∷ kept_cells skip cells
 kept-in skip x cells out = rw out refl
 
@@ -64,7 +68,7 @@ module _ (number : ℕ → ℕ) where
   abbrev f : Combination → Combination
   f = renumbered_combination number
 
-  left-out-stays : (skip : Skip) (k : Combination) → is_left_out skip (f k) ≡ is_left_out skip k
+  left-out-stays : (skip : Skip) (k : Combination) → combination_is_left_out skip (f k) ≡ combination_is_left_out skip k
   left-out-stays skip [] = refl
   left-out-stays skip (None ∷ k) = refl
   left-out-stays Nothing (Some (pos n) ∷ k) = refl
@@ -77,9 +81,10 @@ module _ (number : ℕ → ℕ) where
   kept-replaced : (skip : Skip) (cells : List Combination)
       → map f (kept_cells skip cells) ≡ kept_cells skip (map f cells)
   kept-replaced skip [] = refl
-  kept-replaced skip (c ∷ cells) = by (is_left_out skip c) refl (kept-replaced skip cells)
+  kept-replaced skip (c ∷ cells) = by (combination_is_left_out skip c) refl (kept-replaced skip cells)
     where
-      by : (b : Bool) → is_left_out skip c ≡ b → map f (kept_cells skip cells) ≡ kept_cells skip (map f cells)
+      by : (b : Bool) → combination_is_left_out skip c ≡ b → map f (kept_cells skip cells)
+          ≡ kept_cells skip (map f cells)
           → map f (kept_cells skip (c ∷ cells)) ≡ kept_cells skip (map f (c ∷ cells))
       by true out rest =
           ap (map f) (kept-out skip c cells out) ∙ rest
@@ -112,48 +117,55 @@ module _ (number : ℕ → ℕ) where
 
   module _ (numbers : Grid) (others : List Grid) where
     other-cells : (row col : ℕ) (picks : List ℕ)
-        → map (cell_of_map (numbers ∷ others) row col) (map suc picks)
-        ≡ map (cell_of_map (renumbered_map numbers ∷ others) row col) (map suc picks)
+        → map (cell_of_map_at_place (numbers ∷ others) row col) (map suc picks)
+        ≡ map (cell_of_map_at_place (renumbered_map numbers ∷ others) row col) (map suc picks)
     other-cells row col [] = refl
     other-cells row col (pick ∷ picks) =
-        ap (λ (l : Combination). cell_of_map others row col pick ∷ l) (other-cells row col picks)
+        ap (λ (l : Combination). cell_of_map_at_place others row col pick ∷ l) (other-cells row col picks)
 
     at-cell : (picks : List ℕ) (row col : ℕ)
-        → f (combination_at (numbers ∷ others) (0 ∷ map suc picks) row col)
-        ≡ combination_at (renumbered_map numbers ∷ others) (0 ∷ map suc picks) row col
+        → f (combination_at_row_and_column (numbers ∷ others) (0 ∷ map suc picks) row col)
+        ≡ combination_at_row_and_column (renumbered_map numbers ∷ others) (0 ∷ map suc picks) row col
     at-cell picks row col =
-        ap (λ (l : Combination). renumbered_cell number (cell_at_position numbers (position row col)) ∷ l)
+        ap (λ (l : Combination). renumbered_cell number (cell_at_position numbers
+        (position_at_row_and_column row col)) ∷ l)
         (other-cells row col picks)
-        ∙ ap (λ (c : CellValue). c ∷ map (cell_of_map (renumbered_map numbers ∷ others) row col) (map suc picks))
-        (sym (cell-mapped numbers (position row col)))
+        ∙ ap (λ (c : CellValue). c ∷ map (cell_of_map_at_place (renumbered_map numbers ∷ others) row col)
+        (map suc picks))
+        (sym (cell-mapped numbers (position_at_row_and_column row col)))
 
     in-row : (picks : List ℕ) (row : ℕ) (cols : List ℕ)
-        → map f (map (combination_at (numbers ∷ others) (0 ∷ map suc picks) row) cols)
-        ≡ map (combination_at (renumbered_map numbers ∷ others) (0 ∷ map suc picks) row) cols
+        → map f (map (combination_at_row_and_column (numbers ∷ others) (0 ∷ map suc picks) row) cols)
+        ≡ map (combination_at_row_and_column (renumbered_map numbers ∷ others) (0 ∷ map suc picks) row) cols
     in-row picks row [] = refl
     in-row picks row (col ∷ cols) =
         ap
-        (λ (c : Combination). c ∷ map f (map (combination_at (numbers ∷ others) (0 ∷ map suc picks) row) cols))
+        (λ (c : Combination). c ∷ map f (map (combination_at_row_and_column (numbers ∷ others) (0
+        ∷ map suc picks) row) cols))
         (at-cell picks row col)
         ∙ ap
-        (λ (l : List Combination). combination_at (renumbered_map numbers ∷ others) (0 ∷ map suc picks) row col ∷ l)
+        (λ (l : List Combination). combination_at_row_and_column (renumbered_map numbers ∷ others) (0
+        ∷ map suc picks) row col ∷ l)
         (in-row picks row cols)
 
     in-rows : (picks cols rows : List ℕ)
-        → map f (flat_map (λ row. map (combination_at (numbers ∷ others) (0 ∷ map suc picks) row) cols) rows)
-        ≡ flat_map (λ row. map (combination_at (renumbered_map numbers ∷ others) (0 ∷ map suc picks) row) cols) rows
+        → map f (flat_map (λ row. map (combination_at_row_and_column (numbers ∷ others) (0
+        ∷ map suc picks) row) cols) rows)
+        ≡ flat_map (λ row. map (combination_at_row_and_column (renumbered_map numbers ∷ others) (0
+        ∷ map suc picks) row) cols) rows
     in-rows picks cols [] = refl
     in-rows picks cols (row ∷ rows) =
-        map-both (map (combination_at (numbers ∷ others) (0 ∷ map suc picks) row) cols)
-        (flat_map (λ row. map (combination_at (numbers ∷ others) (0 ∷ map suc picks) row) cols) rows)
+        map-both (map (combination_at_row_and_column (numbers ∷ others) (0 ∷ map suc picks) row) cols)
+        (flat_map (λ row. map (combination_at_row_and_column (numbers ∷ others) (0 ∷ map suc picks) row) cols) rows)
         ∙ ap
         (λ (l : List Combination).
         l
-        ++ map f (flat_map (λ row. map (combination_at (numbers ∷ others) (0 ∷ map suc picks) row) cols) rows))
+        ++ map f (flat_map (λ row. map (combination_at_row_and_column (numbers ∷ others) (0
+        ∷ map suc picks) row) cols) rows))
         (in-row picks row cols)
         ∙ ap
         (λ (l : List Combination).
-        map (combination_at (renumbered_map numbers ∷ others) (0 ∷ map suc picks) row) cols ++ l)
+        map (combination_at_row_and_column (renumbered_map numbers ∷ others) (0 ∷ map suc picks) row) cols ++ l)
         (in-rows picks cols rows)
       where
         map-both : (xs ys : List Combination) → map f (xs ++ ys) ≡ map f xs ++ map f ys
@@ -161,8 +173,8 @@ module _ (number : ℕ → ℕ) where
         map-both (x ∷ xs) ys = ap (λ (l : List Combination). f x ∷ l) (map-both xs ys)
 
     pub combinations-mapped : (picks : List ℕ) (rows cols : ℕ)
-        → map f (patch_combinations numbers others picks rows cols)
-        ≡ patch_combinations (renumbered_map numbers) others picks rows cols
+        → map f (combinations_with_patch_number numbers others picks rows cols)
+        ≡ combinations_with_patch_number (renumbered_map numbers) others picks rows cols
     combinations-mapped picks rows cols = in-rows picks (range_with_len 0 cols) (range_with_len 0 rows)
 
 -- ---- tables
@@ -172,59 +184,66 @@ columns picks = 0 ∷ map suc picks
 
 -- a renumbered table is the table of the renumbered map
 table-renumbered : (skip : Skip) (picks : List ℕ) (number : ℕ → ℕ) (place : Rectangle) (numbers : Grid)
-    → (others : List Grid) (table : Counts)
-    → HasRenumberedTable skip (patch_combinations numbers others picks place.rows place.cols) number table
-    → HasTableOfPart skip (columns picks) (record { place = place; maps = renumbered_map number numbers ∷ others })
+    → (others : List Grid) (table : CombinationCounts)
+    → AreRenumberedTableEntries skip (combinations_with_patch_number numbers others picks place.rows place.cols)
+    number table
+    → AreEntriesOfTileTable skip (columns picks) (record {
+      place = place;
+      maps = renumbered_map number numbers
+          ∷ others;
+    })
     table
 table-renumbered skip picks number place numbers others table has k =
     let f : Combination → Combination = renumbered_combination number in
-    let cells = patch_combinations numbers others picks place.rows place.cols in
-    ap (listed_of k) has.are
+    let cells = combinations_with_patch_number numbers others picks place.rows place.cols in
+    ap (listed_count_of_combination k) has.are
     ∙ replaced-listed f k has.entries
     ∙ listed-with (λ x. eq_by_cmp combination_cmp k (f x)) (kept_cells skip cells) has.entries
     (λ x. has.counts x ∙ listed-table skip cells x)
     ∙ replaced-count f k (kept_cells skip cells)
-    ∙ ap (count_of k) (kept-replaced number skip cells)
-    ∙ ap (λ (l : List Combination). count_of k (kept_cells skip l))
+    ∙ ap (cell_count_of_combination k) (kept-replaced number skip cells)
+    ∙ ap (λ (l : List Combination). cell_count_of_combination k (kept_cells skip l))
     (combinations-mapped number numbers others picks place.rows place.cols)
-    ∙ sym (listed-table skip (patch_combinations (renumbered_map number numbers) others picks place.rows place.cols) k)
+    ∙ sym (listed-table skip (combinations_with_patch_number (renumbered_map number numbers) others picks place.rows
+    place.cols) k)
 
 -- ---- tiles
 
-module _ (grid : List (List BorderValue)) (runs : List Stretch) (heights widths : List ℕ)
+module _ (grid : List (List TileBorderValue)) (runs : List ConsecutiveClumps) (heights widths : List ℕ)
     (numbers_of : ℕ → ℕ → Grid) where
-  abbrev part_of : GridTile → Part
+  abbrev part_of : TileInTileGrid → TileOfMaps
   part_of t = record {
-    place = place_in_grid heights widths t;
-    maps = renumbered_map (number_by_runs grid runs t) (numbers_of t.row t.col) ∷ t.others;
+    place = tile_rectangle_in_grid heights widths t;
+    maps = renumbered_map (full_map_patch_number_by_runs grid runs t) (numbers_of t.row t.col) ∷ t.others;
   }
 
-  places-same : (tiles : List GridTile)
-      → map (λ (part : Part). part.place) (map part_of tiles) ≡ map (place_in_grid heights widths) tiles
+  places-same : (tiles : List TileInTileGrid)
+      → map (λ (part : TileOfMaps). part.place) (map part_of tiles) ≡ map (tile_rectangle_in_grid heights widths) tiles
   places-same [] = refl
-  places-same (t ∷ tiles) = ap (λ (l : List Rectangle). place_in_grid heights widths t ∷ l) (places-same tiles)
+  places-same (t ∷ tiles) = ap (λ (l : List Rectangle). tile_rectangle_in_grid heights widths t ∷ l) (places-same tiles)
 
-  tables-renumbered : (skip : Skip) (picks : List ℕ) (tiles : List GridTile) (tables : List Counts)
-      → AllZip (λ t. HasRenumberedTable skip (tile_combinations heights widths numbers_of picks t)
-      (number_by_runs grid runs t)) tiles tables
-      → AllZip (HasTableOfPart skip (columns picks)) (map part_of tiles) tables
+  tables-renumbered : (skip : Skip) (picks : List ℕ) (tiles : List TileInTileGrid) (tables : List CombinationCounts)
+      → AllZip (λ t. AreRenumberedTableEntries skip (combinations_of_tile_with_patch heights widths numbers_of picks t)
+      (full_map_patch_number_by_runs grid runs t)) tiles tables
+      → AllZip (AreEntriesOfTileTable skip (columns picks)) (map part_of tiles) tables
   tables-renumbered skip picks [] [] all = tt
   tables-renumbered skip picks [] (table ∷ tables) all = absurd all
   tables-renumbered skip picks (t ∷ tiles) [] all = absurd all
   tables-renumbered skip picks (t ∷ tiles) (table ∷ tables) all = (
-    table-renumbered skip picks (number_by_runs grid runs t) (place_in_grid heights widths t) (numbers_of t.row t.col)
+    table-renumbered skip picks (full_map_patch_number_by_runs grid runs t) (tile_rectangle_in_grid heights widths t)
+        (numbers_of t.row t.col)
         t.others table all.0,
     tables-renumbered skip picks tiles tables all.1,
   )
 
-  module _ (j : Joining) (m numbers : Grid) (clumping : IsClumping j m numbers) (others : List Grid) where
-    abbrev IsPartHere : Part → Type 0
-    IsPartHere part = IsPart part.place (numbers ∷ others) part.maps
+  module _ (j : Joining) (m numbers : Grid) (clumping : IsClumpMapOf j m numbers) (others : List Grid) where
+    abbrev IsPartHere : TileOfMaps → Type 0
+    IsPartHere part = MapsAreTileOfFullMaps part.place (numbers ∷ others) part.maps
 
     -- a renumbered cell has its number in the full map
-    number-here : (number : ℕ → ℕ) (cells tile_numbers : Grid) → IsClumping j cells tile_numbers → (p q : Position)
+    number-here : (number : ℕ → ℕ) (cells tile_numbers : Grid) → IsClumpMapOf j cells tile_numbers → (p q : Position)
         → cell_at_position m q ≡ cell_at_position cells p
-        → ((k : ℕ) → cell_at_position tile_numbers p ≡ Some (pos k) → HasNumber j m q (number k))
+        → ((k : ℕ) → cell_at_position tile_numbers p ≡ Some (pos k) → HasClumpNumber j m q (number k))
         → renumbered_cell number (cell_at_position tile_numbers p) ≡ cell_at_position numbers q
     number-here number cells tile_numbers is p q cell numbered = by (cell_at_position cells p) refl
       where
@@ -234,39 +253,40 @@ module _ (grid : List (List BorderValue)) (runs : List Stretch) (heights widths 
         by (Some v) some =
             let there = is.numbered p (is-some (cell_at_position cells p) v some) in
             let here = clumping.numbered q (is-some (cell_at_position m q) v (cell ∙ some)) in
-            let same = HasNumber-one j m q (number there.0) here.0 (numbered there.0 there.2) here.1 in
+            let same = HasClumpNumber-one j m q (number there.0) here.0 (numbered there.0 there.2) here.1 in
             ap (renumbered_cell number) there.2 ∙ ap (λ (n : ℕ). Some (pos n)) same ∙ sym here.2
 
-    module _ (map_of : ℕ → ℕ → Grid) (cut : IsCutIntoTiles m heights widths map_of)
-        (borders : HaveBorders j heights widths map_of numbers_of grid)
-        (join : GridNumbers j grid (flat_map run_numbers runs)) where
-      tile-part : (t : GridTile) → IsGridTile heights widths others t → IsPartHere (part_of t)
+    module _ (map_of : ℕ → ℕ → Grid) (cut : MapIsCutIntoTiles m heights widths map_of)
+        (borders : TilesHaveBorders j heights widths map_of numbers_of grid)
+        (join : AreClumpNumbersOfTileGrid j grid (flat_map full_map_numbers_of_run runs)) where
+      tile-part : (t : TileInTileGrid) → IsTileInTileGrid heights widths others t → IsPartHere (part_of t)
       tile-part t is row col zero high wide =
-          let p : Position = position row col in
+          let p : Position = position_at_row_and_column row col in
           let tile = cut.tiles t.row t.col is.in_rows is.in_cols in
           let border = borders.tiles t.row t.col is.in_rows is.in_cols in
-          cell-mapped (number_by_runs grid runs t) (numbers_of t.row t.col) p
-          ∙ number-here (number_by_runs grid runs t) (map_of t.row t.col) (numbers_of t.row t.col) border.clumping p
-          (moved_position (place_in_grid heights widths t) p) (sym (tile.cells p high wide))
+          cell-mapped (full_map_patch_number_by_runs grid runs t) (numbers_of t.row t.col) p
+          ∙ number-here (full_map_patch_number_by_runs grid runs t) (map_of t.row t.col)
+          (numbers_of t.row t.col) border.clumping p
+          (position_in_full_map (tile_rectangle_in_grid heights widths t) p) (sym (tile.cells p high wide))
           (λ k here. join m heights widths map_of numbers_of cut borders t.row t.col is.in_rows is.in_cols p k here)
       tile-part t is row col (suc place) high wide = is.part row col place high wide
 
-      tile-parts : (tiles : List GridTile) → All (IsGridTile heights widths others) tiles
+      tile-parts : (tiles : List TileInTileGrid) → All (IsTileInTileGrid heights widths others) tiles
           → All IsPartHere (map part_of tiles)
       tile-parts [] are = All-nil IsPartHere
       tile-parts (t ∷ tiles) are =
           All-cons IsPartHere (part_of t) (map part_of tiles)
-          (tile-part t (All-head (IsGridTile heights widths others) t tiles are))
-          (tile-parts tiles (All-tail (IsGridTile heights widths others) t tiles are))
+          (tile-part t (All-head (IsTileInTileGrid heights widths others) t tiles are))
+          (tile-parts tiles (All-tail (IsTileInTileGrid heights widths others) t tiles are))
 
-pub patch-tables-add-up : FramesNumberTheMap → TablesOfTilesAddUp → TablesOfPatchesAddUp
+pub patch-tables-add-up : RunsNumberFullMapPatches → TablesOfTilesAddUp → RenumberedPatchTablesAddUp
 patch-tables-add-up number add j grid joined numbering m heights widths map_of numbers_of cut borders numbers clumping
     others tiles are picks skip tables each =
-    let runs : List Stretch = numbering.runs in
+    let runs : List ConsecutiveClumps = numbering.runs in
     let join = (number j grid joined numbering).0 in
     add (sum heights) (sum widths) (numbers ∷ others) (map (part_of grid runs heights widths numbers_of) tiles)
     (record {
-      tiling = subst (AreTiling (sum heights) (sum widths))
+      tiling = subst (RectanglesCoverMap (sum heights) (sum widths))
           (sym (places-same grid runs heights widths numbers_of tiles)) are.tiling;
       cells = tile-parts grid runs heights widths numbers_of j m numbers clumping others map_of cut borders join tiles
           are.each;

@@ -7,11 +7,12 @@ use Rattle.std.proofs.lemmas.Bool.Decides.{Decides-eqb}
 use Rattle.std.proofs.lemmas.List.{take-append-drop, take_all}
 use Rattle.std.proofs.lemmas.List.Concat.{flat_map-append}
 use Rattle.std.proofs.lemmas.List.Sums.{sum_by-cons}
-use Rattle.cell_join_numbers.specs.declared.stretch.Stretch.{Stretch}
-use Rattle.cell_join_numbers.specs.Stretches.{stretches_behind, stretches_from, stretches_in, stretches_of}
+use Rattle.cell_join_numbers.specs.declared.stretch.ConsecutiveClumps.{ConsecutiveClumps}
+use Rattle.cell_join_numbers.specs.Stretches.{consecutive_clumps_from_unfinished, consecutive_clumps_from_tile}
+use Rattle.cell_join_numbers.specs.Stretches.{consecutive_clumps_of_tile, consecutive_clumps_of_all_tiles}
 
-abbrev numbers_of : List Stretch → List ℕ
-numbers_of runs = flat_map (λ (run : Stretch). range_with_len run.number (run.last + 1 - run.first)) runs
+abbrev numbers_of : List ConsecutiveClumps → List ℕ
+numbers_of runs = flat_map (λ (run : ConsecutiveClumps). range_with_len run.number (run.last + 1 - run.first)) runs
 
 range-push : (n count : ℕ) → range_with_len n (suc count) ≡ range_with_len n count ++ ((n + count) ∷ [])
 range-push n zero = ap (λ (k : ℕ). k ∷ []) (omega arith)
@@ -19,11 +20,12 @@ range-push n (suc count) =
     ap (λ (l : List ℕ). n ∷ l) (range-push (n + 1) count
     ∙ ap (λ (k : ℕ). range_with_len (n + 1) count ++ (k ∷ [])) (omega arith))
 
-abbrev one : (tile first last number : ℕ) → Stretch
+abbrev one : (tile first last number : ℕ) → ConsecutiveClumps
 one tile first last number = record { tile = tile; first = first; last = last; number = number }
 
 behind : (ns : List ℕ) (tile first last number previous : ℕ) → first ≤ last → previous ≡ number + (last - first)
-    → numbers_of (stretches_behind tile first last number previous ns) ≡ range_with_len number (last + 1 - first) ++ ns
+    → numbers_of (consecutive_clumps_from_unfinished tile first last number previous ns)
+    ≡ range_with_len number (last + 1 - first) ++ ns
 behind [] tile first last number previous up is = refl
 behind (n ∷ ns) tile first last number previous up is =
     by (n == previous + 1) refl
@@ -32,12 +34,12 @@ behind (n ∷ ns) tile first last number previous up is =
     (behind ns tile (last + 1) (last + 1) n n (omega arith) (omega arith))
   where
     by : (t : Bool) → (n == previous + 1) ≡ t
-        → (n ≡ previous + 1 → numbers_of (stretches_behind tile first (last + 1) number n ns)
+        → (n ≡ previous + 1 → numbers_of (consecutive_clumps_from_unfinished tile first (last + 1) number n ns)
         ≡ range_with_len number (last + 1 + 1 - first) ++ ns)
-        → numbers_of (stretches_behind tile (last + 1) (last + 1) n n ns)
+        → numbers_of (consecutive_clumps_from_unfinished tile (last + 1) (last + 1) n n ns)
         ≡ range_with_len n (last + 1 + 1 - (last + 1)) ++ ns
-        → numbers_of (cond t (stretches_behind tile first (last + 1) number n ns)
-        (one tile first last number ∷ stretches_behind tile (last + 1) (last + 1) n n ns))
+        → numbers_of (cond t (consecutive_clumps_from_unfinished tile first (last + 1) number n ns)
+        (one tile first last number ∷ consecutive_clumps_from_unfinished tile (last + 1) (last + 1) n n ns))
         ≡ range_with_len number (last + 1 - first) ++ (n ∷ ns)
     by true next more anew =
         let same : n ≡ previous + 1 = (Decides-eqb n (previous + 1)).0 next in
@@ -53,23 +55,24 @@ behind (n ∷ ns) tile first last number previous up is =
         ap (λ (l : List ℕ). range_with_len number (last + 1 - first) ++ l)
         (anew ∙ ap (λ (k : ℕ). range_with_len n k ++ ns) single)
 
-in-tile : (tile : ℕ) (ns : List ℕ) → numbers_of (stretches_in tile ns) ≡ ns
+in-tile : (tile : ℕ) (ns : List ℕ) → numbers_of (consecutive_clumps_of_tile tile ns) ≡ ns
 in-tile tile [] = refl
 in-tile tile (n ∷ ns) = behind ns tile 1 1 n n (omega arith) (omega arith)
 
-of-tiles : (areas : List ℕ) (tile : ℕ) (numbers : List ℕ) → length numbers ≡ sum areas
-    → numbers_of (stretches_from tile areas numbers) ≡ numbers
+of-tiles : (clumps : List ℕ) (tile : ℕ) (numbers : List ℕ) → length numbers ≡ sum clumps
+    → numbers_of (consecutive_clumps_from_tile tile clumps numbers) ≡ numbers
 of-tiles [] tile [] same = refl
 of-tiles [] tile (n ∷ ns) same = absurd (omega arith)
-of-tiles (count ∷ areas) tile numbers same =
-    let total : sum (count ∷ areas) ≡ count + sum areas = sum_by-cons (λ (x : ℕ). x) count areas in
-    flat_map-append (λ (run : Stretch). range_with_len run.number (run.last + 1 - run.first))
-    (stretches_in tile (take count numbers)) (stretches_from (tile + 1) areas (drop count numbers))
+of-tiles (count ∷ clumps) tile numbers same =
+    let total : sum (count ∷ clumps) ≡ count + sum clumps = sum_by-cons (λ (x : ℕ). x) count clumps in
+    flat_map-append (λ (run : ConsecutiveClumps). range_with_len run.number (run.last + 1 - run.first))
+    (consecutive_clumps_of_tile tile (take count numbers)) (consecutive_clumps_from_tile (tile + 1) clumps
+    (drop count numbers))
     ∙ (λ i. in-tile tile (take count numbers) i
-    ++ of-tiles areas (tile + 1) (drop count numbers) (omega (arith, length-drop count numbers)) i)
+    ++ of-tiles clumps (tile + 1) (drop count numbers) (omega (arith, length-drop count numbers)) i)
     ∙ take-append-drop count numbers
 
 -- the numbers of all runs, one run after another
-pub runs-represent : (areas numbers : List ℕ) → length numbers ≡ sum areas
-    → numbers_of (stretches_of areas numbers) ≡ numbers
-runs-represent areas numbers same = of-tiles areas 1 numbers same
+pub runs-represent : (clumps numbers : List ℕ) → length numbers ≡ sum clumps
+    → numbers_of (consecutive_clumps_of_all_tiles clumps numbers) ≡ numbers
+runs-represent clumps numbers same = of-tiles clumps 1 numbers same

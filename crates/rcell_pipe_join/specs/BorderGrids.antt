@@ -3,128 +3,136 @@ use Rattle.std.specs.Prelude.{ℕ, ◌+◌, ◌*◌, ◌-◌, ◌==◌, ◌&&◌
 use Rattle.std.specs.Prelude.{length, map, Option, Some, None, Ok, Err, slice_get, slice_index_or, Vec, if◌then◌else◌}
 use Rattle.std.specs.Global.{Global}
 use Rattle.std.specs.Int.{w32}
-use Rattle.cell_core_devices.specs.Device.{Coming}
+use Rattle.cell_core_devices.specs.Device.{ComingBytes}
 use Rattle.cell_core_values.specs.Answers.{◌>>=◌}
-use Rattle.cell_core_values.specs.Cell.{cell_of_pattern}
+use Rattle.cell_core_values.specs.Cell.{cell_of_stored_number}
 use Rattle.cell_core.specs.Grid.{CellValue}
-use Rattle.cell_join_tiles.specs.Beginnings.{clumps_in_grid}
-use Rattle.cell_join_tiles.specs.Values.{SideValue, BorderValue, border_values}
-use Rattle.cell_join_tiles.specs.JoinedBorders.{begun_in}
-use Rattle.cell_join_tiles.specs.declared.border.Border.{Border}
+use Rattle.cell_join_tiles.specs.Beginnings.{clump_count_of_tile_grid}
+use Rattle.cell_join_tiles.specs.Values.{TileSideValue, TileBorderValue, values_of_tile_borders}
+use Rattle.cell_join_tiles.specs.JoinedBorders.{begun_clump_counts_of_grid}
+use Rattle.cell_join_tiles.specs.declared.border.TileBorder.{TileBorder}
 use Rattle.rcell_pipe_request.specs.declared.error.ErrorKind.TheVariants as kinds
-use Rattle.rcell_pipe_request.specs.RequestFields.{FieldReading, Placed, error_at, number_at, signed_at, end_at, steps}
-use Rattle.rcell_pipe_join.specs.BorderChecks.{is_border}
+use Rattle.rcell_pipe_request.specs.RequestFields.{RequestFieldReading, PositionedReading, result_with_error_position}
+use Rattle.rcell_pipe_request.specs.RequestFields.{unsigned_number_reading, signed_number_reading}
+use Rattle.rcell_pipe_request.specs.RequestFields.{end_of_request_reading, reading_repeated_n_times}
+use Rattle.rcell_pipe_join.specs.BorderChecks.{is_valid_border}
 
 -- the cells so far, and one more
-unfoldable pub one_more_cell : List CellValue → Coming → FieldReading (List CellValue)
-one_more_cell cells c = do
-  number ← signed_at w32 c
-  Ok (cells ++ cell_of_pattern number.0 ∷ [], number.1)
+unfoldable pub cells_with_next_cell_reading : List CellValue → ComingBytes → RequestFieldReading (List CellValue)
+cells_with_next_cell_reading cells c = do
+  number ← signed_number_reading w32 c
+  Ok (cells ++ cell_of_stored_number number.0 ∷ [], number.1)
 
 -- `n` cells in four bytes each
-abbrev pub wide_cells_at : ℕ → Coming → FieldReading (List CellValue)
-wide_cells_at n c = steps one_more_cell [] n c
+abbrev pub four_byte_cells_reading : ℕ → ComingBytes → RequestFieldReading (List CellValue)
+four_byte_cells_reading n c = reading_repeated_n_times cells_with_next_cell_reading [] n c
 
 -- the counts so far, and one more
-unfoldable pub one_more_begun : List ℕ → Coming → FieldReading (List ℕ)
-one_more_begun begun c = do
-  count ← number_at w32 c
+unfoldable pub row_patch_counts_with_next_reading : List ℕ → ComingBytes → RequestFieldReading (List ℕ)
+row_patch_counts_with_next_reading begun c = do
+  count ← unsigned_number_reading w32 c
   Ok (begun ++ count.0 ∷ [], count.1)
 
 -- the number of patches that begin in each of `n` rows
-abbrev pub begun_at : ℕ → Coming → FieldReading (List ℕ)
-begun_at n c = steps one_more_begun [] n c
+abbrev pub row_patch_counts_reading : ℕ → ComingBytes → RequestFieldReading (List ℕ)
+row_patch_counts_reading n c = reading_repeated_n_times row_patch_counts_with_next_reading [] n c
 
 -- the categories of a side of `n` cells, then their patches' numbers
-unfoldable pub side_at : ℕ → Coming → FieldReading SideValue
-side_at n c = do
-  cells ← wide_cells_at n c
-  numbers ← wide_cells_at n cells.1
+unfoldable pub tile_side_reading : ℕ → ComingBytes → RequestFieldReading TileSideValue
+tile_side_reading n c = do
+  cells ← four_byte_cells_reading n c
+  numbers ← four_byte_cells_reading n cells.1
   Ok (record { cells = cells.0; numbers = numbers.0 }, numbers.1)
 
 -- the first and the last row, the first and the last column, and the counts by row
-unfoldable pub border_fields_at : (rows cols : ℕ) → Coming → FieldReading BorderValue
-border_fields_at rows cols c = do
-  first ← side_at cols c
-  last ← side_at cols first.1
-  left ← side_at rows last.1
-  right ← side_at rows left.1
-  begun ← begun_at rows right.1
+unfoldable pub border_fields_reading : (rows cols : ℕ) → ComingBytes → RequestFieldReading TileBorderValue
+border_fields_reading rows cols c = do
+  first ← tile_side_reading cols c
+  last ← tile_side_reading cols first.1
+  left ← tile_side_reading rows last.1
+  right ← tile_side_reading rows left.1
+  begun ← row_patch_counts_reading rows right.1
   Ok (record { first = first.0; last = last.0; left = left.0; right = right.0; begun = begun.0 }, begun.1)
 
 -- a tile can have this number of rows or columns
-abbrev pub is_tile_length : ℕ → Bool
-is_tile_length n = nat_le 1 n && nat_le n 65535
+abbrev pub is_valid_tile_side_length : ℕ → Bool
+is_valid_tile_side_length n = nat_le 1 n && nat_le n 65535
 
 -- the numbers of rows and columns of a tile
-unfoldable pub tile_size_at : Coming → FieldReading (ℕ × ℕ)
-tile_size_at c = do
-  rows ← number_at w32 c
-  cols ← number_at w32 rows.1
-  if is_tile_length rows.0 && is_tile_length cols.0 then Ok ((rows.0, cols.0), cols.1) else Err kinds.BadSize
+unfoldable pub tile_size_reading : ComingBytes → RequestFieldReading (ℕ × ℕ)
+tile_size_reading c = do
+  rows ← unsigned_number_reading w32 c
+  cols ← unsigned_number_reading w32 rows.1
+  if is_valid_tile_side_length rows.0 && is_valid_tile_side_length cols.0 then Ok
+      ((rows.0, cols.0), cols.1) else Err kinds.BadSize
 
 -- the tiles on the left, if any, have this number of rows
-abbrev pub has_rows : List BorderValue → ℕ → Bool
-has_rows [] rows = true
-has_rows (tile ∷ tiles) rows = length tile.begun == rows
+abbrev pub left_tiles_have_row_count : List TileBorderValue → ℕ → Bool
+left_tiles_have_row_count [] rows = true
+left_tiles_have_row_count (tile ∷ tiles) rows = length tile.begun == rows
 
 -- a tile, if any, has this number of columns
-abbrev pub has_width : Option BorderValue → ℕ → Bool
-has_width None cols = true
-has_width (Some tile) cols = length tile.first.cells == cols
+abbrev pub tile_has_column_count_if_any : Option TileBorderValue → ℕ → Bool
+tile_has_column_count_if_any None cols = true
+tile_has_column_count_if_any (Some tile) cols = length tile.first.cells == cols
 
 -- the tile above, if any, has this number of columns
-abbrev pub has_cols : List BorderValue → (col cols : ℕ) → Bool
-has_cols above col cols = has_width (slice_get above col) cols
+abbrev pub tile_above_has_column_count : List TileBorderValue → (col cols : ℕ) → Bool
+tile_above_has_column_count above col cols = tile_has_column_count_if_any (slice_get above col) cols
 
 -- the size of the next tile: it has the rows of the tiles on its left, and the columns of the tile above
-unfoldable pub next_size_at : (above row : List BorderValue) → Coming → FieldReading (ℕ × ℕ)
-next_size_at above row c = do
-  size ← tile_size_at c
-  if has_rows row size.0.0 && has_cols above (length row) size.0.1 then Ok size else Err kinds.OtherSize
+unfoldable pub next_tile_size_reading : (above row : List TileBorderValue) → ComingBytes → RequestFieldReading (ℕ × ℕ)
+next_tile_size_reading above row c = do
+  size ← tile_size_reading c
+  if left_tiles_have_row_count row size.0.0 && tile_above_has_column_count above
+      (length row) size.0.1 then Ok size else Err kinds.OtherSize
 
 -- the border of the next tile in a row of tiles, given the row of tiles above
-unfoldable pub tile_at : (above row : List BorderValue) → Coming → FieldReading BorderValue
-tile_at above row c = do
-  size ← next_size_at above row c
-  border ← border_fields_at size.0.0 size.0.1 size.1
-  if is_border border.0 then Ok border else Err kinds.BadBorder
+unfoldable pub tile_border_reading : (above row : List TileBorderValue) → ComingBytes
+    → RequestFieldReading TileBorderValue
+tile_border_reading above row c = do
+  size ← next_tile_size_reading above row c
+  border ← border_fields_reading size.0.0 size.0.1 size.1
+  if is_valid_border border.0 then Ok border else Err kinds.BadBorder
 
 -- the tiles of a row so far, and one more; an error has the number of tiles before it
-unfoldable pub one_more_tile : (before : ℕ) → (above row : List BorderValue) → Coming → Placed (List BorderValue)
-one_more_tile before above row c = do
-  tile ← error_at (before + length row) 0 (tile_at above row c)
+unfoldable pub tiles_with_next_tile_reading : (before : ℕ) → (above row : List TileBorderValue) → ComingBytes
+    → PositionedReading (List TileBorderValue)
+tiles_with_next_tile_reading before above row c = do
+  tile ← result_with_error_position (before + length row) 0 (tile_border_reading above row c)
   Ok (row ++ tile.0 ∷ [], tile.1)
 
-abbrev pub last_tiles : List (List BorderValue) → List BorderValue
-last_tiles grid = slice_index_or grid (length grid - 1) []
+abbrev pub last_row_of_tiles : List (List TileBorderValue) → List TileBorderValue
+last_row_of_tiles grid = slice_index_or grid (length grid - 1) []
 
 -- the rows of tiles so far, and one more
-unfoldable pub one_more_tile_row : (cols : ℕ) → List (List BorderValue) → Coming → Placed (List (List BorderValue))
-one_more_tile_row cols grid c = do
-  row ← steps (one_more_tile (length grid * cols) (last_tiles grid)) [] cols c
+unfoldable pub tile_rows_with_next_row_reading : (cols : ℕ) → List (List TileBorderValue) → ComingBytes
+    → PositionedReading (List (List TileBorderValue))
+tile_rows_with_next_row_reading cols grid c = do
+  row ← reading_repeated_n_times (tiles_with_next_tile_reading (length grid * cols) (last_row_of_tiles grid)) [] cols c
   Ok (grid ++ row.0 ∷ [], row.1)
 
 -- the numbers of rows and columns of tiles
-unfoldable pub tile_counts_at : Coming → FieldReading (ℕ × ℕ)
-tile_counts_at c = do
-  rows ← number_at w32 c
-  cols ← number_at w32 rows.1
+unfoldable pub tile_grid_size_reading : ComingBytes → RequestFieldReading (ℕ × ℕ)
+tile_grid_size_reading c = do
+  rows ← unsigned_number_reading w32 c
+  cols ← unsigned_number_reading w32 rows.1
   if nat_le 1 (rows.0 * cols.0) && nat_le (rows.0 * cols.0) 4294967295 then Ok ((rows.0, cols.0), cols.1)
       else Err kinds.BadTileCount
 
 -- no bytes follow the tiles, which have fewer than 2^64 patches
-unfoldable pub last_grid_at : List (List BorderValue) → Coming → FieldReading Unit
-last_grid_at grid c = if nat_lt (clumps_in_grid (begun_in grid)) (2 ^ 64) then end_at c else Err kinds.TooManyPatches
+unfoldable pub end_of_tile_grid_reading : List (List TileBorderValue) → ComingBytes → RequestFieldReading Unit
+end_of_tile_grid_reading grid c = if nat_lt (clump_count_of_tile_grid (begun_clump_counts_of_grid grid))
+    (2 ^ 64) then end_of_request_reading c else Err kinds.TooManyPatches
 
 -- the borders of a grid of tiles, which end the request
-unfoldable pub tile_grid_at : Coming → Placed (List (List BorderValue))
-tile_grid_at c = do
-  counts ← error_at 0 0 (tile_counts_at c)
-  grid ← steps (one_more_tile_row counts.0.1) [] counts.0.0 counts.1
-  end ← error_at (counts.0.0 * counts.0.1) 0 (last_grid_at grid.0 grid.1)
+unfoldable pub tile_grid_reading : ComingBytes → PositionedReading (List (List TileBorderValue))
+tile_grid_reading c = do
+  counts ← result_with_error_position 0 0 (tile_grid_size_reading c)
+  grid ← reading_repeated_n_times (tile_rows_with_next_row_reading counts.0.1) [] counts.0.0 counts.1
+  end ← result_with_error_position (counts.0.0 * counts.0.1) 0 (end_of_tile_grid_reading grid.0 grid.1)
   Ok (grid.0, end.1)
 
 -- the borders as values
-abbrev pub grid_values : List (Vec Border Global) → List (List BorderValue)
-grid_values grid = map (λ row. border_values row.items) grid
+abbrev pub borders_as_values : List (Vec TileBorder Global) → List (List TileBorderValue)
+borders_as_values grid = map (λ row. values_of_tile_borders row.items) grid

@@ -3,61 +3,65 @@ use Rattle.std.specs.Prelude.{ℕ, suc, pos, negsuc, ◌≡◌, ◌<◌, ◌+◌
 use Rattle.std.specs.Prelude.{slice_index, sum, Some, None}
 use Rattle.std.specs.List.{AllZip}
 use Rattle.cell_core.specs.Grid.{Grid, CellValue}
-use Rattle.cell_cats_areas.specs.declared.clump.Joining.{Joining}
-use Rattle.cell_cats_areas.specs.Areas.{IsClumping}
+use Rattle.cell_clumps.specs.declared.clump.Joining.{Joining}
+use Rattle.cell_clumps.specs.Clumps.{IsClumpMapOf}
 use Rattle.cell_stats_combinations.specs.declared.skip.Skip.{Skip}
 use Rattle.cell_stats_combinations.specs.Combinations.{Combination, all_combinations}
-use Rattle.cell_stats_combinations.specs.Listed.{Counts, ListsSame}
-use Rattle.cell_stats.specs.CategoryTables.{table_of}
-use Rattle.cell_join_numbers.specs.Parts.{Rectangle, AreTiling, IsPart}
-use Rattle.cell_join_numbers.specs.declared.stretch.Stretch.{Stretch}
-use Rattle.cell_join_tiles.specs.Beginnings.{IsCutIntoTiles, tile_place}
-use Rattle.cell_join_tiles.specs.JoinedBorders.{HaveBorders, begun_in}
-use Rattle.cell_join_tiles.specs.TileNumbers.{clumps_before_tile}
-use Rattle.cell_join_tiles.specs.Values.{BorderValue}
-use Rattle.rcell_pipe_join.specs.JoinEnds.{IsNumbering, IsSumming}
-use Rattle.rcell_pipe_join.specs.JoinLaw.{run_numbers}
-use Rattle.rcell_pipe_join.specs.SumLaw.{AreTableOf}
+use Rattle.cell_stats_combinations.specs.Listed.{CombinationCounts, ListsHaveSameCounts}
+use Rattle.cell_stats.specs.CategoryTables.{table_of_cells}
+use Rattle.cell_join_numbers.specs.Parts.{Rectangle, RectanglesCoverMap, MapsAreTileOfFullMaps}
+use Rattle.cell_join_numbers.specs.declared.stretch.ConsecutiveClumps.{ConsecutiveClumps}
+use Rattle.cell_join_tiles.specs.Beginnings.{MapIsCutIntoTiles, rectangle_of_tile_in_grid}
+use Rattle.cell_join_tiles.specs.JoinedBorders.{TilesHaveBorders, begun_clump_counts_of_grid}
+use Rattle.cell_join_tiles.specs.TileNumbers.{clump_count_before_tile}
+use Rattle.cell_join_tiles.specs.Values.{TileBorderValue}
+use Rattle.rcell_pipe_join.specs.JoinEnds.{IsTileNumberingResponse, IsTableSumsResponse}
+use Rattle.rcell_pipe_join.specs.JoinLaw.{full_map_numbers_of_run}
+use Rattle.rcell_pipe_join.specs.SumLaw.{AreTableEntriesOfCells}
 
 -- ---- tiles
 
 -- a tile of a grid: its row and column in the grid, and its maps, without the map of its patches
-pub record GridTile : Type 0 where
+pub record TileInTileGrid : Type 0 where
   pub row : ℕ
   pub col : ℕ
   pub others : List Grid
 
-abbrev pub place_in_grid : (heights widths : List ℕ) → GridTile → Rectangle
-place_in_grid heights widths t = tile_place heights widths t.row t.col
+abbrev pub tile_rectangle_in_grid : (heights widths : List ℕ) → TileInTileGrid → Rectangle
+tile_rectangle_in_grid heights widths t = rectangle_of_tile_in_grid heights widths t.row t.col
 
 -- the tile is in the grid, and its maps have the cells of the full maps
-pub record IsGridTile (heights widths : List ℕ) (others : List Grid) (t : GridTile) : Type 0 where
+pub record IsTileInTileGrid (heights widths : List ℕ) (others : List Grid) (t : TileInTileGrid) : Type 0 where
   pub in_rows : t.row < length heights
   pub in_cols : t.col < length widths
-  pub part : IsPart (place_in_grid heights widths t) others t.others
+  pub part : MapsAreTileOfFullMaps (tile_rectangle_in_grid heights widths t) others t.others
 
 -- the tiles of a grid, in any order
-pub record AreGridTiles (heights widths : List ℕ) (others : List Grid) (tiles : List GridTile) : Type 0 where
-  pub tiling : AreTiling (sum heights) (sum widths) (map (place_in_grid heights widths) tiles)
-  pub each : All (IsGridTile heights widths others) tiles
+pub record AreAllTilesOfTileGrid (heights widths : List ℕ) (others : List Grid)
+    (tiles : List TileInTileGrid) : Type 0 where
+  pub tiling : RectanglesCoverMap (sum heights) (sum widths) (map (tile_rectangle_in_grid heights widths) tiles)
+  pub each : All (IsTileInTileGrid heights widths others) tiles
 
 -- ---- tables
 
 -- the number of each cell's patch, with the cells of picked other maps
-abbrev pub patch_combinations : Grid → List Grid → List ℕ → (rows cols : ℕ) → List Combination
-patch_combinations numbers others picks rows cols =
+abbrev pub combinations_with_patch_number : Grid → List Grid → List ℕ → (rows cols : ℕ) → List Combination
+combinations_with_patch_number numbers others picks rows cols =
     all_combinations (numbers ∷ others) (0 ∷ map suc picks) rows cols
 
 -- the same for the cells of a tile
-abbrev pub tile_combinations : (heights widths : List ℕ) → (ℕ → ℕ → Grid) → List ℕ → GridTile → List Combination
-tile_combinations heights widths numbers_of picks t =
-    patch_combinations (numbers_of t.row t.col) t.others picks (place_in_grid heights widths t).rows
-    (place_in_grid heights widths t).cols
+abbrev pub combinations_of_tile_with_patch : (heights widths : List ℕ) → (ℕ → ℕ → Grid) → List ℕ → TileInTileGrid
+    → List Combination
+combinations_of_tile_with_patch heights widths numbers_of picks t =
+    combinations_with_patch_number (numbers_of t.row t.col) t.others picks
+    (tile_rectangle_in_grid heights widths t).rows
+    (tile_rectangle_in_grid heights widths t).cols
 
 -- the number in the full map of patch k of a tile, according to the runs of a numbering
-abbrev pub number_by_runs : List (List BorderValue) → List Stretch → GridTile → ℕ → ℕ
-number_by_runs grid runs t k =
-    slice_index (flat_map run_numbers runs) (clumps_before_tile (begun_in grid) t.row t.col + (k - 1))
+abbrev pub full_map_patch_number_by_runs : List (List TileBorderValue) → List ConsecutiveClumps → TileInTileGrid → ℕ → ℕ
+full_map_patch_number_by_runs grid runs t k =
+    slice_index (flat_map full_map_numbers_of_run runs) (clump_count_before_tile
+    (begun_clump_counts_of_grid grid) t.row t.col + (k - 1))
 
 -- the entries with another number for each patch; cells outside patches stay null
 abbrev pub renumbered_cell : (ℕ → ℕ) → CellValue → CellValue
@@ -69,28 +73,30 @@ abbrev pub renumbered_combination : (ℕ → ℕ) → Combination → Combinatio
 renumbered_combination number [] = []
 renumbered_combination number (cell ∷ cells) = renumbered_cell number cell ∷ cells
 
-abbrev pub renumbered_entries : (ℕ → ℕ) → Counts → Counts
+abbrev pub renumbered_entries : (ℕ → ℕ) → CombinationCounts → CombinationCounts
 renumbered_entries number entries = map (λ entry. (renumbered_combination number entry.0, entry.1)) entries
 
 -- the entries of the cells' table, in any order, with another number for each patch
-pub record HasRenumberedTable (skip : Skip) (cells : List Combination) (number : ℕ → ℕ) (table : Counts) : Type 0 where
-  pub entries : Counts
-  pub counts : ListsSame (table_of skip cells) entries
+pub record AreRenumberedTableEntries (skip : Skip) (cells : List Combination) (number : ℕ
+    → ℕ) (table : CombinationCounts) : Type 0 where
+  pub entries : CombinationCounts
+  pub counts : ListsHaveSameCounts (table_of_cells skip cells) entries
   pub are : table ≡ renumbered_entries number entries
 
 -- ---- the law
 
 -- if the numbers of patches in the tables of tiles are replaced by the numbers that a numbering gives to them, the sums
 -- are the table of the full maps, with the numbers of the full map's patches
-abbrev pub TablesOfPatchesAddUp : Type 0
-TablesOfPatchesAddUp = (j : Joining) (grid : List (List BorderValue)) (joined : List ℕ)
-    → (numbering : IsNumbering j grid joined)
+abbrev pub RenumberedPatchTablesAddUp : Type 0
+RenumberedPatchTablesAddUp = (j : Joining) (grid : List (List TileBorderValue)) (joined : List ℕ)
+    → (numbering : IsTileNumberingResponse j grid joined)
     → (m : Grid) (heights widths : List ℕ) (map_of numbers_of : ℕ → ℕ → Grid)
-    → IsCutIntoTiles m heights widths map_of → HaveBorders j heights widths map_of numbers_of grid
-    → (numbers : Grid) → IsClumping j m numbers
-    → (others : List Grid) (tiles : List GridTile) → AreGridTiles heights widths others tiles
-    → (picks : List ℕ) (skip : Skip) (tables : List Counts)
-    → AllZip (λ t. HasRenumberedTable skip (tile_combinations heights widths numbers_of picks t)
-    (number_by_runs grid numbering.runs t)) tiles tables
-    → (width : ℕ) (response : List ℕ) (frame : IsSumming width tables response)
-    → AreTableOf skip (patch_combinations numbers others picks (sum heights) (sum widths)) frame.sums
+    → MapIsCutIntoTiles m heights widths map_of → TilesHaveBorders j heights widths map_of numbers_of grid
+    → (numbers : Grid) → IsClumpMapOf j m numbers
+    → (others : List Grid) (tiles : List TileInTileGrid) → AreAllTilesOfTileGrid heights widths others tiles
+    → (picks : List ℕ) (skip : Skip) (tables : List CombinationCounts)
+    → AllZip (λ t. AreRenumberedTableEntries skip (combinations_of_tile_with_patch heights widths numbers_of picks t)
+    (full_map_patch_number_by_runs grid numbering.runs t)) tiles tables
+    → (width : ℕ) (response : List ℕ) (frame : IsTableSumsResponse width tables response)
+    → AreTableEntriesOfCells skip (combinations_with_patch_number numbers others picks (sum heights)
+    (sum widths)) frame.sums

@@ -1,14 +1,14 @@
 //! Finds borders that no tile can have.
 
 ghost use Rattle.std.specs.Prelude.{◌≡◌, ◌<◌, ◌^◌, None, sum, slice_index_or};
-ghost use Rattle.cell_join_tiles.specs.Values.{border_value, side_value};
-ghost use Rattle.rcell_pipe_join.specs.BorderChecks.{are_corners, is_border, is_corner, is_numbered, is_tile_side, is_side_cell, is_step, side_cell, side_number};
+ghost use Rattle.cell_join_tiles.specs.Values.{value_of_tile_border, value_of_tile_side};
+ghost use Rattle.rcell_pipe_join.specs.BorderChecks.{sides_agree_at_all_corners, is_valid_border, sides_agree_at_corner, cell_fits_patch_number, is_valid_tile_side, is_valid_side_cell, adjacent_cells_fit_numbers, side_cell, side_patch_number};
 
 use cell_core::cell::Cell;
-use cell_join_tiles::border::{Border, Side};
+use cell_join_tiles::border::{TileBorder, TileSide};
 
 // Returns the cell at index `k`, or null after the end.
-fn cell_at(cells: &[Cell], k: usize) -> Cell
+fn cell_at_or_null(cells: &[Cell], k: usize) -> Cell
     ensures { result ≡ slice_index_or cells.now k None }
 {
     match cells.get(k) {
@@ -18,8 +18,8 @@ fn cell_at(cells: &[Cell], k: usize) -> Cell
 }
 
 // Returns whether a cell and its patch's number match.
-fn is_numbered(patches: u64, cell: Cell, number: Cell) -> bool
-    ensures { result ≡ is_numbered patches cell number }
+fn cell_fits_patch_number(patches: u64, cell: Cell, number: Cell) -> bool
+    ensures { result ≡ cell_fits_patch_number patches cell number }
 {
     match cell.get() {
         None => match number.get() {
@@ -37,11 +37,11 @@ fn is_numbered(patches: u64, cell: Cell, number: Cell) -> bool
 }
 
 // Returns whether two adjacent cells have one number if they have one category, and two numbers otherwise.
-fn is_step(side: &Side, i: usize, k: usize) -> bool
-    ensures { result ≡ is_step (side_value side.now) i k }
+fn adjacent_cells_fit_numbers(side: &TileSide, i: usize, k: usize) -> bool
+    ensures { result ≡ adjacent_cells_fit_numbers (value_of_tile_side side.now) i k }
 {
-    let is_same = cell_at(&side.numbers, i) == cell_at(&side.numbers, k);
-    if cell_at(&side.cells, i) == cell_at(&side.cells, k) {
+    let is_same = cell_at_or_null(&side.numbers, i) == cell_at_or_null(&side.numbers, k);
+    if cell_at_or_null(&side.cells, i) == cell_at_or_null(&side.cells, k) {
         is_same
     } else {
         !is_same
@@ -49,45 +49,49 @@ fn is_step(side: &Side, i: usize, k: usize) -> bool
 }
 
 // Returns whether a cell of a side matches its number and the cell before it.
-fn is_side_cell(patches: u64, side: &Side, k: usize) -> bool
-    ensures { result ≡ is_side_cell patches (side_value side.now) k }
+fn is_valid_side_cell(patches: u64, side: &TileSide, k: usize) -> bool
+    ensures { result ≡ is_valid_side_cell patches (value_of_tile_side side.now) k }
 {
-    is_numbered(patches, cell_at(&side.cells, k), cell_at(&side.numbers, k))
-        && is_step(side, k.saturating_sub(1), k)
+    cell_fits_patch_number(
+        patches,
+        cell_at_or_null(&side.cells, k),
+        cell_at_or_null(&side.numbers, k),
+    ) && adjacent_cells_fit_numbers(side, k.saturating_sub(1), k)
 }
 
-fn is_tile_side(patches: u64, side: &Side) -> bool
-    ensures { result ≡ is_tile_side patches (side_value side.now) }
+fn is_valid_tile_side(patches: u64, side: &TileSide) -> bool
+    ensures { result ≡ is_valid_tile_side patches (value_of_tile_side side.now) }
 {
     let mut is_good = true;
     for k in 0..side.cells.len() {
-        is_good = is_good & is_side_cell(patches, side, k);
+        is_good = is_good & is_valid_side_cell(patches, side, k);
     }
     is_good
 }
 
 // Returns whether two sides agree about the corner at index `i` of one and index `k` of the other.
-fn is_corner(one: &Side, i: usize, other: &Side, k: usize) -> bool
-    ensures { result ≡ is_corner (side_value one.now) i (side_value other.now) k }
+fn sides_agree_at_corner(one: &TileSide, i: usize, other: &TileSide, k: usize) -> bool
+    ensures { result ≡ sides_agree_at_corner (value_of_tile_side one.now) i
+        (value_of_tile_side other.now) k }
 {
-    cell_at(&one.cells, i) == cell_at(&other.cells, k)
-        && cell_at(&one.numbers, i) == cell_at(&other.numbers, k)
+    cell_at_or_null(&one.cells, i) == cell_at_or_null(&other.cells, k)
+        && cell_at_or_null(&one.numbers, i) == cell_at_or_null(&other.numbers, k)
 }
 
-fn are_corners(border: &Border) -> bool
-    ensures { result ≡ are_corners (border_value border.now) }
+fn sides_agree_at_all_corners(border: &TileBorder) -> bool
+    ensures { result ≡ sides_agree_at_all_corners (value_of_tile_border border.now) }
 {
     let last_col = border.first.cells.len().saturating_sub(1);
     let last_col_below = border.last.cells.len().saturating_sub(1);
     let last_row = border.left.cells.len().saturating_sub(1);
     let last_row_right = border.right.cells.len().saturating_sub(1);
-    is_corner(&border.first, 0, &border.left, 0)
-        && is_corner(&border.first, last_col, &border.right, 0)
-        && is_corner(&border.last, 0, &border.left, last_row)
-        && is_corner(&border.last, last_col_below, &border.right, last_row_right)
+    sides_agree_at_corner(&border.first, 0, &border.left, 0)
+        && sides_agree_at_corner(&border.first, last_col, &border.right, 0)
+        && sides_agree_at_corner(&border.last, 0, &border.left, last_row)
+        && sides_agree_at_corner(&border.last, last_col_below, &border.right, last_row_right)
 }
 
-fn patches_of(begun: &[u64]) -> u64
+fn patch_count_of_rows(begun: &[u64]) -> u64
     requires { sum begun.now < 2 ^ 64 }
     ensures { result ≡ sum begun.now }
 {
@@ -99,14 +103,14 @@ fn patches_of(begun: &[u64]) -> u64
 }
 
 /// Returns whether the sides match their numbers and agree about the corners.
-pub(crate) fn is_border(border: &Border) -> bool
+pub(crate) fn is_valid_border(border: &TileBorder) -> bool
     requires { sum border.now.begun.items < 2 ^ 64 }
-    ensures { result ≡ is_border (border_value border.now) }
+    ensures { result ≡ is_valid_border (value_of_tile_border border.now) }
 {
-    let patches = patches_of(&border.begun);
-    is_tile_side(patches, &border.first)
-        && is_tile_side(patches, &border.last)
-        && is_tile_side(patches, &border.left)
-        && is_tile_side(patches, &border.right)
-        && are_corners(border)
+    let patches = patch_count_of_rows(&border.begun);
+    is_valid_tile_side(patches, &border.first)
+        && is_valid_tile_side(patches, &border.last)
+        && is_valid_tile_side(patches, &border.left)
+        && is_valid_tile_side(patches, &border.right)
+        && sides_agree_at_all_corners(border)
 }

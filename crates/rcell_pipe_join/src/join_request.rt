@@ -1,15 +1,15 @@
 //! Reads complete join requests.
 
 ghost use Rattle.std.specs.Prelude.{◌≡◌, ◌<◌, ◌^◌, All, IfOk};
-ghost use Rattle.rcell_pipe_request.specs.Feeds.{ReadsField, ReadsPlacedToEnd};
-ghost use Rattle.rcell_pipe_join.specs.JoinRequests.{join_at, join_kind_at, join_kind_of, join_of_kind_at, join_request_value};
-ghost use Rattle.rcell_pipe_join.specs.parts.Heights.{CanBeJoined};
+ghost use Rattle.rcell_pipe_request.specs.Feeds.{ReadsRequestFieldAndStaysOpen, ReadsToEndWithErrorPosition};
+ghost use Rattle.rcell_pipe_join.specs.JoinRequests.{join_request_reading, join_kind_reading, join_kind_of_code, join_request_of_kind_reading, join_request_as_value};
+ghost use Rattle.rcell_pipe_join.specs.parts.Heights.{JoinRequestCanBeJoined};
 
-use crate::table_reading::{Tables, read_tables};
+use crate::table_reading::{Tables, read_map_count_and_tables};
 use crate::tiles::read_tile_grid;
-use cell_cats_areas::clump::Joining;
-use cell_join_tiles::border::Border;
-use rcell_pipe_request::error::{ErrorKind, FieldStop, RequestStop};
+use cell_clumps::clump::Joining;
+use cell_join_tiles::border::TileBorder;
+use rcell_pipe_request::error::{ErrorKind, FieldReadingStop, RequestStop};
 use rcell_pipe_request::feed::{Feed, read_u8};
 use std::alloc::Global;
 use std::io::Read;
@@ -27,13 +27,13 @@ pub enum JoinKind {
 #[derive(Debug, Drop)]
 pub enum JoinRequest {
     /// The connectivity of patches, and the borders of a grid of tiles, row by row.
-    Borders(Joining, Vec<Vec<Border>>),
+    Borders(Joining, Vec<Vec<TileBorder>>),
     /// Tables over the same number of maps.
     Tables(Tables),
 }
 
-fn join_kind_of(code: u8) -> Option<JoinKind>
-    ensures { result ≡ join_kind_of code }
+fn join_kind_of_code(code: u8) -> Option<JoinKind>
+    ensures { result ≡ join_kind_of_code code }
 {
     match code {
         1 => Some(JoinKind::Tables),
@@ -44,34 +44,35 @@ fn join_kind_of(code: u8) -> Option<JoinKind>
 }
 
 // Reads the kind of a request.
-#[tactic(auto, unfolding(crate::specs::JoinRequests::join_kind_at))]
-fn read_join_kind<R: Read>(feed: &mut Feed<R>) -> Result<JoinKind, FieldStop>
-    ensures { ReadsField (λ kind. kind) feed.old result feed.new join_kind_at }
+#[tactic(auto, unfolding(crate::specs::JoinRequests::join_kind_reading))]
+fn read_join_kind<R: Read>(feed: &mut Feed<R>) -> Result<JoinKind, FieldReadingStop>
+    ensures { ReadsRequestFieldAndStaysOpen (λ kind. kind) feed.old result feed.new
+        join_kind_reading }
 {
     let code = read_u8(feed)?;
-    match join_kind_of(code) {
+    match join_kind_of_code(code) {
         Some(kind) => Ok(kind),
-        None => Err(FieldStop::Error(ErrorKind::BadKind)),
+        None => Err(FieldReadingStop::Error(ErrorKind::BadKind)),
     }
 }
 
 // Reads the rest of a request of this kind.
-#[tactic(auto, unfolding(crate::specs::JoinRequests::join_of_kind_at))]
-fn read_join_of_kind<R: Read>(
+#[tactic(auto, unfolding(crate::specs::JoinRequests::join_request_of_kind_reading))]
+fn read_join_request_of_kind<R: Read>(
     alloc: Global,
     feed: &mut Feed<R>,
     kind: JoinKind,
 ) -> Result<JoinRequest, RequestStop>
-    ensures reads { ReadsPlacedToEnd join_request_value feed.old result feed.new
-        (join_of_kind_at kind) }
-    ensures can { IfOk result (λ request. CanBeJoined (join_request_value request)) }
+    ensures reads { ReadsToEndWithErrorPosition join_request_as_value feed.old result feed.new
+        (join_request_of_kind_reading kind) }
+    ensures can { IfOk result (λ request. JoinRequestCanBeJoined (join_request_as_value request)) }
 {
     match kind {
         JoinKind::Borders(joining) => match read_tile_grid(alloc, feed) {
             Ok(grid) => Ok(JoinRequest::Borders(joining, grid)),
             Err(stop) => Err(stop),
         },
-        JoinKind::Tables => match read_tables(alloc, feed) {
+        JoinKind::Tables => match read_map_count_and_tables(alloc, feed) {
             Ok(tables) => Ok(JoinRequest::Tables(tables)),
             Err(stop) => Err(stop),
         },
@@ -84,14 +85,18 @@ fn read_join_of_kind<R: Read>(
 /// # Errors
 ///
 /// Returns the first error in the bytes, or [`RequestStop::Memory`] if memory runs out.
-#[tactic(auto, unfolding(crate::specs::JoinRequests::join_at))]
-pub fn read_join<R: Read>(alloc: Global, feed: &mut Feed<R>) -> Result<JoinRequest, RequestStop>
-    ensures reads { ReadsPlacedToEnd join_request_value feed.old result feed.new join_at }
-    ensures can { IfOk result (λ request. CanBeJoined (join_request_value request)) }
+#[tactic(auto, unfolding(crate::specs::JoinRequests::join_request_reading))]
+pub fn read_join_request<R: Read>(
+    alloc: Global,
+    feed: &mut Feed<R>,
+) -> Result<JoinRequest, RequestStop>
+    ensures reads { ReadsToEndWithErrorPosition join_request_as_value feed.old result feed.new
+        join_request_reading }
+    ensures can { IfOk result (λ request. JoinRequestCanBeJoined (join_request_as_value request)) }
 {
     let kind = match read_join_kind(feed) {
         Ok(kind) => kind,
         Err(stop) => return Err(stop.at(0, 0)),
     };
-    read_join_of_kind(alloc, feed, kind)
+    read_join_request_of_kind(alloc, feed, kind)
 }

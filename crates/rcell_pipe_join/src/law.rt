@@ -1,13 +1,13 @@
 //! The laws of join requests.
 
-ghost use Rattle.rcell_pipe_join.specs.JoinLaw.{FramesNumberTheMap};
-ghost use Rattle.rcell_pipe_join.specs.PatchSumLaw.{TablesOfPatchesAddUp};
+ghost use Rattle.rcell_pipe_join.specs.JoinLaw.{RunsNumberFullMapPatches};
+ghost use Rattle.rcell_pipe_join.specs.PatchSumLaw.{RenumberedPatchTablesAddUp};
 ghost use Rattle.rcell_pipe_join.specs.SumLaw.{TablesOfTilesAddUp};
 
 /// If a map is cut into tiles, and the request has their borders, the numbers in the response are the numbers that
 /// r.clump gives to the patches of the full map, and the number of patches is theirs.
-pub fn frames_number_the_map()
-    ensures { FramesNumberTheMap }
+pub fn runs_number_full_map_patches()
+    ensures { RunsNumberFullMapPatches }
 {}
 
 /// If maps are cut into tiles that contain each cell once, and the request has their tables, the sums in the response
@@ -18,9 +18,9 @@ pub fn tables_of_tiles_add_up()
 
 /// If the tables of a grid of tiles begin with the numbers of patches, and these are replaced by the numbers in the
 /// response to the tiles' borders, the sums are the table of the full maps, with the numbers of the full map's patches.
-pub fn tables_of_patches_add_up()
-    ensures { TablesOfPatchesAddUp }
+pub fn renumbered_patch_tables_add_up()
+    ensures { RenumberedPatchTablesAddUp }
 {
-    frames_number_the_map();
+    runs_number_full_map_patches();
     tables_of_tiles_add_up();
 }

@@ -1,7 +1,7 @@
 //! Join requests: the borders of a grid of tiles, or tables, and the response with the patches' numbers in the full
 //! map, or the sums of the tables. docs/pipe.md defines the bytes (profile).
 //!
-//! - `join_request`: `read_join` reads a request, or reports the first error
+//! - `join_request`: `read_join_request` reads a request, or reports the first error
 //! - `join_response`: `join_request` writes the response
 //! - specs/JoinRequests.antt and specs/BorderGrids.antt: what the bytes mean; specs/JoinEnds.antt: the response
 //! - `law`: the response numbers the patches of the full map, or has its table; `border_law`: the border of a tile is

@@ -1,57 +1,58 @@
 //! Reads the borders of a grid of tiles.
 
 ghost use Rattle.std.specs.Prelude.{◌≡◌, ◌+◌, ◌*◌, ◌<◌, ◌≤◌, ◌^◌, true, [], All, IfOk, IfNone, IfSome, OnOk, length};
-ghost use Rattle.cell_join_tiles.specs.Beginnings.{clumps_in_grid};
-ghost use Rattle.cell_join_tiles.specs.JoinedBorders.{begun_in};
-ghost use Rattle.cell_join_tiles.specs.Values.{border_value, border_values};
-ghost use Rattle.rcell_pipe_request.specs.RequestFields.{steps};
-ghost use Rattle.rcell_pipe_request.specs.Feeds.{ReadsField, ReadsPlaced, ReadsPlacedToEnd, ReadsToEnd};
-ghost use Rattle.rcell_pipe_join.specs.BorderGrids.{grid_values, has_cols, has_rows, is_tile_length, last_grid_at, last_tiles, next_size_at, one_more_tile, one_more_tile_row, tile_at, tile_counts_at, tile_grid_at, tile_size_at};
-ghost use Rattle.rcell_pipe_join.specs.parts.Heights.{AreOfOneHeight};
+ghost use Rattle.cell_join_tiles.specs.Beginnings.{clump_count_of_tile_grid};
+ghost use Rattle.cell_join_tiles.specs.JoinedBorders.{begun_clump_counts_of_grid};
+ghost use Rattle.cell_join_tiles.specs.Values.{value_of_tile_border, values_of_tile_borders};
+ghost use Rattle.rcell_pipe_request.specs.RequestFields.{reading_repeated_n_times};
+ghost use Rattle.rcell_pipe_request.specs.Feeds.{ReadsRequestFieldAndStaysOpen, ReadsWithErrorPosition, ReadsToEndWithErrorPosition, ReadsRequestFieldToSourceEnd};
+ghost use Rattle.rcell_pipe_join.specs.BorderGrids.{borders_as_values, tile_above_has_column_count, left_tiles_have_row_count, is_valid_tile_side_length, end_of_tile_grid_reading, last_row_of_tiles, next_tile_size_reading, tiles_with_next_tile_reading, tile_rows_with_next_row_reading, tile_border_reading, tile_grid_size_reading, tile_grid_reading, tile_size_reading};
+ghost use Rattle.rcell_pipe_join.specs.parts.Heights.{TilesHaveSameRowCount};
 
-use crate::border_checks::is_border;
+use crate::border_checks::is_valid_border;
 use crate::border_fields::read_border_fields;
-use cell_join_tiles::border::Border;
-use cell_join_tiles::tile_rows::clumps_with_row;
-use rcell_pipe_request::error::{ErrorKind, FieldStop, RequestStop};
-use rcell_pipe_request::feed::{Feed, read_end, read_u32};
+use cell_join_tiles::border::TileBorder;
+use cell_join_tiles::tile_rows::clump_count_plus_tile_row;
+use rcell_pipe_request::error::{ErrorKind, FieldReadingStop, RequestStop};
+use rcell_pipe_request::feed::{Feed, check_request_ends, read_u32};
 use std::alloc::Global;
 use std::io::Read;
 
 // The largest number of rows or columns of a tile.
-const LONGEST: u32 = 65535;
+const LONGEST_TILE_SIDE: u32 = 65535;
 
 // Numbers of rows and columns: of the cells of a tile, or of the tiles of a grid.
 #[derive(Clone, Copy, Debug)]
-struct Counts {
+struct RowAndColumnCounts {
     rows: u32,
     cols: u32,
 }
 
-fn is_tile_length(count: u32) -> bool
-    ensures { result ≡ is_tile_length count }
+fn is_valid_tile_side_length(count: u32) -> bool
+    ensures { result ≡ is_valid_tile_side_length count }
 {
-    1 <= count && count <= LONGEST
+    1 <= count && count <= LONGEST_TILE_SIDE
 }
 
 // Reads the size of a tile.
-#[tactic(auto, unfolding(crate::specs::BorderGrids::tile_size_at))]
-fn read_tile_size<R: Read>(feed: &mut Feed<R>) -> Result<Counts, FieldStop>
-    ensures reads { ReadsField (λ size. (size.rows, size.cols)) feed.old result feed.new
-        tile_size_at }
+#[tactic(auto, unfolding(crate::specs::BorderGrids::tile_size_reading))]
+fn read_tile_size<R: Read>(feed: &mut Feed<R>) -> Result<RowAndColumnCounts, FieldReadingStop>
+    ensures reads { ReadsRequestFieldAndStaysOpen
+        (λ size. (size.rows, size.cols)) feed.old result feed.new
+        tile_size_reading }
     ensures few { IfOk result (λ size. size.rows ≤ 65535) }
 {
     let rows = read_u32(feed)?;
     let cols = read_u32(feed)?;
-    if is_tile_length(rows) && is_tile_length(cols) {
-        return Ok(Counts { rows, cols });
+    if is_valid_tile_side_length(rows) && is_valid_tile_side_length(cols) {
+        return Ok(RowAndColumnCounts { rows, cols });
     }
-    Err(FieldStop::Error(ErrorKind::BadSize))
+    Err(FieldReadingStop::Error(ErrorKind::BadSize))
 }
 
 // Returns whether the tiles on the left, if any, have this number of rows.
-fn has_rows(row: &[Border], rows: u32) -> bool
-    ensures { result ≡ has_rows (border_values row.now) rows }
+fn left_tiles_have_row_count(row: &[TileBorder], rows: u32) -> bool
+    ensures { result ≡ left_tiles_have_row_count (values_of_tile_borders row.now) rows }
 {
     match row.first() {
         Some(tile) => tile.begun.len() == rows as usize,
@@ -60,8 +61,8 @@ fn has_rows(row: &[Border], rows: u32) -> bool
 }
 
 // Returns whether the tile above, if any, has this number of columns.
-fn has_cols(above: &[Border], col: usize, cols: u32) -> bool
-    ensures { result ≡ has_cols (border_values above.now) col cols }
+fn tile_above_has_column_count(above: &[TileBorder], col: usize, cols: u32) -> bool
+    ensures { result ≡ tile_above_has_column_count (values_of_tile_borders above.now) col cols }
 {
     match above.get(col) {
         Some(tile) => tile.first.cells.len() == cols as usize,
@@ -70,64 +71,75 @@ fn has_cols(above: &[Border], col: usize, cols: u32) -> bool
 }
 
 // Reads the size of the next tile in a row of tiles.
-#[tactic(auto, unfolding(crate::specs::BorderGrids::next_size_at))]
-fn read_next_size<R: Read>(
+#[tactic(auto, unfolding(crate::specs::BorderGrids::next_tile_size_reading))]
+fn read_next_tile_size<R: Read>(
     feed: &mut Feed<R>,
-    above: &[Border],
-    row: &[Border],
-) -> Result<Counts, FieldStop>
-    ensures reads { ReadsField (λ size. (size.rows, size.cols)) feed.old result feed.new
-        (next_size_at (border_values above.now) (border_values row.now)) }
+    above: &[TileBorder],
+    row: &[TileBorder],
+) -> Result<RowAndColumnCounts, FieldReadingStop>
+    ensures reads { ReadsRequestFieldAndStaysOpen
+        (λ size. (size.rows, size.cols)) feed.old result feed.new
+        (next_tile_size_reading (values_of_tile_borders above.now)
+        (values_of_tile_borders row.now)) }
     ensures few { IfOk result (λ size. size.rows ≤ 65535) }
-    ensures same { IfOk result (λ size. has_rows (border_values row.now) size.rows ≡ true) }
+    ensures same { IfOk result (λ size. left_tiles_have_row_count
+        (values_of_tile_borders row.now) size.rows
+        ≡ true) }
 {
     let size = read_tile_size(feed)?;
-    if has_rows(row, size.rows) && has_cols(above, row.len(), size.cols) {
+    if left_tiles_have_row_count(row, size.rows)
+        && tile_above_has_column_count(above, row.len(), size.cols)
+    {
         return Ok(size);
     }
-    Err(FieldStop::Error(ErrorKind::OtherSize))
+    Err(FieldReadingStop::Error(ErrorKind::OtherSize))
 }
 
 // Reads the border of the next tile in a row of tiles.
-#[tactic(auto, unfolding(crate::specs::BorderGrids::tile_at))]
-fn read_tile<R: Read>(
+#[tactic(auto, unfolding(crate::specs::BorderGrids::tile_border_reading))]
+fn read_tile_border<R: Read>(
     alloc: Global,
     feed: &mut Feed<R>,
-    above: &[Border],
-    row: &[Border],
-) -> Result<Border, FieldStop>
-    ensures reads { ReadsField border_value feed.old result feed.new
-        (tile_at (border_values above.now) (border_values row.now)) }
+    above: &[TileBorder],
+    row: &[TileBorder],
+) -> Result<TileBorder, FieldReadingStop>
+    ensures reads { ReadsRequestFieldAndStaysOpen value_of_tile_border feed.old result feed.new
+        (tile_border_reading (values_of_tile_borders above.now) (values_of_tile_borders row.now)) }
     ensures same { IfOk result
-        (λ border. has_rows (border_values row.now) (length border.begun.items) ≡ true) }
+        (λ border. left_tiles_have_row_count (values_of_tile_borders row.now)
+        (length border.begun.items)
+        ≡ true) }
 {
-    let size = read_next_size(feed, above, row)?;
+    let size = read_next_tile_size(feed, above, row)?;
     let border = read_border_fields(alloc, feed, size.rows, size.cols)?;
-    if is_border(&border) {
+    if is_valid_border(&border) {
         return Ok(border);
     }
-    Err(FieldStop::Error(ErrorKind::BadBorder))
+    Err(FieldReadingStop::Error(ErrorKind::BadBorder))
 }
 
 // Reads one more tile of a row of tiles. There are `before` tiles in the rows above.
-#[tactic(auto, unfolding(crate::specs::BorderGrids::one_more_tile))]
-fn push_tile<R: Read>(
+#[tactic(auto, unfolding(crate::specs::BorderGrids::tiles_with_next_tile_reading))]
+fn read_next_tile<R: Read>(
     alloc: Global,
     feed: &mut Feed<R>,
     before: u32,
-    above: &[Border],
-    row: &mut Vec<Border>,
+    above: &[TileBorder],
+    row: &mut Vec<TileBorder>,
 ) -> Result<(), RequestStop>
-    requires { before + length (border_values row.old.items) < 2 ^ 32 }
-    ensures reads { ReadsPlaced (λ _. border_values row.new.items) feed.old result feed.new
-        (one_more_tile before (border_values above.now) (border_values row.old.items)) }
-    ensures count { OnOk result (length (border_values row.new.items)
-        ≡ length (border_values row.old.items) + 1) }
-    ensures even { OnOk result (AreOfOneHeight (border_values row.old.items)
-        → AreOfOneHeight (border_values row.new.items)) }
+    requires { before + length (values_of_tile_borders row.old.items) < 2 ^ 32 }
+    ensures reads { ReadsWithErrorPosition (λ _. values_of_tile_borders row.new.items) feed.old
+        result
+        feed.new
+        (tiles_with_next_tile_reading before (values_of_tile_borders above.now)
+        (values_of_tile_borders row.old.items)) }
+    ensures count { OnOk result (length (values_of_tile_borders row.new.items)
+        ≡ length (values_of_tile_borders row.old.items) + 1) }
+    ensures even { OnOk result (TilesHaveSameRowCount (values_of_tile_borders row.old.items)
+        → TilesHaveSameRowCount (values_of_tile_borders row.new.items)) }
 {
     let tiles = before + row.len() as u32;
-    let border = match read_tile(alloc, feed, above, row.as_slice()) {
+    let border = match read_tile_border(alloc, feed, above, row.as_slice()) {
         Ok(border) => border,
         Err(stop) => return Err(stop.at(tiles, 0)),
     };
@@ -140,17 +152,19 @@ fn read_tile_row<R: Read>(
     alloc: Global,
     feed: &mut Feed<R>,
     before: u32,
-    above: &[Border],
+    above: &[TileBorder],
     cols: u32,
-) -> Result<Vec<Border>, RequestStop>
+) -> Result<Vec<TileBorder>, RequestStop>
     requires { before + cols < 2 ^ 32 }
-    ensures reads { ReadsPlaced (λ row. border_values row.items) feed.old result feed.new
-        (steps (one_more_tile before (border_values above.now)) [] cols) }
-    ensures even { IfOk result (λ row. AreOfOneHeight (border_values row.items)) }
+    ensures reads { ReadsWithErrorPosition (λ row. values_of_tile_borders row.items) feed.old result
+        feed.new
+        (reading_repeated_n_times (tiles_with_next_tile_reading before
+        (values_of_tile_borders above.now)) [] cols) }
+    ensures even { IfOk result (λ row. TilesHaveSameRowCount (values_of_tile_borders row.items)) }
 {
     let mut row = Vec::new(alloc);
     for i in 0..cols {
-        match push_tile(alloc, feed, before, above, &mut row) {
+        match read_next_tile(alloc, feed, before, above, &mut row) {
             Ok(()) => {}
             Err(stop) => return Err(stop),
         }
@@ -159,8 +173,8 @@ fn read_tile_row<R: Read>(
 }
 
 // Returns the last row of tiles, or no tiles if there is none.
-fn last_tiles(grid: &[Vec<Border>]) -> &[Border]
-    ensures { border_values result.now ≡ last_tiles (grid_values grid.now) }
+fn last_row_of_tiles(grid: &[Vec<TileBorder>]) -> &[TileBorder]
+    ensures { values_of_tile_borders result.now ≡ last_row_of_tiles (borders_as_values grid.now) }
 {
     match grid.last() {
         Some(row) => row.as_slice(),
@@ -169,24 +183,31 @@ fn last_tiles(grid: &[Vec<Border>]) -> &[Border]
 }
 
 // Reads one more row of `cols` tiles.
-#[tactic(auto, unfolding(crate::specs::BorderGrids::one_more_tile_row))]
-fn push_tile_row<R: Read>(
+#[tactic(auto, unfolding(crate::specs::BorderGrids::tile_rows_with_next_row_reading))]
+fn read_next_tile_row<R: Read>(
     alloc: Global,
     feed: &mut Feed<R>,
     before: u32,
     cols: u32,
-    grid: &mut Vec<Vec<Border>>,
+    grid: &mut Vec<Vec<TileBorder>>,
 ) -> Result<(), RequestStop>
-    requires before { before ≡ length (grid_values grid.old.items) * cols }
+    requires before { before ≡ length (borders_as_values grid.old.items) * cols }
     requires few { before + cols < 2 ^ 32 }
-    ensures reads { ReadsPlaced (λ _. grid_values grid.new.items) feed.old result feed.new
-        (one_more_tile_row cols (grid_values grid.old.items)) }
-    ensures count { OnOk result (length (grid_values grid.new.items)
-        ≡ length (grid_values grid.old.items) + 1) }
-    ensures even { OnOk result (All AreOfOneHeight (grid_values grid.old.items)
-        → All AreOfOneHeight (grid_values grid.new.items)) }
+    ensures reads { ReadsWithErrorPosition (λ _. borders_as_values grid.new.items) feed.old result
+        feed.new
+        (tile_rows_with_next_row_reading cols (borders_as_values grid.old.items)) }
+    ensures count { OnOk result (length (borders_as_values grid.new.items)
+        ≡ length (borders_as_values grid.old.items) + 1) }
+    ensures even { OnOk result (All TilesHaveSameRowCount (borders_as_values grid.old.items)
+        → All TilesHaveSameRowCount (borders_as_values grid.new.items)) }
 {
-    let row = match read_tile_row(alloc, feed, before, last_tiles(grid.as_slice()), cols) {
+    let row = match read_tile_row(
+        alloc,
+        feed,
+        before,
+        last_row_of_tiles(grid.as_slice()),
+        cols,
+    ) {
         Ok(row) => row,
         Err(stop) => return Err(stop),
     };
@@ -200,15 +221,16 @@ fn read_tile_rows<R: Read>(
     feed: &mut Feed<R>,
     rows: u32,
     cols: u32,
-) -> Result<Vec<Vec<Border>>, RequestStop>
+) -> Result<Vec<Vec<TileBorder>>, RequestStop>
     requires { rows * cols < 2 ^ 32 }
-    ensures reads { ReadsPlaced (λ grid. grid_values grid.items) feed.old result feed.new
-        (steps (one_more_tile_row cols) [] rows) }
-    ensures even { IfOk result (λ grid. All AreOfOneHeight (grid_values grid.items)) }
+    ensures reads { ReadsWithErrorPosition (λ grid. borders_as_values grid.items) feed.old result
+        feed.new
+        (reading_repeated_n_times (tile_rows_with_next_row_reading cols) [] rows) }
+    ensures even { IfOk result (λ grid. All TilesHaveSameRowCount (borders_as_values grid.items)) }
 {
     let mut grid = Vec::new(alloc);
     for i in 0..rows {
-        match push_tile_row(alloc, feed, i * cols, cols, &mut grid) {
+        match read_next_tile_row(alloc, feed, i * cols, cols, &mut grid) {
             Ok(()) => {}
             Err(stop) => return Err(stop),
         }
@@ -217,10 +239,11 @@ fn read_tile_rows<R: Read>(
 }
 
 // Reads the numbers of rows and columns of tiles.
-#[tactic(auto, unfolding(crate::specs::BorderGrids::tile_counts_at))]
-fn read_tile_counts<R: Read>(feed: &mut Feed<R>) -> Result<Counts, FieldStop>
-    ensures reads { ReadsField (λ counts. (counts.rows, counts.cols)) feed.old result feed.new
-        tile_counts_at }
+#[tactic(auto, unfolding(crate::specs::BorderGrids::tile_grid_size_reading))]
+fn read_tile_grid_size<R: Read>(feed: &mut Feed<R>) -> Result<RowAndColumnCounts, FieldReadingStop>
+    ensures reads { ReadsRequestFieldAndStaysOpen
+        (λ counts. (counts.rows, counts.cols)) feed.old result feed.new
+        tile_grid_size_reading }
     ensures few { IfOk result (λ counts. counts.rows * counts.cols < 2 ^ 32) }
 {
     let rows = read_u32(feed)?;
@@ -228,53 +251,62 @@ fn read_tile_counts<R: Read>(feed: &mut Feed<R>) -> Result<Counts, FieldStop>
     match rows.checked_mul(cols) {
         Some(tiles) => {
             if 1 <= tiles {
-                return Ok(Counts { rows, cols });
+                return Ok(RowAndColumnCounts { rows, cols });
             }
-            Err(FieldStop::Error(ErrorKind::BadTileCount))
+            Err(FieldReadingStop::Error(ErrorKind::BadTileCount))
         }
-        None => Err(FieldStop::Error(ErrorKind::BadTileCount)),
+        None => Err(FieldReadingStop::Error(ErrorKind::BadTileCount)),
     }
 }
 
 // Returns the number of patches of all tiles, unless it does not fit in a `u64`.
-fn patches_in(grid: &[Vec<Border>]) -> Option<u64>
+fn patch_count_of_tiles(grid: &[Vec<TileBorder>]) -> Option<u64>
     ensures some { IfSome result
-        (λ patches. patches ≡ clumps_in_grid (begun_in (grid_values grid.now))) }
-    ensures none { IfNone result (2 ^ 64 ≤ clumps_in_grid (begun_in (grid_values grid.now))) }
+        (λ patches. patches ≡ clump_count_of_tile_grid (begun_clump_counts_of_grid
+        (borders_as_values grid.now))) }
+    ensures none { IfNone result (2 ^ 64 ≤ clump_count_of_tile_grid
+        (begun_clump_counts_of_grid (borders_as_values grid.now))) }
 {
     let mut patches = 0;
     for row in grid {
-        patches = clumps_with_row(patches, row.as_slice())?;
+        patches = clump_count_plus_tile_row(patches, row.as_slice())?;
     }
     Some(patches)
 }
 
 // Checks that the tiles have fewer than 2^64 patches, and that no bytes follow.
-#[tactic(auto, unfolding(crate::specs::BorderGrids::last_grid_at))]
-fn read_grid_end<R: Read>(feed: &mut Feed<R>, grid: &[Vec<Border>]) -> Result<(), FieldStop>
-    ensures reads { ReadsToEnd (λ done. done) feed.old result feed.new
-        (last_grid_at (grid_values grid.now)) }
-    ensures few { OnOk result (clumps_in_grid (begun_in (grid_values grid.now)) < 2 ^ 64) }
+#[tactic(auto, unfolding(crate::specs::BorderGrids::end_of_tile_grid_reading))]
+fn check_end_of_tile_grid<R: Read>(
+    feed: &mut Feed<R>,
+    grid: &[Vec<TileBorder>],
+) -> Result<(), FieldReadingStop>
+    ensures reads { ReadsRequestFieldToSourceEnd (λ done. done) feed.old result feed.new
+        (end_of_tile_grid_reading (borders_as_values grid.now)) }
+    ensures few { OnOk result (clump_count_of_tile_grid (begun_clump_counts_of_grid
+        (borders_as_values grid.now)) < 2 ^ 64) }
 {
-    match patches_in(grid) {
-        Some(_) => read_end(feed),
-        None => Err(FieldStop::Error(ErrorKind::TooManyPatches)),
+    match patch_count_of_tiles(grid) {
+        Some(_) => check_request_ends(feed),
+        None => Err(FieldReadingStop::Error(ErrorKind::TooManyPatches)),
     }
 }
 
 /// Reads the borders of a grid of tiles, to the end of the source. Memory grows only with the bytes that have arrived.
-#[tactic(auto, unfolding(crate::specs::BorderGrids::tile_grid_at))]
+#[tactic(auto, unfolding(crate::specs::BorderGrids::tile_grid_reading))]
 pub(crate) fn read_tile_grid<R: Read>(
     alloc: Global,
     feed: &mut Feed<R>,
-) -> Result<Vec<Vec<Border>>, RequestStop>
-    ensures reads { ReadsPlacedToEnd (λ grid. grid_values grid.items) feed.old result feed.new
-        tile_grid_at }
-    ensures even { IfOk result (λ grid. All AreOfOneHeight (grid_values grid.items)) }
+) -> Result<Vec<Vec<TileBorder>>, RequestStop>
+    ensures reads { ReadsToEndWithErrorPosition
+        (λ grid. borders_as_values grid.items) feed.old result feed.new
+        tile_grid_reading }
+    ensures even { IfOk result (λ grid. All TilesHaveSameRowCount (borders_as_values grid.items)) }
     ensures few { IfOk result
-        (λ grid. clumps_in_grid (begun_in (grid_values grid.items)) < 2 ^ 64) }
+        (λ grid. clump_count_of_tile_grid (begun_clump_counts_of_grid
+        (borders_as_values grid.items))
+        < 2 ^ 64) }
 {
-    let counts = match read_tile_counts(feed) {
+    let counts = match read_tile_grid_size(feed) {
         Ok(counts) => counts,
         Err(stop) => return Err(stop.at(0, 0)),
     };
@@ -282,7 +314,7 @@ pub(crate) fn read_tile_grid<R: Read>(
         Ok(grid) => grid,
         Err(stop) => return Err(stop),
     };
-    match read_grid_end(feed, grid.as_slice()) {
+    match check_end_of_tile_grid(feed, grid.as_slice()) {
         Ok(()) => Ok(grid),
         Err(stop) => Err(stop.at(counts.rows * counts.cols, 0)),
     }

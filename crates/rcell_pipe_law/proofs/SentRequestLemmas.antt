@@ -7,23 +7,25 @@ use Rattle.std.specs.Int.{w32, to_le_bytes}
 use Rattle.std.specs.List.{position_from}
 use Rattle.std.specs.Option.{is_none}
 use Rattle.std.proofs.lemmas.Bool.Decides.{nat_tests}
-use Rattle.cell_core_devices.specs.Device.{Coming}
-use Rattle.cell_core_values.specs.Name.{AreDistinct}
+use Rattle.cell_core_devices.specs.Device.{ComingBytes}
+use Rattle.cell_core_values.specs.Name.{AreDistinctNames}
 use Rattle.cell_core_values.specs.SameRegion.{is_same_region-Decides}
 use Rattle.cell_core_values.proofs.NameLemmas.{bytes_eq-differ}
 use Rattle.cell_core.specs.Shelf.{ShelfValue}
 use Rattle.rcell_pipe_request.specs.Feeds.{after}
-use Rattle.rcell_pipe_request.specs.Heads.{is_new, is_of_shelf}
-use Rattle.rcell_pipe_request.specs.RequestFields.{steps}
-use Rattle.rcell_pipe_request.specs.Requests.{count_at, first_map_at, one_more_map, run_at}
-use Rattle.rcell_pipe_request.specs.Requests.{script_at}
-use Rattle.rcell_pipe_request.proofs.FeedLemmas.{bytes_at-all}
-use Rattle.rcell_pipe_law.specs.RequestLaw.{IsSentRequest, SentRequest, SentRequestsAreRead, meant, request_bytes}
-use Rattle.rcell_pipe_law.specs.RequestLaw.{source_of}
+use Rattle.rcell_pipe_request.specs.Heads.{is_new_map_name, is_region_of_shelf}
+use Rattle.rcell_pipe_request.specs.RequestFields.{reading_repeated_n_times}
+use Rattle.rcell_pipe_request.specs.Requests.{map_count_reading, first_map_reading, next_map_reading}
+use Rattle.rcell_pipe_request.specs.Requests.{run_request_reading}
+use Rattle.rcell_pipe_request.specs.Requests.{script_bytes_reading}
+use Rattle.rcell_pipe_request.proofs.FeedLemmas.{bytes_reading-all}
+use Rattle.rcell_pipe_law.specs.RequestLaw.{IsSendableRequest, SentRequest, SentRequestsAreRead}
+use Rattle.rcell_pipe_law.specs.RequestLaw.{meaning_of_sent_request, request_bytes}
+use Rattle.rcell_pipe_law.specs.RequestLaw.{source_of_bytes}
 use Rattle.rcell_pipe_law.specs.SentQuestions.{questions_bytes}
 use Rattle.rcell_pipe_law.proofs.SentQuestionLemmas.{last_questions_read}
-use Rattle.rcell_pipe_law.specs.SentBytes.{map_bytes, sized}
-use Rattle.rcell_pipe_law.specs.SentMaps.{IsSentMap, SentMap, sent_grid}
+use Rattle.rcell_pipe_law.specs.SentBytes.{bytes_of_sent_map, text_with_length_bytes}
+use Rattle.rcell_pipe_law.specs.SentMaps.{IsSendableMap, SentMap, grid_of_sent_map}
 use Rattle.rcell_pipe_law.proofs.SentFieldLemmas.{after-append}
 use Rattle.rcell_pipe_law.proofs.SentMapLemmas.{head_of, map_reads, tail_of}
 use Rattle.rcell_pipe_law.proofs.SentNumberLemmas.{reads_32}
@@ -34,7 +36,7 @@ name_at [] name back d = refl
 name_at (x ∷ front) name back d = name_at front name back d
 
 free_from : (start : ℕ) (front : List (List ℕ)) (name : List ℕ) (back : List (List ℕ))
-    → AreDistinct (front ++ name ∷ back)
+    → AreDistinctNames (front ++ name ∷ back)
     → position_from (λ n. bytes_eq n name) start front ≡ None
 free_from start [] name back distinct = refl
 free_from start (x ∷ xs) name back distinct =
@@ -47,8 +49,8 @@ free_from start (x ∷ xs) name back distinct =
     j) d (omega arith) (omega arith)))
 
 -- a name that comes later in a list of distinct names is new
-new_name : (shelf : ShelfValue) (name : List ℕ) (back : List (List ℕ)) → AreDistinct (shelf.names ++ name ∷ back)
-    → is_new (Some shelf) name ≡ true
+new_name : (shelf : ShelfValue) (name : List ℕ) (back : List (List ℕ)) → AreDistinctNames (shelf.names ++ name ∷ back)
+    → is_new_map_name (Some shelf) name ≡ true
 new_name shelf name back distinct = ap is_none (free_from 0 shelf.names name back distinct)
 
 -- the shelf, with further maps
@@ -57,14 +59,15 @@ with_maps shelf ms = record {
   region = shelf.region;
   names = shelf.names ++ map (λ m. m.name) ms;
   maps = shelf.maps
-      ++ map sent_grid ms;
+      ++ map grid_of_sent_map ms;
 }
 
-more_maps : (shelf : ShelfValue) (ms : List SentMap) (rest : Coming) → All IsSentMap ms
+more_maps : (shelf : ShelfValue) (ms : List SentMap) (rest : ComingBytes) → All IsSendableMap ms
     → All (λ m. m.region ≡ shelf.region) ms
-    → AreDistinct (shelf.names ++ map (λ m. m.name) ms)
-    → steps one_more_map shelf (length ms) (after (flat_map map_bytes ms) rest) ≡ Ok (with_maps shelf ms, rest)
-unfolding steps one_more_map
+    → AreDistinctNames (shelf.names ++ map (λ m. m.name) ms)
+    → reading_repeated_n_times next_map_reading shelf (length ms) (after (flat_map bytes_of_sent_map ms) rest)
+    ≡ Ok (with_maps shelf ms, rest)
+unfolding reading_repeated_n_times next_map_reading
 more_maps shelf [] rest good same distinct =
     λ i. Ok (
       record {
@@ -77,29 +80,31 @@ more_maps shelf [] rest good same distinct =
     )
 more_maps shelf (m ∷ ms) rest good same distinct =
     let names = map (λ m. m.name) ms in
-    let region : is_of_shelf (Some shelf) m.region ≡ true = (is_same_region-Decides m.region shelf.region).1
+    let region : is_region_of_shelf (Some shelf) m.region ≡ true = (is_same_region-Decides m.region shelf.region).1
     (head_of (λ m. m.region ≡ shelf.region) m ms same) in
     let next : ShelfValue = record {
       region = shelf.region;
       names = shelf.names ++ m.name ∷ [];
       maps = shelf.maps
-          ++ sent_grid m ∷ [];
+          ++ grid_of_sent_map m ∷ [];
     } in
-    let others : AreDistinct (next.names ++ names) = subst AreDistinct (sym (append_assoc shelf.names (m.name ∷ [])
+    let others : AreDistinctNames (next.names ++ names) = subst AreDistinctNames
+    (sym (append_assoc shelf.names (m.name ∷ [])
     names)) distinct in
     rw (
-      after-append (map_bytes m) (flat_map map_bytes ms) rest,
-      map_reads (length shelf.names) (Some shelf) m (after (flat_map map_bytes ms) rest) (head_of IsSentMap m ms
+      after-append (bytes_of_sent_map m) (flat_map bytes_of_sent_map ms) rest,
+      map_reads (length shelf.names) (Some shelf) m (after (flat_map bytes_of_sent_map ms) rest)
+          (head_of IsSendableMap m ms
           good)
           (new_name shelf m.name names distinct) region,
     )
-    (more_maps next ms rest (tail_of IsSentMap m ms good) (tail_of (λ m. m.region ≡ shelf.region) m ms same) others
+    (more_maps next ms rest (tail_of IsSendableMap m ms good) (tail_of (λ m. m.region ≡ shelf.region) m ms same) others
     ∙ (λ i. Ok (
       record {
         region = shelf.region;
         names = append_assoc shelf.names (m.name ∷ []) names i;
         maps =
-            append_assoc shelf.maps (sent_grid m ∷ []) (map sent_grid ms) i;
+            append_assoc shelf.maps (grid_of_sent_map m ∷ []) (map grid_of_sent_map ms) i;
       },
       rest,
     )))
@@ -107,35 +112,36 @@ more_maps shelf (m ∷ ms) rest good same distinct =
 counted : (n : ℕ) → 1 ≤ n → n ≤ 65535 → (nat_le 1 n && nat_le n 65535) ≡ true
 counted n some few = grind (arith, nat_tests)
 
-count_reads : (n : ℕ) (rest : Coming) → 1 ≤ n → n ≤ 65535 → count_at (after (to_le_bytes w32 n) rest) ≡ Ok (n, rest)
-unfolding count_at
+count_reads : (n : ℕ) (rest : ComingBytes) → 1 ≤ n → n ≤ 65535
+    → map_count_reading (after (to_le_bytes w32 n) rest) ≡ Ok (n, rest)
+unfolding map_count_reading
 count_reads n rest some few = rw (reads_32 n rest (omega (arith, few)), counted n some few) refl
 
 sized_script : (n : ℕ) → n ≤ 1048576 → nat_le n 1048576 ≡ true
 sized_script n short = grind (arith, nat_tests)
 
-script_reads : (script : List ℕ) (rest : Coming) → length script ≤ 1048576
-    → script_at (after (sized w32 script) rest) ≡ Ok (script, rest)
-unfolding script_at
+script_reads : (script : List ℕ) (rest : ComingBytes) → length script ≤ 1048576
+    → script_bytes_reading (after (text_with_length_bytes w32 script) rest) ≡ Ok (script, rest)
+unfolding script_bytes_reading
 script_reads script rest short =
     rw (
       after-append (to_le_bytes w32 (length script)) script rest,
       reads_32 (length script) (after script rest) (omega (arith, short)),
       sized_script (length script) short,
     )
-    (bytes_at-all (length script) script (after script rest) rest refl refl)
+    (bytes_reading-all (length script) script (after script rest) rest refl refl)
 
-first_reads : (first : SentMap) (n : ℕ) (rest : Coming) → IsSentMap first → 1 ≤ n → n ≤ 65535
-    → first_map_at (after (to_le_bytes w32 n) (after (map_bytes first) rest))
-    ≡ Ok ((n, record { region = first.region; names = first.name ∷ []; maps = sent_grid first ∷ [] }), rest)
-unfolding first_map_at
+first_reads : (first : SentMap) (n : ℕ) (rest : ComingBytes) → IsSendableMap first → 1 ≤ n → n ≤ 65535
+    → first_map_reading (after (to_le_bytes w32 n) (after (bytes_of_sent_map first) rest))
+    ≡ Ok ((n, record { region = first.region; names = first.name ∷ []; maps = grid_of_sent_map first ∷ [] }), rest)
+unfolding first_map_reading
 first_reads first n rest is some few = rw (
-  count_reads n (after (map_bytes first) rest) some few,
+  count_reads n (after (bytes_of_sent_map first) rest) some few,
   map_reads 0 None first rest is refl refl,
 ) refl
 
 -- the parts of a request follow one another
-parts : (count first maps script questions : List ℕ) (rest : Coming)
+parts : (count first maps script questions : List ℕ) (rest : ComingBytes)
     → after ((count ++ (first ++ maps)) ++ (script ++ questions)) rest
     ≡ after count (after first (after maps (after script (after questions rest))))
 parts count first maps script questions rest =
@@ -144,27 +150,29 @@ parts count first maps script questions rest =
     ∙ ap (after count) (after-append first maps (after (script ++ questions) rest)
     ∙ ap (λ c. after first (after maps c)) (after-append script questions rest))
 
-parts_read : (r : SentRequest) → IsSentRequest r
-    → run_at (after (to_le_bytes w32 (length (r.first ∷ r.others))) (after (map_bytes r.first)
-    (after (flat_map map_bytes r.others) (after (sized w32 r.script) (after (questions_bytes r.questions)
-    (source_of []))))))
-    ≡ Ok (meant r, source_of [])
-unfolding run_at
+parts_read : (r : SentRequest) → IsSendableRequest r
+    → run_request_reading (after (to_le_bytes w32 (length (r.first ∷ r.others))) (after (bytes_of_sent_map r.first)
+    (after (flat_map bytes_of_sent_map r.others) (after (text_with_length_bytes w32 r.script)
+    (after (questions_bytes r.questions)
+    (source_of_bytes []))))))
+    ≡ Ok (meaning_of_sent_request r, source_of_bytes [])
+unfolding run_request_reading
 parts_read r is =
     let n = length (r.first ∷ r.others) in
     let shelf : ShelfValue = record {
       region = r.first.region;
       names = r.first.name ∷ [];
-      maps = sent_grid r.first ∷ [];
+      maps = grid_of_sent_map r.first ∷ [];
     } in
-    let asked = after (questions_bytes r.questions) (source_of []) in
-    let next = after (sized w32 r.script) asked in
+    let asked = after (questions_bytes r.questions) (source_of_bytes []) in
+    let next = after (text_with_length_bytes w32 r.script) asked in
     let left : n - 1 ≡ length r.others = omega arith in
     rw (
-      first_reads r.first n (after (flat_map map_bytes r.others) next) (head_of IsSentMap r.first r.others is.maps)
+      first_reads r.first n (after (flat_map bytes_of_sent_map r.others) next)
+          (head_of IsSendableMap r.first r.others is.maps)
           (omega arith) is.few,
       left,
-      more_maps shelf r.others next (tail_of IsSentMap r.first r.others is.maps) is.one_region is.distinct,
+      more_maps shelf r.others next (tail_of IsSendableMap r.first r.others is.maps) is.one_region is.distinct,
       script_reads r.script asked is.short,
       last_questions_read n r.questions is.questions is.count,
     ) refl
@@ -173,10 +181,11 @@ pub sent_are_read : SentRequestsAreRead
 sent_are_read magic r eight is =
     let bytes = request_bytes r in
     let count = to_le_bytes w32 (length (r.first ∷ r.others)) in
-    let maps = flat_map map_bytes r.others in record {
-      form = bytes_at-all 8 magic (source_of (magic ++ bytes)) (source_of bytes) refl eight;
-      rest = ap (λ all. run_at (source_of all)) (sym (append-nil bytes))
-          ∙ ap run_at (parts count (map_bytes r.first) maps (sized w32 r.script) (questions_bytes r.questions)
-          (source_of []))
+    let maps = flat_map bytes_of_sent_map r.others in record {
+      form = bytes_reading-all 8 magic (source_of_bytes (magic ++ bytes)) (source_of_bytes bytes) refl eight;
+      rest = ap (λ all. run_request_reading (source_of_bytes all)) (sym (append-nil bytes))
+          ∙ ap run_request_reading (parts count (bytes_of_sent_map r.first) maps (text_with_length_bytes w32 r.script)
+          (questions_bytes r.questions)
+          (source_of_bytes []))
           ∙ parts_read r is;
     }

@@ -2,23 +2,23 @@
 -- label.
 use Rattle.std.specs.Prelude.{ℕ, pos, negsuc, ◌≡◌, true, false, List, [], ◌∷◌, ◌++◌, Some, None, codes}
 use Rattle.cell_core.specs.Grid.{CellValue}
-use Rattle.cell_cats_areas.specs.declared.clump.Joining.TheVariants.{EdgesAndCorners}
+use Rattle.cell_clumps.specs.declared.clump.Joining.TheVariants.{EdgesAndCorners}
 use Rattle.rcell_pipe_request.specs.declared.kind.CellType.TheVariants.{U8, I16}
-use Rattle.rcell_pipe_law.specs.RequestLaw.{IsSentRequest, SentRequest, request_bytes}
-use Rattle.rcell_pipe_law.specs.SentMaps.{SentCell, SentMap, sent_grid}
+use Rattle.rcell_pipe_law.specs.RequestLaw.{IsSendableRequest, SentRequest, request_bytes}
+use Rattle.rcell_pipe_law.specs.SentMaps.{SentCell, SentMap, grid_of_sent_map}
 use Rattle.rcell_pipe_law.specs.SentQuestions.{SentQuestion}
 
-abbrev pub shown : ℕ → SentCell
-shown n = record { number = pos n; hidden = false }
+abbrev pub visible_sent_cell : ℕ → SentCell
+visible_sent_cell n = record { number = pos n; hidden = false }
 
-abbrev pub below_zero : ℕ → SentCell
-below_zero n = record { number = negsuc n; hidden = false }
+abbrev pub negative_sent_cell : ℕ → SentCell
+negative_sent_cell n = record { number = negsuc n; hidden = false }
 
 abbrev pub hidden : SentCell
 hidden = record { number = pos 7; hidden = true }
 
-abbrev pub docs_map : SentMap
-docs_map = record {
+abbrev pub docs_example_map : SentMap
+docs_example_map = record {
   name = codes "land";
   region = record { north = pos 200000000; south = pos 0; east = pos 300000000; west = pos 0; rows = 2; cols = 3 };
   north = codes "2";
@@ -27,25 +27,27 @@ docs_map = record {
   west = codes "0";
   format = record { kind = U8; nodata = Some (pos 255); is_masked = false };
   labels = [];
-  rows = (shown 1 ∷ shown 1 ∷ shown 2 ∷ []) ∷ (shown 2 ∷ shown 2 ∷ shown 255 ∷ []) ∷ [];
+  rows = (visible_sent_cell 1 ∷ visible_sent_cell 1 ∷ visible_sent_cell 2 ∷ [])
+      ∷ (visible_sent_cell 2 ∷ visible_sent_cell 2 ∷ visible_sent_cell 255 ∷ []) ∷ [];
 }
 
-abbrev pub heat : SentMap
-heat = record docs_map {
+abbrev pub example_heat_map : SentMap
+example_heat_map = record docs_example_map {
   name = codes "heat";
   format = record { kind = I16; nodata = None; is_masked = true };
   labels = record { category = negsuc 1; text = codes "cold" } ∷ [];
-  rows = (below_zero 1 ∷ hidden ∷ shown 3 ∷ []) ∷ (shown 3 ∷ shown 3 ∷ below_zero 299 ∷ []) ∷ [];
+  rows = (negative_sent_cell 1 ∷ hidden ∷ visible_sent_cell 3 ∷ []) ∷ (visible_sent_cell 3 ∷ visible_sent_cell 3
+      ∷ negative_sent_cell 299 ∷ []) ∷ [];
 }
 
 abbrev pub script : List ℕ
 script = codes "r.stats -c input=land\n"
 
-abbrev pub docs_request : SentRequest
-docs_request = record { first = docs_map; others = []; script = script; questions = [] }
+abbrev pub docs_example_request : SentRequest
+docs_example_request = record { first = docs_example_map; others = []; script = script; questions = [] }
 
-abbrev pub core_of_heat : SentQuestion
-core_of_heat = record {
+abbrev pub example_heat_question : SentQuestion
+example_heat_question = record {
   map = codes "heat";
   joining = EdgesAndCorners;
   depth = 2;
@@ -53,12 +55,18 @@ core_of_heat = record {
   with_numbers = true;
 }
 
-abbrev pub heat_request : SentRequest
-heat_request = record { first = docs_map; others = heat ∷ []; script = script; questions = core_of_heat ∷ [] }
+abbrev pub example_heat_request : SentRequest
+example_heat_request = record {
+  first = docs_example_map;
+  others = example_heat_map
+      ∷ [];
+  script = script;
+  questions = example_heat_question ∷ [];
+}
 
 -- one map, a script of 22 bytes, and no questions
-abbrev pub land_bytes : List ℕ
-land_bytes =
+abbrev pub docs_example_request_bytes : List ℕ
+docs_example_request_bytes =
     (1 ∷ 0 ∷ 0 ∷ 0 ∷ 4 ∷ []) ++ codes "land"
     ++ (1 ∷ 50 ∷ 1 ∷ 48 ∷ 1 ∷ 51 ∷ 1 ∷ 48 ∷ 2 ∷ 0 ∷ 0 ∷ 0 ∷ 3 ∷ 0 ∷ 0 ∷ 0 ∷ [])
     ++ (1 ∷ 1 ∷ 255 ∷ 0 ∷ 0 ∷ 0 ∷ 0 ∷ 0 ∷ 0 ∷ 0 ∷ 0 ∷ 0 ∷ 0 ∷ 0 ∷ 1 ∷ 1 ∷ [])
@@ -66,8 +74,8 @@ land_bytes =
     ++ (0 ∷ 0 ∷ 0 ∷ 0 ∷ [])
 
 -- two maps, where each row of the second is followed by its mask, and one question
-abbrev pub both_bytes : List ℕ
-both_bytes =
+abbrev pub example_heat_request_bytes : List ℕ
+example_heat_request_bytes =
     (2 ∷ 0 ∷ 0 ∷ 0 ∷ 4 ∷ []) ++ codes "land"
     ++ (1 ∷ 50 ∷ 1 ∷ 48 ∷ 1 ∷ 51 ∷ 1 ∷ 48 ∷ 2 ∷ 0 ∷ 0 ∷ 0 ∷ 3 ∷ 0 ∷ 0 ∷ 0 ∷ [])
     ++ (1 ∷ 1 ∷ 255 ∷ 0 ∷ 0 ∷ 0 ∷ 0 ∷ 0 ∷ 0 ∷ 0 ∷ 0 ∷ 0 ∷ 0 ∷ 0 ∷ 1 ∷ 1 ∷ [])
@@ -80,17 +88,19 @@ both_bytes =
     ++ (1 ∷ 0 ∷ 0 ∷ 0 ∷ 2 ∷ 4 ∷ []) ++ codes "heat" ++ (8 ∷ 2 ∷ 0 ∷ 0 ∷ 0 ∷ 4 ∷ []) ++ codes "land"
 
 -- the cells that the numbers denote: 255 and cells that the mask hides are null
-abbrev pub land_cells : List (List CellValue)
-land_cells = (Some (pos 1) ∷ Some (pos 1) ∷ Some (pos 2) ∷ []) ∷ (Some (pos 2) ∷ Some (pos 2) ∷ None ∷ []) ∷ []
-
-abbrev pub heat_cells : List (List CellValue)
-heat_cells = (Some (negsuc 1) ∷ None ∷ Some (pos 3) ∷ []) ∷ (Some (pos 3) ∷ Some (pos 3) ∷ Some (negsuc 299) ∷ [])
+abbrev pub docs_example_map_cells : List (List CellValue)
+docs_example_map_cells = (Some (pos 1) ∷ Some (pos 1) ∷ Some (pos 2) ∷ []) ∷ (Some (pos 2) ∷ Some (pos 2) ∷ None ∷ [])
     ∷ []
 
-pub record SentExamples : Type 0 where
-  pub one : IsSentRequest docs_request
-  pub one_is : request_bytes docs_request ≡ land_bytes
-  pub land_means : (sent_grid docs_map).rows ≡ land_cells
-  pub two : IsSentRequest heat_request
-  pub two_are : request_bytes heat_request ≡ both_bytes
-  pub heat_means : (sent_grid heat).rows ≡ heat_cells
+abbrev pub example_heat_map_cells : List (List CellValue)
+example_heat_map_cells = (Some (negsuc 1) ∷ None ∷ Some (pos 3) ∷ [])
+    ∷ (Some (pos 3) ∷ Some (pos 3) ∷ Some (negsuc 299) ∷ [])
+    ∷ []
+
+pub record ExampleRequestsMatchBytes : Type 0 where
+  pub one : IsSendableRequest docs_example_request
+  pub one_is : request_bytes docs_example_request ≡ docs_example_request_bytes
+  pub land_means : (grid_of_sent_map docs_example_map).rows ≡ docs_example_map_cells
+  pub two : IsSendableRequest example_heat_request
+  pub two_are : request_bytes example_heat_request ≡ example_heat_request_bytes
+  pub heat_means : (grid_of_sent_map example_heat_map).rows ≡ example_heat_map_cells

@@ -5,14 +5,14 @@ use Rattle.std.specs.Int.{w32, w64}
 use Rattle.std.specs.Int.RustNames.{FitsSigned}
 use Rattle.cell_core_values.specs.Cell.{is_category}
 use Rattle.cell_core_values.specs.Name.{is_name}
-use Rattle.cell_core_values.specs.Region.{RegionValue, IsRegion}
-use Rattle.cell_core.specs.Grid.{CellValue, Grid, no_labels}
+use Rattle.cell_core_values.specs.Region.{RegionValue, IsValidRegion}
+use Rattle.cell_core.specs.Grid.{CellValue, Grid, empty_category_labels}
 use Rattle.cell_core.specs.Shelf.{ShelfValue}
-use Rattle.cell_ascii_meaning.specs.EdgeNumbers.{coordinate}
+use Rattle.cell_ascii_meaning.specs.EdgeNumbers.{coordinate_of_text}
 use Rattle.rcell_pipe_request.specs.Heads.{LabelValue, is_bad_label}
-use Rattle.rcell_pipe_request.specs.Numbers.{has_number}
+use Rattle.rcell_pipe_request.specs.Numbers.{can_represent_number}
 use Rattle.rcell_pipe_request.specs.RawRows.{is_nodata}
-use Rattle.rcell_pipe_request.specs.Requests.{with_labels}
+use Rattle.rcell_pipe_request.specs.Requests.{label_map_with_added_labels}
 use Rattle.rcell_pipe_request.specs.declared.head.RawFormat.{RawFormat}
 use Rattle.rcell_pipe_request.specs.declared.kind.CellType.{CellType}
 
@@ -35,61 +35,61 @@ pub record SentMap : Type 0 where
   pub rows : List (List SentCell)
 
 -- a cell is null if the mask hides it or its number denotes null
-abbrev pub means_null : RawFormat → SentCell → Bool
-means_null format cell = (format.is_masked && cell.hidden) || is_nodata format.nodata cell.number
+abbrev pub sent_cell_means_null : RawFormat → SentCell → Bool
+sent_cell_means_null format cell = (format.is_masked && cell.hidden) || is_nodata format.nodata cell.number
 
 -- the cell that a number denotes: null, or the number as a category
-abbrev pub sent_cell : RawFormat → SentCell → CellValue
-sent_cell format cell = if means_null format cell then None else Some cell.number
+abbrev pub cell_of_sent_cell : RawFormat → SentCell → CellValue
+cell_of_sent_cell format cell = if sent_cell_means_null format cell then None else Some cell.number
 
 -- the map that the numbers denote
-abbrev pub sent_grid : SentMap → Grid
-sent_grid m = record {
+abbrev pub grid_of_sent_map : SentMap → Grid
+grid_of_sent_map m = record {
   region = m.region;
-  rows = map (map (sent_cell m.format)) m.rows;
-  labels = with_labels no_labels m.labels;
+  rows = map (map (cell_of_sent_cell m.format)) m.rows;
+  labels = label_map_with_added_labels empty_category_labels m.labels;
 }
 
 -- the maps that the numbers denote, with their names; the region is the first map's
-abbrev pub sent_shelf : SentMap → List SentMap → ShelfValue
-sent_shelf first others = record {
+abbrev pub shelf_of_sent_maps : SentMap → List SentMap → ShelfValue
+shelf_of_sent_maps first others = record {
   region = first.region;
   names = map (λ m. m.name) (first ∷ others);
-  maps = map sent_grid (first ∷ others);
+  maps = map grid_of_sent_map (first ∷ others);
 }
 
 -- a number that the type can represent
-pub record IsOfType (kind : CellType) (number : ℤ) : Type 0 where
-  pub has : has_number kind number ≡ true
+pub record IsNumberOfCellType (kind : CellType) (number : ℤ) : Type 0 where
+  pub has : can_represent_number kind number ≡ true
   pub fits : FitsSigned w64 number
 
 -- a number of the type that is either null or a category
-pub record IsSentCell (format : RawFormat) (cell : SentCell) : Type 0 where
-  pub number : IsOfType format.kind cell.number
-  pub means : (means_null format cell || is_category cell.number) ≡ true
+pub record IsSendableCell (format : RawFormat) (cell : SentCell) : Type 0 where
+  pub number : IsNumberOfCellType format.kind cell.number
+  pub means : (sent_cell_means_null format cell || is_category cell.number) ≡ true
 
 -- a category and a text without line feeds, short enough for its length field
-pub record IsSentLabel (label : LabelValue) : Type 0 where
+pub record IsSendableLabel (label : LabelValue) : Type 0 where
   pub good : is_bad_label label.category label.text ≡ false
   pub category : FitsSigned w32 label.category
   pub text : length label.text < 2 ^ 16
 
 -- a short text that spells the coordinate `edge`
-pub record Spells (edge : ℤ) (text : List ℕ) : Type 0 where
+pub record IsSendableCoordinateText (edge : ℤ) (text : List ℕ) : Type 0 where
   pub short : length text < 2 ^ 8
-  pub spelt : coordinate text ≡ Some edge
+  pub spelt : coordinate_of_text text ≡ Some edge
 
 -- a map that can be sent
-pub record IsSentMap (m : SentMap) : Type 0 where
+pub record IsSendableMap (m : SentMap) : Type 0 where
   pub name : is_name m.name ≡ true
-  pub region : IsRegion m.region
-  pub north : Spells m.region.north m.north
-  pub south : Spells m.region.south m.south
-  pub east : Spells m.region.east m.east
-  pub west : Spells m.region.west m.west
-  pub nodata : IfSome m.format.nodata (IsOfType m.format.kind)
+  pub region : IsValidRegion m.region
+  pub north : IsSendableCoordinateText m.region.north m.north
+  pub south : IsSendableCoordinateText m.region.south m.south
+  pub east : IsSendableCoordinateText m.region.east m.east
+  pub west : IsSendableCoordinateText m.region.west m.west
+  pub nodata : IfSome m.format.nodata (IsNumberOfCellType m.format.kind)
   pub count : length m.labels < 2 ^ 32
-  pub labels : All IsSentLabel m.labels
+  pub labels : All IsSendableLabel m.labels
   pub height : length m.rows ≡ m.region.rows
   pub width : All (λ row. length row ≡ m.region.cols) m.rows
-  pub cells : All (All (IsSentCell m.format)) m.rows
+  pub cells : All (All (IsSendableCell m.format)) m.rows

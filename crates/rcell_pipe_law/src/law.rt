@@ -1,7 +1,7 @@
 //! What the bytes of a request mean to the caller that writes them.
 
 ghost use Rattle.rcell_pipe_law.specs.RequestLaw.{SentRequestsAreRead};
-ghost use Rattle.rcell_pipe_law.specs.SentExamples.{SentExamples};
+ghost use Rattle.rcell_pipe_law.specs.SentExamples.{ExampleRequestsMatchBytes};
 
 /// A caller writes maps of one region with distinct names, a script and questions. The request is read as exactly
 /// these: the region, each cell, label and name, each byte of the script, and each question.
@@ -11,6 +11,6 @@ pub fn sent_requests_are_read()
 
 /// The request of docs/pipe.md, and a request with a mask, a label, negative numbers and a question, byte for byte.
 /// They show that the law above has instances.
-pub fn worked_requests()
-    ensures { SentExamples }
+pub fn example_requests_match_bytes()
+    ensures { ExampleRequestsMatchBytes }
 {}

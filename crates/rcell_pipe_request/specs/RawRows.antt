@@ -6,12 +6,12 @@ use Rattle.cell_core_values.specs.Cell.{is_category}
 use Rattle.rcell_pipe_request.specs.declared.kind.CellType.{CellType}
 use Rattle.rcell_pipe_request.specs.declared.raw_row.RowError.{RowError}
 use Rattle.rcell_pipe_request.specs.declared.raw_row.RowError.TheVariants.{BadMask, OutOfRange}
-use Rattle.rcell_pipe_request.specs.Numbers.{raw_number}
+use Rattle.rcell_pipe_request.specs.Numbers.{raw_number_at_place}
 
 -- a byte of the mask, if there is a mask, hides a cell unless it is 0
-abbrev pub is_hiding : Option ℕ → Bool
-is_hiding None = false
-is_hiding (Some byte) = not (byte == 0)
+abbrev pub is_hiding_mask_byte : Option ℕ → Bool
+is_hiding_mask_byte None = false
+is_hiding_mask_byte (Some byte) = not (byte == 0)
 
 -- the number denotes null
 abbrev pub is_nodata : Option ℤ → ℤ → Bool
@@ -19,42 +19,44 @@ is_nodata None number = false
 is_nodata (Some nodata) number = int_eq number nodata
 
 -- the number is neither null nor a category
-abbrev pub is_outside : Option ℤ → ℤ → Bool
-is_outside nodata number = not (is_nodata nodata number) && not (is_category number)
+abbrev pub is_unmapped_number : Option ℤ → ℤ → Bool
+is_unmapped_number nodata number = not (is_nodata nodata number) && not (is_category number)
 
 -- the cell that a visible number denotes
-abbrev pub cell_of_raw : Option ℤ → ℤ → Option ℤ
-cell_of_raw nodata number = if is_nodata nodata number then None else (if is_category number then Some number else None)
+abbrev pub cell_of_raw_number : Option ℤ → ℤ → Option ℤ
+cell_of_raw_number nodata number = if is_nodata nodata number then None else
+    (if is_category number then Some number else None)
 
 -- the cell at index `place` of a row
-abbrev pub raw_cell : CellType → Option ℤ → List ℕ → List ℕ → ℕ → Option ℤ
-raw_cell kind nodata mask bytes place = if is_hiding (slice_get mask place) then None else cell_of_raw nodata (raw_number kind bytes place)
+abbrev pub raw_cell_at_place : CellType → Option ℤ → List ℕ → List ℕ → ℕ → Option ℤ
+raw_cell_at_place kind nodata mask bytes place = if is_hiding_mask_byte (slice_get mask place) then None else cell_of_raw_number nodata (raw_number_at_place kind bytes place)
 
 -- the number at index `place` of a row is visible, and neither null nor a category
-abbrev pub is_raw_outside : CellType → Option ℤ → List ℕ → List ℕ → ℕ → Bool
-is_raw_outside kind nodata mask bytes place = not (is_hiding (slice_get mask place)) && is_outside nodata (raw_number kind bytes place)
+abbrev pub is_invalid_raw_number_at_place : CellType → Option ℤ → List ℕ → List ℕ → ℕ → Bool
+is_invalid_raw_number_at_place kind nodata mask bytes place = not (is_hiding_mask_byte (slice_get mask place)) && is_unmapped_number nodata (raw_number_at_place kind bytes place)
 
 -- the indices of a row of `cols` cells
-abbrev pub places : ℕ → List ℕ
-places cols = range_with_len 0 cols
+abbrev pub places_in_row : ℕ → List ℕ
+places_in_row cols = range_with_len 0 cols
 
 -- the cells of a row
 abbrev pub raw_cells : CellType → Option ℤ → List ℕ → List ℕ → ℕ → List (Option ℤ)
-raw_cells kind nodata mask bytes cols = map (raw_cell kind nodata mask bytes) (places cols)
+raw_cells kind nodata mask bytes cols = map (raw_cell_at_place kind nodata mask bytes) (places_in_row cols)
 
 -- some number in the row is not a valid cell
-abbrev pub has_outside : CellType → Option ℤ → List ℕ → List ℕ → ℕ → Bool
-has_outside kind nodata mask bytes cols = list_any (is_raw_outside kind nodata mask bytes) (places cols)
+abbrev pub has_invalid_raw_number : CellType → Option ℤ → List ℕ → List ℕ → ℕ → Bool
+has_invalid_raw_number kind nodata mask bytes cols = list_any (is_invalid_raw_number_at_place kind nodata mask bytes)
+    (places_in_row cols)
 
 -- the mask has a byte other than 0 and 1
 abbrev pub is_bad_mask : List ℕ → Bool
 is_bad_mask mask = list_any (nat_lt 1) mask
 
 -- the first error of a row: the mask is checked before the numbers
-abbrev pub row_error : CellType → Option ℤ → List ℕ → List ℕ → ℕ → Option RowError
-row_error kind nodata mask bytes cols = if is_bad_mask mask then Some BadMask else (if has_outside kind nodata mask bytes cols then Some OutOfRange else None)
+abbrev pub first_error_of_raw_row : CellType → Option ℤ → List ℕ → List ℕ → ℕ → Option RowError
+first_error_of_raw_row kind nodata mask bytes cols = if is_bad_mask mask then Some BadMask else (if has_invalid_raw_number kind nodata mask bytes cols then Some OutOfRange else None)
 
 -- the error of a result, if any
-abbrev pub error_of : {X : Type 0} → Result X RowError → Option RowError
-error_of (Ok done) = None
-error_of (Err error) = Some error
+abbrev pub row_error_of_result : {X : Type 0} → Result X RowError → Option RowError
+row_error_of_result (Ok done) = None
+row_error_of_result (Err error) = Some error

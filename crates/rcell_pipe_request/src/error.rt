@@ -1,9 +1,9 @@
 //! Errors of requests.
 
 ghost use Rattle.std.specs.Prelude.{◌≡◌};
-ghost use Rattle.rcell_pipe_request.specs.declared.error.FieldStop.TheVariants as field_stops;
+ghost use Rattle.rcell_pipe_request.specs.declared.error.FieldReadingStop.TheVariants as field_stops;
 ghost use Rattle.rcell_pipe_request.specs.declared.error.RequestStop.TheVariants as request_stops;
-ghost use Rattle.rcell_pipe_request.specs.Requests.{stop_at};
+ghost use Rattle.rcell_pipe_request.specs.Requests.{request_stop_at_position};
 
 use std::alloc::{AllocError, AllocFailed};
 
@@ -85,26 +85,26 @@ pub struct RequestError {
 
 /// Why a field could not be read.
 #[derive(Clone, Copy, Debug)]
-pub enum FieldStop {
+pub enum FieldReadingStop {
     /// Memory ran out.
     Memory,
     /// The bytes contain an error.
     Error(ErrorKind),
 }
 
-impl From<AllocError> for FieldStop {
+impl From<AllocError> for FieldReadingStop {
     ghost from_gives = { λ _ e. e ≡ field_stops.Memory };
 
-    fn from(_e: AllocError) -> FieldStop {
-        FieldStop::Memory
+    fn from(_e: AllocError) -> FieldReadingStop {
+        FieldReadingStop::Memory
     }
 }
 
-impl<T: Drop> From<AllocFailed<T>> for FieldStop {
+impl<T: Drop> From<AllocFailed<T>> for FieldReadingStop {
     ghost from_gives = { λ _ e. e ≡ field_stops.Memory };
 
-    fn from(_e: AllocFailed<T>) -> FieldStop {
-        FieldStop::Memory
+    fn from(_e: AllocFailed<T>) -> FieldReadingStop {
+        FieldReadingStop::Memory
     }
 }
 
@@ -133,14 +133,14 @@ impl<T: Drop> From<AllocFailed<T>> for RequestStop {
     }
 }
 
-impl FieldStop {
+impl FieldReadingStop {
     /// Adds the position to an error.
     pub fn at(self, maps: u32, row: u32) -> RequestStop
-        ensures { result ≡ stop_at maps row self }
+        ensures { result ≡ request_stop_at_position maps row self }
     {
         match self {
-            FieldStop::Memory => RequestStop::Memory,
-            FieldStop::Error(kind) => RequestStop::Error(RequestError { kind, maps, row }),
+            FieldReadingStop::Memory => RequestStop::Memory,
+            FieldReadingStop::Error(kind) => RequestStop::Error(RequestError { kind, maps, row }),
         }
     }
 }

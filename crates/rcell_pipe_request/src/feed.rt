@@ -2,24 +2,24 @@
 
 ghost use Rattle.std.specs.Prelude.{◌≡◌, ◌<◌, ◌≤◌, ◌+◌, List, [], true, length, take, drop, ◌++◌, IfOk, IfErr, OnOk};
 ghost use Rattle.std.specs.Int.{w8, w16, w32, w64};
-ghost use Rattle.cell_core_devices.specs.Device.{Coming};
-ghost use Rattle.rcell_pipe_request.specs.RequestFields.{ending, bytes_at, number_at, signed_at, text_at, end_at};
-ghost use Rattle.rcell_pipe_request.specs.Feeds.{FeedValue, fits, left, AsksOnce, ReadsField, ReadsToEnd};
+ghost use Rattle.cell_core_devices.specs.Device.{ComingBytes};
+ghost use Rattle.rcell_pipe_request.specs.RequestFields.{error_kind_of_source_end, bytes_reading, unsigned_number_reading, signed_number_reading, sized_text_reading, end_of_request_reading};
+ghost use Rattle.rcell_pipe_request.specs.Feeds.{RequestReaderValue, request_reader_may_hold_bytes, left, IsReadStateAfterNextBlock, ReadsRequestFieldAndStaysOpen, ReadsRequestFieldToSourceEnd};
 
-use crate::error::{ErrorKind, FieldStop};
+use crate::error::{ErrorKind, FieldReadingStop};
 use cell_core::source::{ReadSource, Source};
 use std::alloc::{AllocError, Global};
 use std::io::Read;
 use std::marker::Model;
 
 // Number of bytes requested from the source at a time.
-const BLOCK: usize = 65536;
+const BLOCK_BYTES: usize = 65536;
 
 /// Allocates the memory for a block.
 pub fn new_block(alloc: Global) -> Result<Vec<u8>, AllocError>
     ensures { IfOk result (λ block. 0 < length block.items) }
 {
-    vec![in alloc; 0u8; BLOCK]
+    vec![in alloc; 0u8; BLOCK_BYTES]
 }
 
 /// A source that is read in blocks.
@@ -33,9 +33,9 @@ pub struct Feed<R: Read> {
 
 impl<R: Read> Model for Feed<R> {
     ghost use Rattle.std.specs.Prelude.{take, drop, length, ◌<◌, ◌≤◌};
-    ghost use Rattle.rcell_pipe_request.specs.Feeds.{FeedValue};
+    ghost use Rattle.rcell_pipe_request.specs.Feeds.{RequestReaderValue};
 
-    ghost Value = { FeedValue };
+    ghost Value = { RequestReaderValue };
 
     ghost view = { λ f. record {
       unread = drop f.at (take f.end f.block.items);
@@ -79,13 +79,16 @@ impl<R: Read> Feed<R> {
     // Reads the next block if the current one is used up.
     fn refill(&mut self) -> Result<(), ErrorKind>
         // Any content that the source may hold after the call, it could hold before, with the same bytes still to come.
-        ensures same { (c : Coming) → fits c self.new ≡ true
-            → (fits c self.old ≡ true) × (left c self.new ≡ left c self.old) }
+        ensures same { (c : ComingBytes) → request_reader_may_hold_bytes c self.new ≡ true
+            → (request_reader_may_hold_bytes c self.old ≡ true)
+            × (left c self.new ≡ left c self.old) }
         ensures some { OnOk result (0 < length self.new.unread) }
-        ensures end { IfErr result (λ kind. (c : Coming) → fits c self.new ≡ true
-            → ((left c self.old).bytes ≡ []) × (kind ≡ ending (left c self.old).fails)) }
+        ensures end { IfErr result (λ kind. (c : ComingBytes)
+            → request_reader_may_hold_bytes c self.new ≡ true
+            → ((left c self.old).bytes ≡ []) × (kind
+            ≡ error_kind_of_source_end (left c self.old).fails)) }
         // The end of the source and a read error are reported as such, and the source is not read again after them.
-        ensures asked { AsksOnce result self.old self.new }
+        ensures asked { IsReadStateAfterNextBlock result self.old self.new }
     {
         if self.at < self.end {
             return Ok(());
@@ -118,7 +121,7 @@ impl<R: Read> Feed<R> {
 }
 
 // Copies bytes into a slice, starting at `at`.
-fn copy_at(out: &mut [u8], at: usize, bytes: &[u8])
+fn copy_bytes_at(out: &mut [u8], at: usize, bytes: &[u8])
     requires { at + length bytes.now ≤ length out.old }
     ensures front { take (at + length bytes.now) out.new ≡ take at out.old ++ bytes.now }
     ensures len { length out.new ≡ length out.old }
@@ -127,19 +130,20 @@ fn copy_at(out: &mut [u8], at: usize, bytes: &[u8])
 }
 
 /// Fills a slice with the next bytes.
-pub fn read_into<R: Read>(feed: &mut Feed<R>, out: &mut [u8]) -> Result<(), FieldStop>
+pub fn read_bytes_into<R: Read>(feed: &mut Feed<R>, out: &mut [u8]) -> Result<(), FieldReadingStop>
     ensures width { length out.new ≡ length out.old }
-    ensures bytes { ReadsField (λ _. out.new) feed.old result feed.new (bytes_at (length out.old)) }
+    ensures bytes { ReadsRequestFieldAndStaysOpen (λ _. out.new) feed.old result feed.new
+        (bytes_reading (length out.old)) }
 {
     let mut done = 0;
     while done < out.len() {
         match feed.refill() {
             Ok(()) => {}
-            Err(kind) => return Err(FieldStop::Error(kind)),
+            Err(kind) => return Err(FieldReadingStop::Error(kind)),
         }
         let unread = feed.unread();
         let count = unread.len().min(out.len() - done);
-        copy_at(out, done, &unread[..count]);
+        copy_bytes_at(out, done, &unread[..count]);
         feed.pass(count);
         done += count;
     }
@@ -151,14 +155,15 @@ pub fn read_bytes<R: Read>(
     alloc: Global,
     feed: &mut Feed<R>,
     len: usize,
-) -> Result<Vec<u8>, FieldStop>
-    ensures { ReadsField (λ text. text.items) feed.old result feed.new (bytes_at len) }
+) -> Result<Vec<u8>, FieldReadingStop>
+    ensures { ReadsRequestFieldAndStaysOpen (λ text. text.items) feed.old result feed.new
+        (bytes_reading len) }
 {
     let mut text = Vec::new(alloc);
     while text.len() < len {
         match feed.refill() {
             Ok(()) => {}
-            Err(kind) => return Err(FieldStop::Error(kind)),
+            Err(kind) => return Err(FieldReadingStop::Error(kind)),
         }
         let unread = feed.unread();
         let count = unread.len().min(len - text.len());
@@ -169,81 +174,95 @@ pub fn read_bytes<R: Read>(
 }
 
 /// Reads an unsigned 8-bit number.
-#[tactic(auto, unfolding(crate::specs::RequestFields::number_at))]
-pub fn read_u8<R: Read>(feed: &mut Feed<R>) -> Result<u8, FieldStop>
-    ensures { ReadsField (λ n. n) feed.old result feed.new (number_at w8) }
+#[tactic(auto, unfolding(crate::specs::RequestFields::unsigned_number_reading))]
+pub fn read_u8<R: Read>(feed: &mut Feed<R>) -> Result<u8, FieldReadingStop>
+    ensures { ReadsRequestFieldAndStaysOpen (λ n. n) feed.old result feed.new
+        (unsigned_number_reading w8) }
 {
     let mut bytes = [0u8; 1];
-    read_into(feed, &mut bytes)?;
+    read_bytes_into(feed, &mut bytes)?;
     Ok(u8::from_le_bytes(bytes))
 }
 
 /// Reads an unsigned 16-bit number.
-#[tactic(auto, unfolding(crate::specs::RequestFields::number_at))]
-pub fn read_u16<R: Read>(feed: &mut Feed<R>) -> Result<u16, FieldStop>
-    ensures { ReadsField (λ n. n) feed.old result feed.new (number_at w16) }
+#[tactic(auto, unfolding(crate::specs::RequestFields::unsigned_number_reading))]
+pub fn read_u16<R: Read>(feed: &mut Feed<R>) -> Result<u16, FieldReadingStop>
+    ensures { ReadsRequestFieldAndStaysOpen (λ n. n) feed.old result feed.new
+        (unsigned_number_reading w16) }
 {
     let mut bytes = [0u8; 2];
-    read_into(feed, &mut bytes)?;
+    read_bytes_into(feed, &mut bytes)?;
     Ok(u16::from_le_bytes(bytes))
 }
 
 /// Reads an unsigned 32-bit number.
-#[tactic(auto, unfolding(crate::specs::RequestFields::number_at))]
-pub fn read_u32<R: Read>(feed: &mut Feed<R>) -> Result<u32, FieldStop>
-    ensures { ReadsField (λ n. n) feed.old result feed.new (number_at w32) }
+#[tactic(auto, unfolding(crate::specs::RequestFields::unsigned_number_reading))]
+pub fn read_u32<R: Read>(feed: &mut Feed<R>) -> Result<u32, FieldReadingStop>
+    ensures { ReadsRequestFieldAndStaysOpen (λ n. n) feed.old result feed.new
+        (unsigned_number_reading w32) }
 {
     let mut bytes = [0u8; 4];
-    read_into(feed, &mut bytes)?;
+    read_bytes_into(feed, &mut bytes)?;
     Ok(u32::from_le_bytes(bytes))
 }
 
 /// Reads a signed 32-bit number.
-#[tactic(auto, unfolding(crate::specs::RequestFields::number_at, crate::specs::RequestFields::signed_at))]
-pub fn read_i32<R: Read>(feed: &mut Feed<R>) -> Result<i32, FieldStop>
-    ensures { ReadsField (λ n. n) feed.old result feed.new (signed_at w32) }
+#[tactic(auto, unfolding(crate::specs::RequestFields::unsigned_number_reading, crate::specs::RequestFields::signed_number_reading))]
+pub fn read_i32<R: Read>(feed: &mut Feed<R>) -> Result<i32, FieldReadingStop>
+    ensures { ReadsRequestFieldAndStaysOpen (λ n. n) feed.old result feed.new
+        (signed_number_reading w32) }
 {
     let mut bytes = [0u8; 4];
-    read_into(feed, &mut bytes)?;
+    read_bytes_into(feed, &mut bytes)?;
     Ok(i32::from_le_bytes(bytes))
 }
 
 /// Reads a signed 64-bit number.
-#[tactic(auto, unfolding(crate::specs::RequestFields::number_at, crate::specs::RequestFields::signed_at))]
-pub fn read_i64<R: Read>(feed: &mut Feed<R>) -> Result<i64, FieldStop>
-    ensures { ReadsField (λ n. n) feed.old result feed.new (signed_at w64) }
+#[tactic(auto, unfolding(crate::specs::RequestFields::unsigned_number_reading, crate::specs::RequestFields::signed_number_reading))]
+pub fn read_i64<R: Read>(feed: &mut Feed<R>) -> Result<i64, FieldReadingStop>
+    ensures { ReadsRequestFieldAndStaysOpen (λ n. n) feed.old result feed.new
+        (signed_number_reading w64) }
 {
     let mut bytes = [0u8; 8];
-    read_into(feed, &mut bytes)?;
+    read_bytes_into(feed, &mut bytes)?;
     Ok(i64::from_le_bytes(bytes))
 }
 
 /// Reads a text that follows its 8-bit length.
-#[tactic(auto, unfolding(crate::specs::RequestFields::text_at))]
-pub fn read_short_text<R: Read>(alloc: Global, feed: &mut Feed<R>) -> Result<Vec<u8>, FieldStop>
-    ensures { ReadsField (λ text. text.items) feed.old result feed.new (text_at w8) }
+#[tactic(auto, unfolding(crate::specs::RequestFields::sized_text_reading))]
+pub fn read_text_with_u8_length<R: Read>(
+    alloc: Global,
+    feed: &mut Feed<R>,
+) -> Result<Vec<u8>, FieldReadingStop>
+    ensures { ReadsRequestFieldAndStaysOpen (λ text. text.items) feed.old result feed.new
+        (sized_text_reading w8) }
 {
     let len = read_u8(feed)?;
     read_bytes(alloc, feed, len as usize)
 }
 
 /// Reads a text that follows its 16-bit length.
-#[tactic(auto, unfolding(crate::specs::RequestFields::text_at))]
-pub fn read_text<R: Read>(alloc: Global, feed: &mut Feed<R>) -> Result<Vec<u8>, FieldStop>
-    ensures { ReadsField (λ text. text.items) feed.old result feed.new (text_at w16) }
+#[tactic(auto, unfolding(crate::specs::RequestFields::sized_text_reading))]
+pub fn read_text_with_u16_length<R: Read>(
+    alloc: Global,
+    feed: &mut Feed<R>,
+) -> Result<Vec<u8>, FieldReadingStop>
+    ensures { ReadsRequestFieldAndStaysOpen (λ text. text.items) feed.old result feed.new
+        (sized_text_reading w16) }
 {
     let len = read_u16(feed)?;
     read_bytes(alloc, feed, len as usize)
 }
 
 /// Checks that no bytes follow.
-#[tactic(auto, unfolding(crate::specs::RequestFields::end_at))]
-pub fn read_end<R: Read>(feed: &mut Feed<R>) -> Result<(), FieldStop>
-    ensures { ReadsToEnd (λ done. done) feed.old result feed.new end_at }
+#[tactic(auto, unfolding(crate::specs::RequestFields::end_of_request_reading))]
+pub fn check_request_ends<R: Read>(feed: &mut Feed<R>) -> Result<(), FieldReadingStop>
+    ensures { ReadsRequestFieldToSourceEnd (λ done. done) feed.old result feed.new
+        end_of_request_reading }
 {
     match feed.refill() {
-        Ok(()) => Err(FieldStop::Error(ErrorKind::Trailing)),
+        Ok(()) => Err(FieldReadingStop::Error(ErrorKind::Trailing)),
         Err(ErrorKind::Short) => Ok(()),
-        Err(kind) => Err(FieldStop::Error(kind)),
+        Err(kind) => Err(FieldReadingStop::Error(kind)),
     }
 }

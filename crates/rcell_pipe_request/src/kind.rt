@@ -1,8 +1,8 @@
 //! The types of the numbers in a request.
 
 ghost use Rattle.std.specs.Prelude.{◌≡◌, ◌+◌, ◌*◌, ◌<◌, ◌≤◌, length, take, drop, true};
-ghost use Rattle.rcell_pipe_request.specs.Numbers.{type_of_code, byte_size, raw_number, has_number};
-ghost use Rattle.rcell_pipe_request.specs.parts.NarrowNumbers.{is_narrow};
+ghost use Rattle.rcell_pipe_request.specs.Numbers.{cell_type_of_code, byte_size_of_cell_type, raw_number_at_place, can_represent_number};
+ghost use Rattle.rcell_pipe_request.specs.parts.NarrowNumbers.{is_cell_type_within_i32};
 
 /// A number's size in bits, and whether it is signed.
 #[derive(Clone, Copy, Debug, PartialEq, Eq)]
@@ -19,7 +19,7 @@ pub enum CellType {
 impl CellType {
     /// Returns the type with this code, from 1 to 7.
     pub fn of_code(code: u8) -> Option<CellType>
-        ensures { result ≡ type_of_code code }
+        ensures { result ≡ cell_type_of_code code }
     {
         match code {
             1 => Some(CellType::U8),
@@ -35,7 +35,7 @@ impl CellType {
 
     /// Returns the number of bytes of a number.
     pub fn size(self) -> usize
-        ensures value { result ≡ byte_size self }
+        ensures value { result ≡ byte_size_of_cell_type self }
         ensures some { 0 < result }
         ensures most { result ≤ 8 }
     {
@@ -49,7 +49,7 @@ impl CellType {
 
     /// Returns whether the type can represent a number.
     pub fn has(self, number: i64) -> bool
-        ensures { result ≡ has_number self number }
+        ensures { result ≡ can_represent_number self number }
     {
         match self {
             CellType::U8 => 0 <= number && number <= 255,
@@ -65,7 +65,7 @@ impl CellType {
 
 // Returns two bytes, starting at `at`.
 #[inline(always)]
-fn two(bytes: &[u8], at: usize) -> [u8; 2]
+fn two_bytes_at(bytes: &[u8], at: usize) -> [u8; 2]
     requires { at + 2 ≤ length bytes.now }
     ensures { result ≡ take 2 (drop at bytes.now) }
 {
@@ -74,7 +74,7 @@ fn two(bytes: &[u8], at: usize) -> [u8; 2]
 
 // Returns four bytes, starting at `at`.
 #[inline(always)]
-fn four(bytes: &[u8], at: usize) -> [u8; 4]
+fn four_bytes_at(bytes: &[u8], at: usize) -> [u8; 4]
     requires { at + 4 ≤ length bytes.now }
     ensures { result ≡ take 4 (drop at bytes.now) }
 {
@@ -83,7 +83,7 @@ fn four(bytes: &[u8], at: usize) -> [u8; 4]
 
 // Returns eight bytes, starting at `at`.
 #[inline(always)]
-fn eight(bytes: &[u8], at: usize) -> [u8; 8]
+fn eight_bytes_at(bytes: &[u8], at: usize) -> [u8; 8]
     requires { at + 8 ≤ length bytes.now }
     ensures { result ≡ take 8 (drop at bytes.now) }
 {
@@ -101,35 +101,35 @@ fn eight(bytes: &[u8], at: usize) -> [u8; 8]
 
 /// Returns the number at index `place` of a row.
 #[inline(always)]
-pub fn raw_number(kind: CellType, bytes: &[u8], place: usize) -> i64
-    requires { (place + 1) * byte_size kind ≤ length bytes.now }
-    ensures { result ≡ raw_number kind bytes.now place }
+pub fn raw_number_at_place(kind: CellType, bytes: &[u8], place: usize) -> i64
+    requires { (place + 1) * byte_size_of_cell_type kind ≤ length bytes.now }
+    ensures { result ≡ raw_number_at_place kind bytes.now place }
 {
     match kind {
         CellType::U8 => i64::from(bytes[place]),
         CellType::I8 => i64::from(i8::from_le_bytes([bytes[place]])),
-        CellType::U16 => i64::from(u16::from_le_bytes(two(bytes, 2 * place))),
-        CellType::I16 => i64::from(i16::from_le_bytes(two(bytes, 2 * place))),
-        CellType::U32 => i64::from(u32::from_le_bytes(four(bytes, 4 * place))),
-        CellType::I32 => i64::from(i32::from_le_bytes(four(bytes, 4 * place))),
-        CellType::I64 => i64::from_le_bytes(eight(bytes, 8 * place)),
+        CellType::U16 => i64::from(u16::from_le_bytes(two_bytes_at(bytes, 2 * place))),
+        CellType::I16 => i64::from(i16::from_le_bytes(two_bytes_at(bytes, 2 * place))),
+        CellType::U32 => i64::from(u32::from_le_bytes(four_bytes_at(bytes, 4 * place))),
+        CellType::I32 => i64::from(i32::from_le_bytes(four_bytes_at(bytes, 4 * place))),
+        CellType::I64 => i64::from_le_bytes(eight_bytes_at(bytes, 8 * place)),
     }
 }
 
 /// Returns the number at index `place` of a row whose type fits in an `i32`. A vector register holds more 32-bit than
 /// 64-bit numbers.
 #[inline(always)]
-pub(crate) fn narrow_number(kind: CellType, bytes: &[u8], place: usize) -> i32
-    requires size { (place + 1) * byte_size kind ≤ length bytes.now }
-    requires narrow { is_narrow kind ≡ true }
-    ensures { result ≡ raw_number kind bytes.now place }
+pub(crate) fn raw_number_at_place_as_i32(kind: CellType, bytes: &[u8], place: usize) -> i32
+    requires size { (place + 1) * byte_size_of_cell_type kind ≤ length bytes.now }
+    requires narrow { is_cell_type_within_i32 kind ≡ true }
+    ensures { result ≡ raw_number_at_place kind bytes.now place }
 {
     match kind {
         CellType::U8 => i32::from(bytes[place]),
         CellType::I8 => i32::from(i8::from_le_bytes([bytes[place]])),
-        CellType::U16 => i32::from(u16::from_le_bytes(two(bytes, 2 * place))),
-        CellType::I16 => i32::from(i16::from_le_bytes(two(bytes, 2 * place))),
-        CellType::I32 => i32::from_le_bytes(four(bytes, 4 * place)),
+        CellType::U16 => i32::from(u16::from_le_bytes(two_bytes_at(bytes, 2 * place))),
+        CellType::I16 => i32::from(i16::from_le_bytes(two_bytes_at(bytes, 2 * place))),
+        CellType::I32 => i32::from_le_bytes(four_bytes_at(bytes, 4 * place)),
         CellType::U32 | CellType::I64 => 0,
     }
 }

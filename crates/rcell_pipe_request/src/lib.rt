@@ -1,11 +1,11 @@
 //! Requests to `rcell-pipe`: parses bytes into maps, a script and questions, or reports the first error. docs/pipe.md
 //! defines the bytes (profile).
 //!
-//! - `request`: `read_run` reads a `Request`: maps of one region, a script, and questions
+//! - `request`: `read_run_request` reads a `Request`: maps of one region, a script, and questions
 //! - `question`: `Question`, about the patches of a map; private `questions` reads them
 //! - `error`: `RequestError`, the first error, with the number of maps before it and its row
 //! - `feed`: `Feed` reads a source in blocks: numbers with their lowest byte first, and texts
-//! - `head`: `read_head` reads everything before the rows of a map; private `named_map` reads the map
+//! - `head`: `read_map_head` reads everything before the rows of a map; private `named_map` reads the map
 //! - `kind`: `CellType`, the seven types of numbers
 //! - `raw_row`: `read_row` converts a row of bytes to cells; `packed_row` does so in place for `u8`
 //!

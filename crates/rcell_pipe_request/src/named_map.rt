@@ -4,19 +4,19 @@ ghost use Rattle.std.specs.Prelude.{◌≡◌, ◌+◌, ◌*◌, ◌<◌, ◌≤
 ghost use Rattle.std.specs.Option.{option_map};
 ghost use Rattle.std.specs.FinMap.{insert};
 ghost use Rattle.cell_core_values.specs.Region.{RegionValue};
-ghost use Rattle.cell_core.specs.Grid.{Grid, Draft, no_labels};
-ghost use Rattle.rcell_pipe_request.specs.Numbers.{byte_size};
-ghost use Rattle.rcell_pipe_request.specs.PackedRows.{cells_in};
-ghost use Rattle.rcell_pipe_request.specs.RequestFields.{steps};
-ghost use Rattle.rcell_pipe_request.specs.Feeds.{left, ReadsField, ReadsPlaced};
-ghost use Rattle.rcell_pipe_request.specs.Heads.{IsGoodLabel, head_value, label_values};
-ghost use Rattle.rcell_pipe_request.specs.Rows.{mask_size, cells_at, kind_of_row};
-ghost use Rattle.rcell_pipe_request.specs.Requests.{one_more_row, with_labels, map_at, named_value};
+ghost use Rattle.cell_core.specs.Grid.{Grid, UnfinishedMap, empty_category_labels};
+ghost use Rattle.rcell_pipe_request.specs.Numbers.{byte_size_of_cell_type};
+ghost use Rattle.rcell_pipe_request.specs.PackedRows.{cells_of_maybe_packed_row};
+ghost use Rattle.rcell_pipe_request.specs.RequestFields.{reading_repeated_n_times};
+ghost use Rattle.rcell_pipe_request.specs.Feeds.{left, ReadsRequestFieldAndStaysOpen, ReadsWithErrorPosition};
+ghost use Rattle.rcell_pipe_request.specs.Heads.{IsGoodLabel, map_head_as_value, labels_as_values};
+ghost use Rattle.rcell_pipe_request.specs.Rows.{mask_size_of_row, row_cells_reading, error_kind_of_row_error};
+ghost use Rattle.rcell_pipe_request.specs.Requests.{next_row_reading, label_map_with_added_labels, map_reading, named_map_as_value};
 
-use crate::error::{ErrorKind, FieldStop, RequestStop};
-use crate::feed::{Feed, read_into};
-use crate::head::{Label, MapHead, RawFormat, read_head};
-use crate::packed_row::read_or_pack_row;
+use crate::error::{ErrorKind, FieldReadingStop, RequestStop};
+use crate::feed::{Feed, read_bytes_into};
+use crate::head::{CategoryLabel, MapHead, RawFormat, read_map_head};
+use crate::packed_row::pack_row_or_write_cells;
 use crate::raw_row::RowError;
 use cell_core::cell::Cell;
 use cell_core::map::{CellMap, MapBuilder};
@@ -34,8 +34,8 @@ pub struct NamedMap {
     pub map: CellMap,
 }
 
-fn kind_of_row(error: RowError) -> ErrorKind
-    ensures { result ≡ kind_of_row error }
+fn error_kind_of_row_error(error: RowError) -> ErrorKind
+    ensures { result ≡ error_kind_of_row_error error }
 {
     match error {
         RowError::BadMask => ErrorKind::BadMask,
@@ -45,33 +45,34 @@ fn kind_of_row(error: RowError) -> ErrorKind
 
 // Reads a row's numbers and mask into buffers. Packs the cells into their bytes if possible; otherwise writes them to
 // `cells`.
-#[tactic(auto, unfolding(crate::specs::Rows::cells_at))]
-fn read_cells<R: Read>(
+#[tactic(auto, unfolding(crate::specs::Rows::row_cells_reading))]
+fn read_row_into_bytes_or_cells<R: Read>(
     feed: &mut Feed<R>,
     format: RawFormat,
     bytes: &mut [u8],
     mask: &mut [u8],
     cells: &mut [Cell],
-) -> Result<bool, FieldStop>
-    requires bytes { length bytes.old ≡ length cells.old * byte_size format.kind }
-    requires mask { length mask.old ≡ mask_size format (length cells.old) }
-    ensures reads { ReadsField (λ packed. cells_in packed bytes.new cells.new)
-        feed.old result feed.new (cells_at format (length cells.old)) }
+) -> Result<bool, FieldReadingStop>
+    requires bytes { length bytes.old ≡ length cells.old * byte_size_of_cell_type format.kind }
+    requires mask { length mask.old ≡ mask_size_of_row format (length cells.old) }
+    ensures reads { ReadsRequestFieldAndStaysOpen
+        (λ packed. cells_of_maybe_packed_row packed bytes.new cells.new)
+        feed.old result feed.new (row_cells_reading format (length cells.old)) }
     ensures packed { result ≡ Ok true → length bytes.new ≡ length cells.old }
     ensures width { length cells.new ≡ length cells.old }
     ensures bytes { length bytes.new ≡ length bytes.old }
     ensures mask { length mask.new ≡ length mask.old }
 {
-    read_into(feed, bytes)?;
-    read_into(feed, mask)?;
-    match read_or_pack_row(format.kind, format.nodata, mask, bytes, cells) {
+    read_bytes_into(feed, bytes)?;
+    read_bytes_into(feed, mask)?;
+    match pack_row_or_write_cells(format.kind, format.nodata, mask, bytes, cells) {
         Ok(packed) => Ok(packed),
-        Err(error) => Err(FieldStop::Error(kind_of_row(error))),
+        Err(error) => Err(FieldReadingStop::Error(error_kind_of_row_error(error))),
     }
 }
 
 // Reads one more row.
-#[tactic(auto, unfolding(crate::specs::Requests::one_more_row))]
+#[tactic(auto, unfolding(crate::specs::Requests::next_row_reading))]
 fn push_row<R: Read>(
     feed: &mut Feed<R>,
     maps: u32,
@@ -82,21 +83,21 @@ fn push_row<R: Read>(
     mask: &mut [u8],
     cells: &mut [Cell],
 ) -> Result<(), RequestStop>
-    requires bytes { length bytes.old ≡ length cells.old * byte_size format.kind }
-    requires mask { length mask.old ≡ mask_size format (length cells.old) }
+    requires bytes { length bytes.old ≡ length cells.old * byte_size_of_cell_type format.kind }
+    requires mask { length mask.old ≡ mask_size_of_row format (length cells.old) }
     requires width { length cells.old ≡ builder.old.region.cols }
     requires row { row ≡ length builder.old.rows + 1 }
     requires room { length builder.old.rows < builder.old.region.rows }
-    ensures reads { ReadsPlaced (λ _. builder.new.rows) feed.old result feed.new
-        (one_more_row maps format (length cells.old) builder.old.rows) }
+    ensures reads { ReadsWithErrorPosition (λ _. builder.new.rows) feed.old result feed.new
+        (next_row_reading maps format (length cells.old) builder.old.rows) }
     ensures region { builder.new.region ≡ builder.old.region }
     ensures count { OnOk result (length builder.new.rows ≡ length builder.old.rows + 1) }
     ensures width { length cells.new ≡ length cells.old }
     ensures bytes { length bytes.new ≡ length bytes.old }
     ensures mask { length mask.new ≡ length mask.old }
 {
-    let pushed = match read_cells(feed, format, bytes, mask, cells) {
-        Ok(true) => builder.push_bytes(bytes),
+    let pushed = match read_row_into_bytes_or_cells(feed, format, bytes, mask, cells) {
+        Ok(true) => builder.push_row_of_bytes(bytes),
         Ok(false) => builder.push_row(cells),
         Err(stop) => return Err(stop.at(maps, row)),
     };
@@ -107,7 +108,7 @@ fn push_row<R: Read>(
 }
 
 // Reads all rows.
-fn push_rows<R: Read>(
+fn read_all_rows<R: Read>(
     feed: &mut Feed<R>,
     maps: u32,
     format: RawFormat,
@@ -117,13 +118,13 @@ fn push_rows<R: Read>(
     mask: &mut [u8],
     cells: &mut [Cell],
 ) -> Result<(), RequestStop>
-    requires bytes { length bytes.old ≡ length cells.old * byte_size format.kind }
-    requires mask { length mask.old ≡ mask_size format (length cells.old) }
+    requires bytes { length bytes.old ≡ length cells.old * byte_size_of_cell_type format.kind }
+    requires mask { length mask.old ≡ mask_size_of_row format (length cells.old) }
     requires width { length cells.old ≡ builder.old.region.cols }
     requires rows { rows ≡ builder.old.region.rows }
     requires none { builder.old.rows ≡ [] }
-    ensures reads { ReadsPlaced (λ _. builder.new.rows) feed.old result feed.new
-        (steps (one_more_row maps format (length cells.old)) [] rows) }
+    ensures reads { ReadsWithErrorPosition (λ _. builder.new.rows) feed.old result feed.new
+        (reading_repeated_n_times (next_row_reading maps format (length cells.old)) [] rows) }
     ensures region { builder.new.region ≡ builder.old.region }
     ensures count { OnOk result (length builder.new.rows ≡ rows) }
 {
@@ -137,23 +138,24 @@ fn push_rows<R: Read>(
 }
 
 // Reads the rows into a map without labels.
-fn read_rows<R: Read>(
+fn read_rows_into_map<R: Read>(
     alloc: Global,
     feed: &mut Feed<R>,
     maps: u32,
     format: RawFormat,
     region: Region,
 ) -> Result<CellMap, RequestStop>
-    ensures reads { ReadsPlaced (λ map. map.rows) feed.old result feed.new
-        (steps (one_more_row maps format region.cols) [] region.rows) }
-    ensures rest { IfOk result (λ map. (map.region ≡ region) × (map.labels ≡ no_labels)) }
+    ensures reads { ReadsWithErrorPosition (λ map. map.rows) feed.old result feed.new
+        (reading_repeated_n_times (next_row_reading maps format region.cols) [] region.rows) }
+    ensures rest { IfOk result (λ map. (map.region ≡ region)
+        × (map.labels ≡ empty_category_labels)) }
 {
     let cols = region.cols() as usize;
     let mut bytes = vec![in alloc; 0u8; cols * format.kind.size()]?;
     let mut mask = vec![in alloc; 0u8; if format.is_masked { cols } else { 0 }]?;
     let mut cells = vec![in alloc; Cell::null(); cols]?;
     let mut builder = MapBuilder::new(alloc, region);
-    match push_rows(
+    match read_all_rows(
         feed,
         maps,
         format,
@@ -169,7 +171,7 @@ fn read_rows<R: Read>(
 }
 
 // Sets the label of a category.
-fn set_label(map: &mut CellMap, label: &Label) -> Result<(), Memory>
+fn set_label(map: &mut CellMap, label: &CategoryLabel) -> Result<(), Memory>
     requires { IsGoodLabel label.now }
     ensures { OnOk result (map.new ≡ record map.old {
       labels = insert map.old.labels label.now.category label.now.text.items;
@@ -179,10 +181,10 @@ fn set_label(map: &mut CellMap, label: &Label) -> Result<(), Memory>
 }
 
 // Sets the labels of a map, in order.
-fn set_labels(map: &mut CellMap, labels: &[Label]) -> Result<(), Memory>
+fn set_labels(map: &mut CellMap, labels: &[CategoryLabel]) -> Result<(), Memory>
     requires { All IsGoodLabel labels.now }
     ensures { OnOk result (map.new ≡ record map.old {
-      labels = with_labels map.old.labels (label_values labels.now);
+      labels = label_map_with_added_labels map.old.labels (labels_as_values labels.now);
     }) }
 {
     for label in labels {
@@ -195,17 +197,17 @@ fn set_labels(map: &mut CellMap, labels: &[Label]) -> Result<(), Memory>
 }
 
 /// Reads a map and its name. The shelf contains the previous maps.
-#[tactic(auto, unfolding(crate::specs::Requests::map_at))]
+#[tactic(auto, unfolding(crate::specs::Requests::map_reading))]
 pub fn read_named_map<R: Read>(
     alloc: Global,
     feed: &mut Feed<R>,
     maps: u32,
     shelf: Option<&Shelf>,
 ) -> Result<NamedMap, RequestStop>
-    ensures { ReadsPlaced named_value feed.old result feed.new
-        (map_at maps (option_map (λ s. s.now) shelf.entry)) }
+    ensures { ReadsWithErrorPosition named_map_as_value feed.old result feed.new
+        (map_reading maps (option_map (λ s. s.now) shelf.entry)) }
 {
-    let head = match read_head(alloc, feed, shelf) {
+    let head = match read_map_head(alloc, feed, shelf) {
         Ok(head) => head,
         Err(stop) => return Err(stop.at(maps, 0)),
     };
@@ -215,7 +217,7 @@ pub fn read_named_map<R: Read>(
         format,
         labels,
     } = head;
-    let mut map = match read_rows(alloc, feed, maps, format, region) {
+    let mut map = match read_rows_into_map(alloc, feed, maps, format, region) {
         Ok(map) => map,
         Err(stop) => return Err(stop),
     };

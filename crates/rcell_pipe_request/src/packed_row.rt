@@ -3,20 +3,20 @@
 ghost use Rattle.std.specs.Prelude.{◌≡◌, ◌≢◌, ◌<◌, ◌*◌, ℕ, pos, ◌==◌, true, false, length, map, slice_get, slice_index_or, Ok, IfOk};
 ghost use Rattle.cell_core_values.specs.SmallCells.{cells_of_bytes};
 ghost use Rattle.rcell_pipe_request.specs.declared.kind.CellType.TheVariants.{U8};
-ghost use Rattle.rcell_pipe_request.specs.Numbers.{byte_size};
-ghost use Rattle.rcell_pipe_request.specs.RawRows.{is_hiding, is_nodata, places, raw_cells, has_outside, row_error, error_of};
-ghost use Rattle.rcell_pipe_request.specs.PackedRows.{cells_in};
-ghost use Rattle.rcell_pipe_request.specs.parts.PackedBytes.{packed_byte};
+ghost use Rattle.rcell_pipe_request.specs.Numbers.{byte_size_of_cell_type};
+ghost use Rattle.rcell_pipe_request.specs.RawRows.{is_hiding_mask_byte, is_nodata, places_in_row, raw_cells, has_invalid_raw_number, first_error_of_raw_row, row_error_of_result};
+ghost use Rattle.rcell_pipe_request.specs.PackedRows.{cells_of_maybe_packed_row};
+ghost use Rattle.rcell_pipe_request.specs.parts.PackedBytes.{packed_byte_at_place};
 
 use crate::kind::CellType;
-use crate::raw_row::{RowError, is_bad_mask, is_hidden, is_nodata, read_row};
+use crate::raw_row::{RowError, is_bad_mask, is_hidden_by_mask, is_nodata, read_raw_row_as_cells};
 use cell_core_values::cell::Cell;
 
 // The byte that denotes null in a packed row.
-const NULL: u8 = 255;
+const PACKED_NULL: u8 = 255;
 
 // Returns the number below 255 that denotes null, or 255 if there is none.
-fn null_byte(nodata: Option<i64>) -> u8
+fn packed_nodata_byte(nodata: Option<i64>) -> u8
     ensures { (number : ℕ) → number < 255
         → (number == result) ≡ is_nodata nodata (pos number) }
 {
@@ -25,36 +25,37 @@ fn null_byte(nodata: Option<i64>) -> u8
             if 0 <= number && number <= 254 {
                 number as u8
             } else {
-                NULL
+                PACKED_NULL
             }
         }
-        None => NULL,
+        None => PACKED_NULL,
     }
 }
 
 // Returns whether a number that no mask hides is 255.
 #[inline(always)]
-fn has_255(mask: &[u8], bytes: &[u8]) -> bool
+fn has_unmasked_number_255(mask: &[u8], bytes: &[u8]) -> bool
     ensures { result ≡ false → (place : ℕ) → place < length bytes.now
-        → is_hiding (slice_get mask.now place) ≡ false → slice_index_or bytes.now place 0 ≢ 255 }
+        → is_hiding_mask_byte (slice_get mask.now place) ≡ false
+        → slice_index_or bytes.now place 0 ≢ 255 }
 {
     let mut found = false;
     for i in 0..bytes.len() {
-        found = found | ((bytes[i] == NULL) & !is_hidden(mask, i));
+        found = found | ((bytes[i] == PACKED_NULL) & !is_hidden_by_mask(mask, i));
     }
     found
 }
 
 // Returns the packed number at index `place`.
 #[inline(always)]
-fn packed_byte(mask: &[u8], null: u8, bytes: &[u8], place: usize) -> u8
+fn packed_byte_at_place(mask: &[u8], null: u8, bytes: &[u8], place: usize) -> u8
     requires { place < length bytes.now }
-    ensures { result ≡ packed_byte mask.now null bytes.now place }
+    ensures { result ≡ packed_byte_at_place mask.now null bytes.now place }
 {
     // The number is read even if it is hidden, so that the loop can be vectorized.
     let byte = bytes[place];
-    if is_hidden(mask, place) | (byte == null) {
-        NULL
+    if is_hidden_by_mask(mask, place) | (byte == null) {
+        PACKED_NULL
     } else {
         byte
     }
@@ -62,49 +63,49 @@ fn packed_byte(mask: &[u8], null: u8, bytes: &[u8], place: usize) -> u8
 
 // Packs each number.
 #[inline(always)]
-fn pack_all(mask: &[u8], null: u8, bytes: &mut [u8])
+fn pack_all_numbers(mask: &[u8], null: u8, bytes: &mut [u8])
     ensures { bytes.new
-        ≡ map (packed_byte mask.now null bytes.old) (places (length bytes.old)) }
+        ≡ map (packed_byte_at_place mask.now null bytes.old) (places_in_row (length bytes.old)) }
 {
     for i in 0..bytes.len() {
-        bytes[i] = packed_byte(mask, null, bytes, i);
+        bytes[i] = packed_byte_at_place(mask, null, bytes, i);
     }
 }
 
-// Does the work of `pack_row`. Inlined, so that the compiler may know that the mask is empty.
+// Does the work of `pack_row_if_possible`. Inlined, so that the compiler may know that the mask is empty.
 #[inline(always)]
-fn pack_hidden(nodata: Option<i64>, mask: &[u8], bytes: &mut [u8]) -> bool
+fn pack_row_inlined(nodata: Option<i64>, mask: &[u8], bytes: &mut [u8]) -> bool
     ensures packed { result ≡ true → cells_of_bytes bytes.new
         ≡ raw_cells U8 nodata mask.now bytes.old (length bytes.old) }
     ensures inside { result ≡ true
-        → has_outside U8 nodata mask.now bytes.old (length bytes.old) ≡ false }
+        → has_invalid_raw_number U8 nodata mask.now bytes.old (length bytes.old) ≡ false }
     ensures left { result ≡ false → bytes.new ≡ bytes.old }
     ensures width { length bytes.new ≡ length bytes.old }
 {
-    if !is_nodata(nodata, 255) && has_255(mask, bytes) {
+    if !is_nodata(nodata, 255) && has_unmasked_number_255(mask, bytes) {
         return false;
     }
-    pack_all(mask, null_byte(nodata), bytes);
+    pack_all_numbers(mask, packed_nodata_byte(nodata), bytes);
     true
 }
 
 /// Packs a row of `u8` numbers into the bytes of its cells, with 255 for null. An empty mask hides nothing. Returns
 /// false and leaves the row unchanged if a cell is the category 255, which cannot be packed.
-pub fn pack_row(nodata: Option<i64>, mask: &[u8], bytes: &mut [u8]) -> bool
+pub fn pack_row_if_possible(nodata: Option<i64>, mask: &[u8], bytes: &mut [u8]) -> bool
     ensures packed { result ≡ true → cells_of_bytes bytes.new
         ≡ raw_cells U8 nodata mask.now bytes.old (length bytes.old) }
     ensures inside { result ≡ true
-        → has_outside U8 nodata mask.now bytes.old (length bytes.old) ≡ false }
+        → has_invalid_raw_number U8 nodata mask.now bytes.old (length bytes.old) ≡ false }
     ensures left { result ≡ false → bytes.new ≡ bytes.old }
     ensures width { length bytes.new ≡ length bytes.old }
 {
     if mask.is_empty() {
-        pack_hidden(nodata, &[], bytes)
+        pack_row_inlined(nodata, &[], bytes)
     } else if mask.len() == bytes.len() {
         // Here the compiler knows that the mask has a byte for each number, and can vectorize the loop.
-        pack_hidden(nodata, mask, bytes)
+        pack_row_inlined(nodata, mask, bytes)
     } else {
-        pack_hidden(nodata, mask, bytes)
+        pack_row_inlined(nodata, mask, bytes)
     }
 }
 
@@ -114,18 +115,18 @@ pub fn pack_row(nodata: Option<i64>, mask: &[u8], bytes: &mut [u8]) -> bool
 /// # Errors
 ///
 /// Returns the first [`RowError`], in the order of its variants.
-pub fn read_or_pack_row(
+pub fn pack_row_or_write_cells(
     kind: CellType,
     nodata: Option<i64>,
     mask: &[u8],
     bytes: &mut [u8],
     cells: &mut [Cell],
 ) -> Result<bool, RowError>
-    requires { length bytes.old ≡ length cells.old * byte_size kind }
-    ensures ok { IfOk result (λ packed. cells_in packed bytes.new cells.new
+    requires { length bytes.old ≡ length cells.old * byte_size_of_cell_type kind }
+    ensures ok { IfOk result (λ packed. cells_of_maybe_packed_row packed bytes.new cells.new
         ≡ raw_cells kind nodata mask.now bytes.old (length cells.old)) }
-    ensures error { error_of result
-        ≡ row_error kind nodata mask.now bytes.old (length cells.old) }
+    ensures error { row_error_of_result result
+        ≡ first_error_of_raw_row kind nodata mask.now bytes.old (length cells.old) }
     ensures packed { result ≡ Ok true → length bytes.new ≡ length cells.old }
     ensures width { length cells.new ≡ length cells.old }
     ensures size { length bytes.new ≡ length bytes.old }
@@ -133,10 +134,10 @@ pub fn read_or_pack_row(
     if is_bad_mask(mask) {
         return Err(RowError::BadMask);
     }
-    if kind == CellType::U8 && pack_row(nodata, mask, bytes) {
+    if kind == CellType::U8 && pack_row_if_possible(nodata, mask, bytes) {
         return Ok(true);
     }
-    match read_row(kind, nodata, mask, bytes, cells) {
+    match read_raw_row_as_cells(kind, nodata, mask, bytes, cells) {
         Ok(()) => Ok(false),
         Err(error) => Err(error),
     }

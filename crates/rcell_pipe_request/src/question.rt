@@ -2,7 +2,7 @@
 
 ghost use Rattle.std.specs.Prelude.{◌<◌};
 
-use cell_cats_areas::clump::Joining;
+use cell_clumps::clump::Joining;
 use cell_core::name::Name;
 
 /// A question about the patches of a map that exists at the end of the script.

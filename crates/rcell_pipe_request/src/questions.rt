@@ -1,83 +1,91 @@
 //! Reads the questions of a request.
 
 ghost use Rattle.std.specs.Prelude.{◌≡◌, ◌+◌, ◌<◌, ◌≤◌, [], length, OnOk, IfOk};
-ghost use Rattle.rcell_pipe_request.specs.RequestFields.{steps};
-ghost use Rattle.rcell_pipe_request.specs.Feeds.{ReadsField, ReadsPlaced, ReadsPlacedToEnd};
-ghost use Rattle.rcell_pipe_request.specs.Questions.{question_kind_at, joining_at, depth_at, zones_of_text, zones_at, question_at, one_more_question, questions_at, last_questions_at, question_value, question_values};
+ghost use Rattle.rcell_pipe_request.specs.RequestFields.{reading_repeated_n_times};
+ghost use Rattle.rcell_pipe_request.specs.Feeds.{ReadsRequestFieldAndStaysOpen, ReadsWithErrorPosition, ReadsToEndWithErrorPosition};
+ghost use Rattle.rcell_pipe_request.specs.Questions.{question_kind_reading, joining_reading, depth_reading, zone_map_name_of_text, zone_map_name_reading, question_reading, next_question_reading, questions_reading, questions_to_request_end_reading, question_as_value, questions_as_values};
 
-use crate::error::{ErrorKind, FieldStop, RequestStop};
-use crate::feed::{Feed, read_end, read_short_text, read_u8, read_u32};
+use crate::error::{ErrorKind, FieldReadingStop, RequestStop};
+use crate::feed::{Feed, check_request_ends, read_text_with_u8_length, read_u8, read_u32};
 use crate::question::Question;
-use cell_cats_areas::clump::Joining;
+use cell_clumps::clump::Joining;
 use cell_core::name::{Name, NameFault};
 use std::alloc::Global;
 use std::io::Read;
 
 // Reads the kind of a question, and returns whether it asks for the patches' numbers as well.
-#[tactic(auto, unfolding(crate::specs::Questions::question_kind_at))]
-fn read_question_kind<R: Read>(feed: &mut Feed<R>) -> Result<bool, FieldStop>
-    ensures { ReadsField (λ with_numbers. with_numbers) feed.old result feed.new question_kind_at }
+#[tactic(auto, unfolding(crate::specs::Questions::question_kind_reading))]
+fn read_question_kind<R: Read>(feed: &mut Feed<R>) -> Result<bool, FieldReadingStop>
+    ensures { ReadsRequestFieldAndStaysOpen (λ with_numbers. with_numbers) feed.old result feed.new
+        question_kind_reading }
 {
     match read_u8(feed)? {
         1 => Ok(false),
         2 => Ok(true),
-        _ => Err(FieldStop::Error(ErrorKind::BadQuestion)),
+        _ => Err(FieldReadingStop::Error(ErrorKind::BadQuestion)),
     }
 }
 
-#[tactic(auto, unfolding(crate::specs::Questions::joining_at))]
-fn read_joining<R: Read>(feed: &mut Feed<R>) -> Result<Joining, FieldStop>
-    ensures { ReadsField (λ joining. joining) feed.old result feed.new joining_at }
+#[tactic(auto, unfolding(crate::specs::Questions::joining_reading))]
+fn read_joining<R: Read>(feed: &mut Feed<R>) -> Result<Joining, FieldReadingStop>
+    ensures { ReadsRequestFieldAndStaysOpen (λ joining. joining) feed.old result feed.new
+        joining_reading }
 {
     match read_u8(feed)? {
         4 => Ok(Joining::Edges),
         8 => Ok(Joining::EdgesAndCorners),
-        _ => Err(FieldStop::Error(ErrorKind::BadConnectivity)),
+        _ => Err(FieldReadingStop::Error(ErrorKind::BadConnectivity)),
     }
 }
 
-#[tactic(auto, unfolding(crate::specs::Questions::depth_at))]
-fn read_depth<R: Read>(feed: &mut Feed<R>) -> Result<u32, FieldStop>
-    ensures reads { ReadsField (λ depth. depth) feed.old result feed.new depth_at }
+#[tactic(auto, unfolding(crate::specs::Questions::depth_reading))]
+fn read_core_depth<R: Read>(feed: &mut Feed<R>) -> Result<u32, FieldReadingStop>
+    ensures reads { ReadsRequestFieldAndStaysOpen
+        (λ depth. depth) feed.old result feed.new depth_reading }
     ensures positive { IfOk result (λ depth. 0 < depth) }
 {
     let depth = read_u32(feed)?;
     if 1 <= depth {
         return Ok(depth);
     }
-    Err(FieldStop::Error(ErrorKind::BadDepth))
+    Err(FieldReadingStop::Error(ErrorKind::BadDepth))
 }
 
 // Reads the name of a map of zones, or `None` if it is empty.
-#[tactic(auto, unfolding(crate::specs::Questions::zones_at))]
-fn read_zones<R: Read>(alloc: Global, feed: &mut Feed<R>) -> Result<Option<Name>, FieldStop>
-    ensures { ReadsField (λ zones. zones) feed.old result feed.new zones_at }
+#[tactic(auto, unfolding(crate::specs::Questions::zone_map_name_reading))]
+fn read_zone_map_name<R: Read>(
+    alloc: Global,
+    feed: &mut Feed<R>,
+) -> Result<Option<Name>, FieldReadingStop>
+    ensures { ReadsRequestFieldAndStaysOpen (λ zones. zones) feed.old result feed.new
+        zone_map_name_reading }
 {
-    let text = read_short_text(alloc, feed)?;
+    let text = read_text_with_u8_length(alloc, feed)?;
     if text.is_empty() {
         return Ok(None);
     }
     match Name::read(alloc, &text) {
         Ok(name) => Ok(Some(name)),
-        Err(NameFault::BadName) => Err(FieldStop::Error(ErrorKind::BadZones)),
-        Err(NameFault::Memory) => Err(FieldStop::Memory),
+        Err(NameFault::BadName) => Err(FieldReadingStop::Error(ErrorKind::BadZones)),
+        Err(NameFault::Memory) => Err(FieldReadingStop::Memory),
     }
 }
 
 // Reads a question, and assigns its number.
-#[tactic(auto, unfolding(crate::specs::Questions::question_at))]
+#[tactic(auto, unfolding(crate::specs::Questions::question_reading))]
 fn read_question<R: Read>(
     alloc: Global,
     feed: &mut Feed<R>,
     number: u32,
-) -> Result<Question, FieldStop>
-    ensures { ReadsField question_value feed.old result feed.new (question_at number) }
+) -> Result<Question, FieldReadingStop>
+    ensures { ReadsRequestFieldAndStaysOpen question_as_value feed.old result feed.new
+        (question_reading number) }
 {
     let with_numbers = read_question_kind(feed)?;
-    let map = read_short_text(alloc, feed)?;
+    let map = read_text_with_u8_length(alloc, feed)?;
     let joining = read_joining(feed)?;
-    let depth = read_depth(feed)?;
-    let zones = read_zones(alloc, feed)?;
+    let depth = read_core_depth(feed)?;
+    let zones = read_zone_map_name(alloc, feed)?;
     Ok(Question {
         number,
         map,
@@ -89,19 +97,20 @@ fn read_question<R: Read>(
 }
 
 // Reads one more question.
-#[tactic(auto, unfolding(crate::specs::Questions::one_more_question))]
-fn push_question<R: Read>(
+#[tactic(auto, unfolding(crate::specs::Questions::next_question_reading))]
+fn read_next_question<R: Read>(
     alloc: Global,
     feed: &mut Feed<R>,
     maps: u32,
     number: u32,
     questions: &mut Vec<Question>,
 ) -> Result<(), RequestStop>
-    requires { number ≡ length (question_values questions.old.items) + 1 }
-    ensures reads { ReadsPlaced (λ _. question_values questions.new.items) feed.old result feed.new
-        (one_more_question maps (question_values questions.old.items)) }
-    ensures count { OnOk result (length (question_values questions.new.items)
-        ≡ length (question_values questions.old.items) + 1) }
+    requires { number ≡ length (questions_as_values questions.old.items) + 1 }
+    ensures reads { ReadsWithErrorPosition (λ _. questions_as_values questions.new.items) feed.old
+        result feed.new
+        (next_question_reading maps (questions_as_values questions.old.items)) }
+    ensures count { OnOk result (length (questions_as_values questions.new.items)
+        ≡ length (questions_as_values questions.old.items) + 1) }
 {
     let question = match read_question(alloc, feed, number) {
         Ok(question) => question,
@@ -112,18 +121,19 @@ fn push_question<R: Read>(
 }
 
 // Reads `count` questions.
-fn read_so_many_questions<R: Read>(
+fn read_given_number_of_questions<R: Read>(
     alloc: Global,
     feed: &mut Feed<R>,
     maps: u32,
     count: u32,
 ) -> Result<Vec<Question>, RequestStop>
-    ensures { ReadsPlaced (λ questions. question_values questions.items) feed.old result feed.new
-        (steps (one_more_question maps) [] count) }
+    ensures { ReadsWithErrorPosition (λ questions. questions_as_values questions.items) feed.old
+        result feed.new
+        (reading_repeated_n_times (next_question_reading maps) [] count) }
 {
     let mut questions = Vec::new(alloc);
     for i in 0..count {
-        match push_question(alloc, feed, maps, i + 1, &mut questions) {
+        match read_next_question(alloc, feed, maps, i + 1, &mut questions) {
             Ok(()) => {}
             Err(stop) => return Err(stop),
         }
@@ -131,37 +141,38 @@ fn read_so_many_questions<R: Read>(
     Ok(questions)
 }
 
-#[tactic(auto, unfolding(crate::specs::Questions::questions_at))]
-fn read_questions<R: Read>(
+#[tactic(auto, unfolding(crate::specs::Questions::questions_reading))]
+fn read_question_count_and_questions<R: Read>(
     alloc: Global,
     feed: &mut Feed<R>,
     maps: u32,
 ) -> Result<Vec<Question>, RequestStop>
-    ensures { ReadsPlaced (λ questions. question_values questions.items) feed.old result feed.new
-        (questions_at maps) }
+    ensures { ReadsWithErrorPosition (λ questions. questions_as_values questions.items) feed.old
+        result feed.new
+        (questions_reading maps) }
 {
     let count = match read_u32(feed) {
         Ok(count) => count,
         Err(stop) => return Err(stop.at(maps, 0)),
     };
-    read_so_many_questions(alloc, feed, maps, count)
+    read_given_number_of_questions(alloc, feed, maps, count)
 }
 
 /// Reads the questions, which end the request. Memory grows only with the bytes that have arrived.
-#[tactic(auto, unfolding(crate::specs::Questions::last_questions_at))]
-pub(crate) fn read_last_questions<R: Read>(
+#[tactic(auto, unfolding(crate::specs::Questions::questions_to_request_end_reading))]
+pub(crate) fn read_questions_to_request_end<R: Read>(
     alloc: Global,
     feed: &mut Feed<R>,
     maps: u32,
 ) -> Result<Vec<Question>, RequestStop>
-    ensures { ReadsPlacedToEnd (λ questions. question_values questions.items)
-        feed.old result feed.new (last_questions_at maps) }
+    ensures { ReadsToEndWithErrorPosition (λ questions. questions_as_values questions.items)
+        feed.old result feed.new (questions_to_request_end_reading maps) }
 {
-    let questions = match read_questions(alloc, feed, maps) {
+    let questions = match read_question_count_and_questions(alloc, feed, maps) {
         Ok(questions) => questions,
         Err(stop) => return Err(stop),
     };
-    match read_end(feed) {
+    match check_request_ends(feed) {
         Ok(()) => Ok(questions),
         Err(stop) => Err(stop.at(maps, 0)),
     }

@@ -1,15 +1,15 @@
 //! Reads complete requests.
 
 ghost use Rattle.std.specs.Prelude.{◌≡◌, ◌+◌, ◌<◌, ◌≤◌, length, OnOk, IfOk, IfErr};
-ghost use Rattle.rcell_pipe_request.specs.RequestFields.{steps};
-ghost use Rattle.rcell_pipe_request.specs.Feeds.{ReadsField, ReadsToEnd, ReadsPlaced, ReadsPlacedToEnd};
-ghost use Rattle.rcell_pipe_request.specs.Requests.{first_shelf, shelf_with, count_at, script_at, last_script_at, first_map_at, one_more_map, run_at, named_value, run_request_value};
+ghost use Rattle.rcell_pipe_request.specs.RequestFields.{reading_repeated_n_times};
+ghost use Rattle.rcell_pipe_request.specs.Feeds.{ReadsRequestFieldAndStaysOpen, ReadsRequestFieldToSourceEnd, ReadsWithErrorPosition, ReadsToEndWithErrorPosition};
+ghost use Rattle.rcell_pipe_request.specs.Requests.{shelf_of_first_map, shelf_with_named_map, map_count_reading, script_bytes_reading, script_to_request_end_reading, first_map_reading, next_map_reading, run_request_reading, named_map_as_value, run_request_as_value};
 
-use crate::error::{ErrorKind, FieldStop, RequestStop};
-use crate::feed::{Feed, read_bytes, read_end, read_u32};
+use crate::error::{ErrorKind, FieldReadingStop, RequestStop};
+use crate::feed::{Feed, check_request_ends, read_bytes, read_u32};
 use crate::named_map::{NamedMap, read_named_map};
 use crate::question::Question;
-use crate::questions::read_last_questions;
+use crate::questions::read_questions_to_request_end;
 use cell_core::shelf::Shelf;
 use std::alloc::Global;
 use std::io::Read;
@@ -23,43 +23,49 @@ pub struct Request {
 }
 
 // Reads the number of maps.
-#[tactic(auto, unfolding(crate::specs::Requests::count_at))]
-fn read_count<R: Read>(feed: &mut Feed<R>) -> Result<u32, FieldStop>
-    ensures reads { ReadsField (λ n. n) feed.old result feed.new count_at }
+#[tactic(auto, unfolding(crate::specs::Requests::map_count_reading))]
+fn read_map_count<R: Read>(feed: &mut Feed<R>) -> Result<u32, FieldReadingStop>
+    ensures reads { ReadsRequestFieldAndStaysOpen
+        (λ n. n) feed.old result feed.new map_count_reading }
     ensures within { IfOk result (λ n. (1 ≤ n) × (n ≤ 65535)) }
 {
     let count = read_u32(feed)?;
     if 1 <= count && count <= 65535 {
         return Ok(count);
     }
-    Err(FieldStop::Error(ErrorKind::BadCount))
+    Err(FieldReadingStop::Error(ErrorKind::BadCount))
 }
 
 // Reads the script.
-#[tactic(auto, unfolding(crate::specs::Requests::script_at))]
-fn read_script<R: Read>(alloc: Global, feed: &mut Feed<R>) -> Result<Vec<u8>, FieldStop>
-    ensures { ReadsField (λ text. text.items) feed.old result feed.new script_at }
+#[tactic(auto, unfolding(crate::specs::Requests::script_bytes_reading))]
+fn read_script<R: Read>(alloc: Global, feed: &mut Feed<R>) -> Result<Vec<u8>, FieldReadingStop>
+    ensures { ReadsRequestFieldAndStaysOpen (λ text. text.items) feed.old result feed.new
+        script_bytes_reading }
 {
     let size = read_u32(feed)?;
     if size > 1048576 {
-        return Err(FieldStop::Error(ErrorKind::ScriptSize));
+        return Err(FieldReadingStop::Error(ErrorKind::ScriptSize));
     }
     read_bytes(alloc, feed, size as usize)
 }
 
 /// Reads the script of a request without questions, and checks that the request ends.
-#[tactic(auto, unfolding(crate::specs::Requests::last_script_at))]
-pub fn read_last_script<R: Read>(alloc: Global, feed: &mut Feed<R>) -> Result<Vec<u8>, FieldStop>
-    ensures { ReadsToEnd (λ text. text.items) feed.old result feed.new last_script_at }
+#[tactic(auto, unfolding(crate::specs::Requests::script_to_request_end_reading))]
+pub fn read_script_to_request_end<R: Read>(
+    alloc: Global,
+    feed: &mut Feed<R>,
+) -> Result<Vec<u8>, FieldReadingStop>
+    ensures { ReadsRequestFieldToSourceEnd (λ text. text.items) feed.old result feed.new
+        script_to_request_end_reading }
 {
     let script = read_script(alloc, feed)?;
-    read_end(feed)?;
+    check_request_ends(feed)?;
     Ok(script)
 }
 
 // Creates a shelf with one map.
-fn first_shelf(alloc: Global, named: NamedMap) -> Result<Shelf, RequestStop>
-    ensures ok { IfOk result (λ shelf. shelf ≡ first_shelf (named_value named)) }
+fn shelf_of_first_map(alloc: Global, named: NamedMap) -> Result<Shelf, RequestStop>
+    ensures ok { IfOk result (λ shelf. shelf ≡ shelf_of_first_map (named_map_as_value named)) }
     ensures error { IfErr result (λ stop. stop ≡ RequestStop.Memory) }
 {
     let NamedMap { name, map } = named;
@@ -71,8 +77,9 @@ fn first_shelf(alloc: Global, named: NamedMap) -> Result<Shelf, RequestStop>
 }
 
 // Puts one more map on the shelf.
-fn put_map(shelf: &mut Shelf, named: NamedMap) -> Result<(), RequestStop>
-    ensures ok { OnOk result (shelf.new ≡ shelf_with shelf.old (named_value named)) }
+fn put_map_on_shelf(shelf: &mut Shelf, named: NamedMap) -> Result<(), RequestStop>
+    ensures ok { OnOk result (shelf.new ≡ shelf_with_named_map shelf.old
+        (named_map_as_value named)) }
     ensures count { OnOk result (length shelf.new.names ≡ length shelf.old.names + 1) }
     ensures error { IfErr result (λ stop. stop ≡ RequestStop.Memory) }
 {
@@ -84,14 +91,15 @@ fn put_map(shelf: &mut Shelf, named: NamedMap) -> Result<(), RequestStop>
 }
 
 // Reads one more map.
-#[tactic(auto, unfolding(crate::specs::Requests::one_more_map))]
-fn push_map<R: Read>(
+#[tactic(auto, unfolding(crate::specs::Requests::next_map_reading))]
+fn read_next_map_onto_shelf<R: Read>(
     alloc: Global,
     feed: &mut Feed<R>,
     shelf: &mut Shelf,
 ) -> Result<(), RequestStop>
     requires { length shelf.old.names < 65536 }
-    ensures reads { ReadsPlaced (λ _. shelf.new) feed.old result feed.new (one_more_map shelf.old) }
+    ensures reads { ReadsWithErrorPosition (λ _. shelf.new) feed.old result feed.new
+        (next_map_reading shelf.old) }
     ensures count { OnOk result (length shelf.new.names ≡ length shelf.old.names + 1) }
 {
     let maps = shelf.len() as u32;
@@ -99,22 +107,22 @@ fn push_map<R: Read>(
         Ok(named) => named,
         Err(stop) => return Err(stop),
     };
-    put_map(shelf, named)
+    put_map_on_shelf(shelf, named)
 }
 
 // Reads `count` more maps.
-fn push_maps<R: Read>(
+fn read_more_maps_onto_shelf<R: Read>(
     alloc: Global,
     feed: &mut Feed<R>,
     shelf: &mut Shelf,
     count: u32,
 ) -> Result<(), RequestStop>
     requires { length shelf.old.names + count ≤ 65536 }
-    ensures { ReadsPlaced (λ _. shelf.new) feed.old result feed.new
-        (steps one_more_map shelf.old count) }
+    ensures { ReadsWithErrorPosition (λ _. shelf.new) feed.old result feed.new
+        (reading_repeated_n_times next_map_reading shelf.old count) }
 {
     for i in 0..count {
-        match push_map(alloc, feed, shelf) {
+        match read_next_map_onto_shelf(alloc, feed, shelf) {
             Ok(()) => {}
             Err(stop) => return Err(stop),
         }
@@ -124,19 +132,23 @@ fn push_maps<R: Read>(
 
 // The number of maps, and a shelf with the first map.
 #[derive(Drop)]
-struct FirstMap {
+struct MapCountAndFirstShelf {
     count: u32,
     shelf: Shelf,
 }
 
-#[tactic(auto, unfolding(crate::specs::Requests::first_map_at))]
-fn read_first_map<R: Read>(alloc: Global, feed: &mut Feed<R>) -> Result<FirstMap, RequestStop>
-    ensures reads { ReadsPlaced (λ first. (first.count, first.shelf)) feed.old result feed.new
-        first_map_at }
+#[tactic(auto, unfolding(crate::specs::Requests::first_map_reading))]
+fn read_map_count_and_first_map<R: Read>(
+    alloc: Global,
+    feed: &mut Feed<R>,
+) -> Result<MapCountAndFirstShelf, RequestStop>
+    ensures reads { ReadsWithErrorPosition (λ first.
+        (first.count, first.shelf)) feed.old result feed.new
+        first_map_reading }
     ensures count { IfOk result (λ first. (1 ≤ first.count) × (first.count ≤ 65535)) }
     ensures one { IfOk result (λ first. length first.shelf.names ≡ 1) }
 {
-    let count = match read_count(feed) {
+    let count = match read_map_count(feed) {
         Ok(count) => count,
         Err(stop) => return Err(stop.at(0, 0)),
     };
@@ -144,8 +156,8 @@ fn read_first_map<R: Read>(alloc: Global, feed: &mut Feed<R>) -> Result<FirstMap
         Ok(named) => named,
         Err(stop) => return Err(stop),
     };
-    match first_shelf(alloc, named) {
-        Ok(shelf) => Ok(FirstMap { count, shelf }),
+    match shelf_of_first_map(alloc, named) {
+        Ok(shelf) => Ok(MapCountAndFirstShelf { count, shelf }),
         Err(stop) => Err(stop),
     }
 }
@@ -156,16 +168,17 @@ fn read_first_map<R: Read>(alloc: Global, feed: &mut Feed<R>) -> Result<FirstMap
 /// # Errors
 ///
 /// Returns the first error in the bytes, or [`RequestStop::Memory`] if memory runs out.
-#[tactic(auto, unfolding(crate::specs::Requests::run_at))]
-pub fn read_run<R: Read>(alloc: Global, feed: &mut Feed<R>) -> Result<Request, RequestStop>
-    ensures { ReadsPlacedToEnd run_request_value feed.old result feed.new run_at }
+#[tactic(auto, unfolding(crate::specs::Requests::run_request_reading))]
+pub fn read_run_request<R: Read>(alloc: Global, feed: &mut Feed<R>) -> Result<Request, RequestStop>
+    ensures { ReadsToEndWithErrorPosition run_request_as_value feed.old result feed.new
+        run_request_reading }
 {
-    let first = match read_first_map(alloc, feed) {
+    let first = match read_map_count_and_first_map(alloc, feed) {
         Ok(first) => first,
         Err(stop) => return Err(stop),
     };
-    let FirstMap { count, mut shelf } = first;
-    match push_maps(alloc, feed, &mut shelf, count - 1) {
+    let MapCountAndFirstShelf { count, mut shelf } = first;
+    match read_more_maps_onto_shelf(alloc, feed, &mut shelf, count - 1) {
         Ok(()) => {}
         Err(stop) => return Err(stop),
     }
@@ -173,7 +186,7 @@ pub fn read_run<R: Read>(alloc: Global, feed: &mut Feed<R>) -> Result<Request, R
         Ok(script) => script,
         Err(stop) => return Err(stop.at(count, 0)),
     };
-    match read_last_questions(alloc, feed, count) {
+    match read_questions_to_request_end(alloc, feed, count) {
         Ok(questions) => Ok(Request {
             shelf,
             script,

@@ -1,88 +1,99 @@
 -- How a run ends.
 use Rattle.std.proofs.Common.{◌≡◌, ◌≢◌, ◌∙◌, ℕ, Bool, true, false, not, List, [], ◌++◌, length, Option, Some, None}
 use Rattle.std.proofs.Common.{Result, Ok, ◌∷◌, ◌⊎◌, inr, refl, sym, ap, subst, append_assoc, append-nil, ◌||◌}
-use Rattle.cell_core_devices.specs.Device.{Faults, append_known, after_put, after_flush, has_failed}
-use Rattle.cell_core_devices.specs.Blocks.{capped_count, BlockValue, Appended, Appends}
+use Rattle.cell_core_devices.specs.Device.{SinkFaults, append_if_known, faults_after_put, faults_after_flush}
+use Rattle.cell_core_devices.specs.Device.{has_failed}
+use Rattle.cell_core_devices.specs.Blocks.{capped_byte_count, OutputBlockValue, IsTextAppendedToSink}
+use Rattle.cell_core_devices.specs.Blocks.{IsTextAppendedThroughBlock}
 use Rattle.cell_core.specs.Shelf.{ShelfValue}
 use Rattle.rcell_script.specs.ReadScripts.{IsScriptFault}
 use Rattle.rcell_script.specs.declared.script_fault.ScriptFault.{ScriptFault}
 use Rattle.rcell_script.specs.declared.script_fault.ScriptKind.{ScriptKind}
 use Rattle.rcell_script.specs.declared.script_fault.ScriptKind.TheVariants as script_kinds
-use Rattle.rcell_pipe_response.specs.parts.ScriptKinds.{is_memory}
+use Rattle.rcell_pipe_response.specs.parts.ScriptKinds.{is_memory_error}
 use Rattle.rcell_script.specs.declared.statement.Statement.{Statement}
 use Rattle.cell_ascii_writer.proofs.PutLemmas.{appended_put}
 use Rattle.rcell_pipe_request.specs.declared.error.RequestError.{RequestError}
-use Rattle.rcell_pipe_request.specs.Questions.{QuestionValue}
+use Rattle.rcell_pipe_request.specs.Questions.{PatchQuestionValue}
 use Rattle.rcell_pipe_request.specs.Requests.{RunRequestValue}
 use Rattle.rcell_pipe_response.specs.declared.end.PipeError.{PipeError}
 use Rattle.rcell_pipe_response.specs.declared.end.PipeError.TheVariants as errors
 use Rattle.rcell_pipe_response.specs.declared.frame_run.PipeOutcome.{PipeOutcome}
-use Rattle.rcell.specs.runs.Execution.{IsShelfBefore, IsWithin}
-use Rattle.rcell.specs.runs.Outcomes.{IsDone}
-use Rattle.rcell_pipe_response.specs.declared.frame_run.RunForm.{RunForm}
-use Rattle.rcell_pipe_response.specs.declared.frame_run.RunForm.TheVariants.{Frames, Text}
-use Rattle.rcell_pipe_frames.specs.Frames.{OutputFrame, GivesFrames}
-use Rattle.rcell_pipe_frames.specs.FrameBytes.{EndValue, frames_bytes, end_bytes, response_magic, response_bytes}
-use Rattle.rcell_pipe_response.specs.declared.frame_run.Sending.{Sending}
-use Rattle.rcell_pipe_response.specs.declared.frame_run.Sending.TheVariants.{Flushed, Unflushed, Refused}
-use Rattle.rcell_pipe_response.specs.RunEnds.{end_status_after, script_end, IsPipeAccepted, GivesFirst, IsResponse}
-use Rattle.rcell_pipe_response.specs.RunEnds.{IsCut, IsTaken, HasResponded, HasUsed, IsOnlyEnd}
-use Rattle.rcell_pipe_response.specs.FrameEndings.{error_after, IsSent, Finished, IsRejection, EndsAs}
-use Rattle.rcell_pipe_response.specs.parts.Flushed.{IsFlushed}
+use Rattle.rcell.specs.runs.Execution.{IsStoppedBeforeStatement, IsOutputPrefixWritten}
+use Rattle.rcell.specs.runs.Outcomes.{IsFullOutputWritten}
+use Rattle.rcell_pipe_response.specs.declared.frame_run.ResponseForm.{ResponseForm}
+use Rattle.rcell_pipe_response.specs.declared.frame_run.ResponseForm.TheVariants.{Frames, Text}
+use Rattle.rcell_pipe_frames.specs.Frames.{OutputFrame, StatementsGiveFrames}
+use Rattle.rcell_pipe_frames.specs.FrameBytes.{RunEndValue, frames_bytes, run_end_frame_bytes, response_magic}
+use Rattle.rcell_pipe_frames.specs.FrameBytes.{response_bytes}
+use Rattle.rcell_pipe_response.specs.declared.frame_run.SinkState.{SinkState}
+use Rattle.rcell_pipe_response.specs.declared.frame_run.SinkState.TheVariants.{Flushed, Unflushed, Refused}
+use Rattle.rcell_pipe_response.specs.RunEnds.{exit_status_of_pipe_run, end_frame_of_rejected_script}
+use Rattle.rcell_pipe_response.specs.RunEnds.{IsRunRequestAccepted, IsPartialResponseBeforeEnd, IsResponseToRunRequest}
+use Rattle.rcell_pipe_response.specs.RunEnds.{IsTextPrefixWritten, IsTextAcceptedBySink, IsResponseWritten}
+use Rattle.rcell_pipe_response.specs.RunEnds.{AreSinkCallsForError, IsResponseOfOnlyEnd}
+use Rattle.rcell_pipe_response.specs.FrameEndings.{run_error_with_sink_state, IsTextSent, IsTextSentWithOutcome}
+use Rattle.rcell_pipe_response.specs.FrameEndings.{IsErrorOfRejectedScript, IsEndOfResponseSent}
+use Rattle.rcell_pipe_response.specs.parts.Flushed.{IsSinkFlushedOnce}
 
 or-true : (b : Bool) → (b || true) ≡ true
 or-true true = refl
 or-true false = refl
 
 -- the output is a prefix of the text if the sink stopped
-pub cut : {before now : Option (List ℕ)} {start faults : Faults} {text : List ℕ} {block : BlockValue}
-    → Appended before start text now faults block → IsCut before now text block.written
+pub cut : {before now : Option (List ℕ)} {start faults : SinkFaults} {text : List ℕ} {block : OutputBlockValue}
+    → IsTextAppendedToSink before start text now faults block → IsTextPrefixWritten before now text block.written
 cut a = record { front = a.front; rest = a.rest; whole = a.whole; taken = a.taken; count = a.count }
 
 -- the sink accepted a text, and was flushed after it
-pub sent_flushed : (sending : Sending) (before : Option (List ℕ)) (after : Faults) (text : List ℕ)
+pub sent_flushed : (sending : SinkState) (before : Option (List ℕ)) (after : SinkFaults) (text : List ℕ)
     {taken now : Option (List ℕ)}
-    {start middle : Faults} {written : ℕ} → taken ≡ append_known before text → middle ≡ start → written ≡ capped_count
+    {start middle : SinkFaults} {written : ℕ} → taken ≡ append_if_known before text → middle ≡ start
+    → written ≡ capped_byte_count
     (length text) → now ≡ taken
-    → IsFlushed sending middle after → IsSent sending before start now after text written
+    → IsSinkFlushedOnce sending middle after → IsTextSent sending before start now after text written
 sent_flushed Flushed before after text all first count same flushed =
-    (same ∙ all, flushed ∙ ap (λ (f : Faults). after_flush f false) first, count)
+    (same ∙ all, flushed ∙ ap (λ (f : SinkFaults). faults_after_flush f false) first, count)
 sent_flushed Unflushed before after text all first count same flushed =
-    (same ∙ all, flushed ∙ ap (λ (f : Faults). after_flush f true) first, count)
+    (same ∙ all, flushed ∙ ap (λ (f : SinkFaults). faults_after_flush f true) first, count)
 sent_flushed Refused before after text all first count same flushed = absurd flushed
 
 -- the last frame was put after the content of the block
-module _ {S : Type 0} {taken : S → Option (List ℕ)} {faults : S → Faults} {old mid now : S}
-    {block middle new : BlockValue} {end : List ℕ}
-    (put : Appends taken faults old block end mid middle) (emptied : Appends taken faults mid middle [] now new)
-    {before : Option (List ℕ)} {start : Faults} {text : List ℕ}
-    (p : Appended before start text (taken old) (faults old) block) where
-  all_put : Appended before start (text ++ end) (taken now) (faults now) new
-  all_put = subst (λ (t : List ℕ). Appended before start t (taken now) (faults now) new) (append-nil (text ++ end))
+module _ {S : Type 0} {taken : S → Option (List ℕ)} {faults : S → SinkFaults} {old mid now : S}
+    {block middle new : OutputBlockValue} {end : List ℕ}
+    (put : IsTextAppendedThroughBlock taken faults old block end mid middle)
+    (emptied : IsTextAppendedThroughBlock taken faults mid middle [] now new)
+    {before : Option (List ℕ)} {start : SinkFaults} {text : List ℕ}
+    (p : IsTextAppendedToSink before start text (taken old) (faults old) block) where
+  all_put : IsTextAppendedToSink before start (text ++ end) (taken now) (faults now) new
+  all_put = subst (λ (t : List ℕ). IsTextAppendedToSink before start t (taken now) (faults now) new) (append-nil (text
+      ++ end))
       (emptied.adds before start (text ++ end) (put.adds before start text p))
 
-  pub end_refused : new.failed ≡ true → IsSent Refused before start (taken now) (faults now) (text ++ end) new.written
+  pub end_refused : new.failed ≡ true → IsTextSent Refused before start (taken now) (faults now) (text
+      ++ end) new.written
   end_refused failed = (rw failed at all_put.fails, cut all_put)
 
-  pub end_flushed : (sending : Sending) (flushed : Faults) {after : Option (List ℕ)} → new.failed ≡ false
+  pub end_flushed : (sending : SinkState) (flushed : SinkFaults) {after : Option (List ℕ)} → new.failed ≡ false
       → new.held ≡ [] → after ≡ taken now
-      → IsFlushed sending (faults now) flushed → IsSent sending before start after flushed (text ++ end) new.written
+      → IsSinkFlushedOnce sending (faults now) flushed → IsTextSent sending before start after flushed (text
+      ++ end) new.written
   end_flushed sending flushed good none same flush =
       let done = appended_put all_put good none in
       sent_flushed sending before flushed (text ++ end) done.0 done.1.1 done.1.0 same flush
 
 -- the frames are followed by the last frame
-pub finished_frames : {before now : Option (List ℕ)} {start after : Faults} {error : Option PipeError} {outcome : PipeOutcome} (frames : List OutputFrame) (one end : EndValue) → one ≡ end
-    → Finished before start now after error ((response_magic ++ frames_bytes frames) ++ end_bytes one) outcome → Finished before start now after error (response_bytes frames end) outcome
+pub finished_frames : {before now : Option (List ℕ)} {start after : SinkFaults} {error : Option PipeError} {outcome : PipeOutcome} (frames : List OutputFrame) (one end : RunEndValue) → one ≡ end
+    → IsTextSentWithOutcome before start now after error ((response_magic ++ frames_bytes frames) ++ run_end_frame_bytes one) outcome → IsTextSentWithOutcome before start now after error (response_bytes frames end) outcome
 finished_frames {before} {now} {start} {after} {error} {outcome} frames one end same finished =
-    subst (λ (t : List ℕ). Finished before start now after error t outcome)
-    (ap (λ (e : EndValue). (response_magic ++ frames_bytes frames) ++ end_bytes e) same ∙ append_assoc response_magic (frames_bytes frames) (end_bytes end)) finished
+    subst (λ (t : List ℕ). IsTextSentWithOutcome before start now after error t outcome)
+    (ap (λ (e : RunEndValue). (response_magic ++ frames_bytes frames) ++ run_end_frame_bytes e) same ∙ append_assoc response_magic (frames_bytes frames) (run_end_frame_bytes end)) finished
 
 -- the response ends as the finished run does
-pub ends_as : (says : List ℕ → Option PipeError → Type 0) {before now : Option (List ℕ)} {start after : Faults}
+pub ends_as : (says : List ℕ → Option PipeError → Type 0) {before now : Option (List ℕ)} {start after : SinkFaults}
     (reported : Option PipeError) {text : List ℕ} {outcome : PipeOutcome} → says text reported
-    → (reported ≡ Some errors.Write → ⊥) → Finished before start now after reported text outcome
-    → EndsAs says before start now after outcome
+    → (reported ≡ Some errors.Write → ⊥) → IsTextSentWithOutcome before start now after reported text outcome
+    → IsEndOfResponseSent says before start now after outcome
 ends_as says {before} {now} {start} {after} reported {text} {outcome} is fine finished =
     let same = finished.reported_is in
     record {
@@ -91,7 +102,8 @@ ends_as says {before} {now} {start} {after} reported {text} {outcome} is fine fi
       finished = record {
         sending = finished.sending;
         reported_is = refl;
-        error_is = finished.error_is ∙ ap (λ (e : Option PipeError). error_after e finished.sending) (sym same);
+        error_is = finished.error_is ∙ ap (λ (e : Option PipeError). run_error_with_sink_state e finished.sending)
+            (sym same);
         status = finished.status;
         sent = finished.sent;
       };
@@ -99,19 +111,19 @@ ends_as says {before} {now} {start} {after} reported {text} {outcome} is fine fi
     }
 
 -- the sink failed in a statement of the run
-pub end_broken : (form : RunForm) (read : Result RunRequestValue RequestError) {before now : Option (List ℕ)}
-    {start after : Faults} {outcome : PipeOutcome} (shelf : ShelfValue) (first others : List Statement)
-    (answered unanswered : List QuestionValue) (text : List ℕ)
+pub end_broken : (form : ResponseForm) (read : Result RunRequestValue RequestError) {before now : Option (List ℕ)}
+    {start after : SinkFaults} {outcome : PipeOutcome} (shelf : ShelfValue) (first others : List Statement)
+    (answered unanswered : List PatchQuestionValue) (text : List ℕ)
     → outcome.reported ≡ Some errors.Write → outcome.error ≡ Some errors.Write
-    → outcome.status ≡ end_status_after outcome.error
-    → IsPipeAccepted form read shelf (first ++ others) (answered ++ unanswered)
-    → (others ≡ []) ⊎ (answered ≡ []) → GivesFirst form shelf first answered text
-    → after ≡ after_put start true → IsCut before now text outcome.written
-    → EndsAs (IsResponse form read) before start now after outcome
+    → outcome.status ≡ exit_status_of_pipe_run outcome.error
+    → IsRunRequestAccepted form read shelf (first ++ others) (answered ++ unanswered)
+    → (others ≡ []) ⊎ (answered ≡ []) → IsPartialResponseBeforeEnd form shelf first answered text
+    → after ≡ faults_after_put start true → IsTextPrefixWritten before now text outcome.written
+    → IsEndOfResponseSent (IsResponseToRunRequest form read) before start now after outcome
 end_broken form read shelf first others answered unanswered text reported error status accepted order gives failed
     cut = record {
       text = text;
-      is = subst (IsResponse form read text) (sym reported)
+      is = subst (IsResponseToRunRequest form read text) (sym reported)
           (record {
             shelf = shelf;
             first = first;
@@ -128,17 +140,17 @@ end_broken form read shelf first others answered unanswered text reported error 
 
 -- a run that writes text finishes, runs out of memory at a statement or is cut by the sink
 module _ (read : Result RunRequestValue RequestError) (shelf : ShelfValue) (statements : List Statement)
-    (questions : List QuestionValue) (accepted : IsPipeAccepted Text read shelf statements questions) (written : ℕ) where
-  accepted_parts : (parts : List Statement) → parts ≡ statements → IsPipeAccepted Text read shelf parts questions
+    (questions : List PatchQuestionValue) (accepted : IsRunRequestAccepted Text read shelf statements questions) (written : ℕ) where
+  accepted_parts : (parts : List Statement) → parts ≡ statements → IsRunRequestAccepted Text read shelf parts questions
   accepted_parts parts whole =
-      subst (λ (s : List Statement). IsPipeAccepted Text read shelf s questions) (sym whole) accepted
+      subst (λ (s : List Statement). IsRunRequestAccepted Text read shelf s questions) (sym whole) accepted
 
-  pub text_done : {before between now : Option (List ℕ)} {start middle after : Faults} {outcome : PipeOutcome}
-      (done : IsDone shelf statements before between written) → middle ≡ start
-      → Finished before middle now after None done.text outcome
-      → EndsAs (IsResponse Text read) before start now after outcome
+  pub text_done : {before between now : Option (List ℕ)} {start middle after : SinkFaults} {outcome : PipeOutcome}
+      (done : IsFullOutputWritten shelf statements before between written) → middle ≡ start
+      → IsTextSentWithOutcome before middle now after None done.text outcome
+      → IsEndOfResponseSent (IsResponseToRunRequest Text read) before start now after outcome
   text_done {before} {between} {now} {start} {middle} {after} {outcome} done same finished =
-      ends_as (IsResponse Text read) None
+      ends_as (IsResponseToRunRequest Text read) None
       (record {
         shelf = shelf;
         statements = statements;
@@ -146,14 +158,14 @@ module _ (read : Result RunRequestValue RequestError) (shelf : ShelfValue) (stat
         accepted = accepted;
         gives = done.output;
       }) (λ write. cc)
-      (subst (λ (f : Faults). Finished before f now after None done.text outcome) same finished)
+      (subst (λ (f : SinkFaults). IsTextSentWithOutcome before f now after None done.text outcome) same finished)
 
-  pub text_stopped : {before between now : Option (List ℕ)} {start middle after : Faults} {outcome : PipeOutcome}
-      (line : ℕ) (s : IsShelfBefore shelf statements before between written line) → middle ≡ start
-      → Finished before middle now after (Some (errors.MemoryAt line)) s.text outcome
-      → EndsAs (IsResponse Text read) before start now after outcome
+  pub text_stopped : {before between now : Option (List ℕ)} {start middle after : SinkFaults} {outcome : PipeOutcome}
+      (line : ℕ) (s : IsStoppedBeforeStatement shelf statements before between written line) → middle ≡ start
+      → IsTextSentWithOutcome before middle now after (Some (errors.MemoryAt line)) s.text outcome
+      → IsEndOfResponseSent (IsResponseToRunRequest Text read) before start now after outcome
   text_stopped {before} {between} {now} {start} {middle} {after} {outcome} line s same finished =
-      ends_as (IsResponse Text read) (Some (errors.MemoryAt line))
+      ends_as (IsResponseToRunRequest Text read) (Some (errors.MemoryAt line))
       (record {
         shelf = shelf;
         first = s.first;
@@ -165,39 +177,42 @@ module _ (read : Result RunRequestValue RequestError) (shelf : ShelfValue) (stat
         gives = (s.after, s.executed);
       })
       (λ write. cc)
-      (subst (λ (f : Faults). Finished before f now after (Some (errors.MemoryAt line)) s.text outcome) same finished)
+      (subst (λ (f : SinkFaults). IsTextSentWithOutcome before f now after
+      (Some (errors.MemoryAt line)) s.text outcome) same finished)
 
-  pub text_failed : {before now : Option (List ℕ)} {start after : Faults} {outcome : PipeOutcome}
-      (w : IsWithin shelf statements before now written) → after ≡ after_put start true
+  pub text_failed : {before now : Option (List ℕ)} {start after : SinkFaults} {outcome : PipeOutcome}
+      (w : IsOutputPrefixWritten shelf statements before now written) → after ≡ faults_after_put start true
       → outcome.reported ≡ Some errors.Write → outcome.error ≡ Some errors.Write
-      → outcome.status ≡ end_status_after outcome.error
-      → outcome.written ≡ written → EndsAs (IsResponse Text read) before start now after outcome
+      → outcome.status ≡ exit_status_of_pipe_run outcome.error
+      → outcome.written ≡ written → IsEndOfResponseSent (IsResponseToRunRequest Text read) before start now after
+      outcome
   text_failed w failed reported error status count = end_broken Text read shelf w.first w.others [] questions
       (w.prefix ++ w.rest) reported error status (accepted_parts (w.first ++ w.others) w.whole) (inr refl)
       (w.after, w.executed) failed
       (record { front = w.prefix; rest = w.rest; whole = refl; taken = w.taken; count = count ∙ w.count })
 
--- an error for which `is_memory` is false is not an error of memory
-pub not_memory : (kind : ScriptKind) → is_memory kind ≡ false → kind ≢ script_kinds.Memory
-not_memory kind not same = absurd (cc (not, ap is_memory same))
+-- an error for which `is_memory_error` is false is not an error of memory
+pub not_memory : (kind : ScriptKind) → is_memory_error kind ≡ false → kind ≢ script_kinds.Memory
+not_memory kind not same = absurd (cc (not, ap is_memory_error same))
 
-abbrev pub of_run : ShelfValue → List ℕ → List QuestionValue → RunRequestValue
+abbrev pub of_run : ShelfValue → List ℕ → List PatchQuestionValue → RunRequestValue
 of_run shelf script questions = record { shelf = shelf; script = script; questions = questions }
 
 -- a script that is rejected has its response
-pub rejection : (form : RunForm) (shelf : ShelfValue) (script : List ℕ) (questions : List QuestionValue)
-    (fault : ScriptFault) (error : PipeError) (end : EndValue)
-    → IsScriptFault shelf.names script fault → IsRejection fault error end
-    → IsResponse form (Ok (of_run shelf script questions)) (response_bytes [] end) (Some error)
+pub rejection : (form : ResponseForm) (shelf : ShelfValue) (script : List ℕ) (questions : List PatchQuestionValue)
+    (fault : ScriptFault) (error : PipeError) (end : RunEndValue)
+    → IsScriptFault shelf.names script fault → IsErrorOfRejectedScript fault error end
+    → IsResponseToRunRequest form (Ok (of_run shelf script questions)) (response_bytes [] end) (Some error)
 rejection form shelf script questions fault (errors.Script error) end first is = record {
   shelf = shelf;
   script = script;
   questions = questions;
   request = refl;
   first = subst (λ (f : ScriptFault). IsScriptFault shelf.names script f) (sym is.0) first;
-  bytes = ap (λ (e : EndValue). response_bytes [] e) (is.1 ∙ ap script_end (sym is.0));
+  bytes = ap (λ (e : RunEndValue). response_bytes [] e) (is.1 ∙ ap end_frame_of_rejected_script (sym is.0));
 }
-rejection form shelf script questions fault errors.Memory end first is = ap (λ (e : EndValue). response_bytes [] e) is
+rejection form shelf script questions fault errors.Memory end first is = ap
+    (λ (e : RunEndValue). response_bytes [] e) is
 rejection form shelf script questions fault (errors.Request error) end first is = absurd is
 rejection form shelf script questions fault (errors.Question error) end first is = absurd is
 rejection form shelf script questions fault (errors.MemoryAt line) end first is = absurd is
@@ -205,7 +220,7 @@ rejection form shelf script questions fault errors.MemoryAtQuestion end first is
 rejection form shelf script questions fault errors.Write end first is = absurd is
 
 -- a rejection is not a failed write
-pub not_write : (fault : ScriptFault) (error : PipeError) (end : EndValue) → IsRejection fault error end → Some error ≡ Some errors.Write → ⊥
+pub not_write : (fault : ScriptFault) (error : PipeError) (end : RunEndValue) → IsErrorOfRejectedScript fault error end → Some error ≡ Some errors.Write → ⊥
 not_write fault (errors.Script error) end is same = cc
 not_write fault errors.Memory end is same = cc
 not_write fault (errors.Request error) end is same = is
@@ -219,8 +234,8 @@ not_write fault errors.Write end is same = is
 -- all bytes of a text were accepted
 taken_whole : (error : Option PipeError) (before : Option (List ℕ)) (text : List ℕ) {now : Option (List ℕ)}
     {written : ℕ}
-    → (error ≡ Some errors.Write → ⊥) → now ≡ append_known before text → written ≡ capped_count (length text)
-    → IsTaken text before now error written
+    → (error ≡ Some errors.Write → ⊥) → now ≡ append_if_known before text → written ≡ capped_byte_count (length text)
+    → IsTextAcceptedBySink text before now error written
 taken_whole None before text fine all count = (all, count)
 taken_whole (Some (errors.Request error)) before text fine all count = (all, count)
 taken_whole (Some (errors.Script error)) before text fine all count = (all, count)
@@ -230,9 +245,9 @@ taken_whole (Some (errors.MemoryAt line)) before text fine all count = (all, cou
 taken_whole (Some errors.MemoryAtQuestion) before text fine all count = (all, count)
 taken_whole (Some errors.Write) before text fine all count = absurd (fine refl)
 
-used_well : (error : Option PipeError) (start : Faults) {after : Faults} → (error ≡ Some errors.Write → ⊥)
-    → after ≡ after_flush start false
-    → HasUsed error start after
+used_well : (error : Option PipeError) (start : SinkFaults) {after : SinkFaults} → (error ≡ Some errors.Write → ⊥)
+    → after ≡ faults_after_flush start false
+    → AreSinkCallsForError error start after
 used_well None start fine flushed = flushed
 used_well (Some (errors.Request error)) start fine flushed = flushed
 used_well (Some (errors.Script error)) start fine flushed = flushed
@@ -242,80 +257,87 @@ used_well (Some (errors.MemoryAt line)) start fine flushed = flushed
 used_well (Some errors.MemoryAtQuestion) start fine flushed = flushed
 used_well (Some errors.Write) start fine flushed = absurd (fine refl)
 
-module _ (says : List ℕ → Option PipeError → Type 0) {before now : Option (List ℕ)} {start after : Faults}
+module _ (says : List ℕ → Option PipeError → Type 0) {before now : Option (List ℕ)} {start after : SinkFaults}
     {outcome : PipeOutcome}
-    (h : EndsAs says before start now after outcome) where
-  sent_as : (sending : Sending) → h.finished.sending ≡ sending
-      → IsSent sending before start now after h.text outcome.written
-  sent_as sending e = subst (λ (s : Sending). IsSent s before start now after h.text outcome.written) e h.finished.sent
+    (h : IsEndOfResponseSent says before start now after outcome) where
+  sent_as : (sending : SinkState) → h.finished.sending ≡ sending
+      → IsTextSent sending before start now after h.text outcome.written
+  sent_as sending e = subst (λ (s : SinkState). IsTextSent s before start now after h.text outcome.written) e
+      h.finished.sent
 
-  error_as : (sending : Sending) → h.finished.sending ≡ sending → outcome.error ≡ error_after outcome.reported sending
-  error_as sending e = h.finished.error_is ∙ ap (error_after outcome.reported) e
+  error_as : (sending : SinkState) → h.finished.sending ≡ sending
+      → outcome.error ≡ run_error_with_sink_state outcome.reported sending
+  error_as sending e = h.finished.error_is ∙ ap (run_error_with_sink_state outcome.reported) e
 
   -- a response that was sent completely does not report a failed write
-  reports : (sending : Sending) → h.finished.sending ≡ sending → (sending ≡ Refused → ⊥)
+  reports : (sending : SinkState) → h.finished.sending ≡ sending → (sending ≡ Refused → ⊥)
       → outcome.reported ≡ Some errors.Write → ⊥
   reports sending e whole write = whole (sym e ∙ h.settled write)
 
-  pub ended_taken : IsTaken h.text before now outcome.error outcome.written
+  pub ended_taken : IsTextAcceptedBySink h.text before now outcome.error outcome.written
   ended_taken = by h.finished.sending refl
     where
-      by : (sending : Sending) → h.finished.sending ≡ sending → IsTaken h.text before now outcome.error outcome.written
+      by : (sending : SinkState) → h.finished.sending ≡ sending
+          → IsTextAcceptedBySink h.text before now outcome.error outcome.written
       by Flushed e =
           let sent = sent_as Flushed e in
-          subst (λ (r : Option PipeError). IsTaken h.text before now r outcome.written) (sym (error_as Flushed e))
+          subst (λ (r : Option PipeError). IsTextAcceptedBySink h.text before now r outcome.written)
+          (sym (error_as Flushed e))
           (taken_whole outcome.reported before h.text (reports Flushed e (λ r. cc)) sent.0 sent.2)
       by Unflushed e =
           let sent = sent_as Unflushed e in
-          subst (λ (r : Option PipeError). IsTaken h.text before now r outcome.written) (sym (error_as Unflushed e))
+          subst (λ (r : Option PipeError). IsTextAcceptedBySink h.text before now r outcome.written)
+          (sym (error_as Unflushed e))
           (record { front = h.text; rest = []; whole = append-nil h.text; taken = sent.0; count = sent.2 })
       by Refused e =
-          subst (λ (r : Option PipeError). IsTaken h.text before now r outcome.written) (sym (error_as Refused e))
+          subst (λ (r : Option PipeError). IsTextAcceptedBySink h.text before now r outcome.written)
+          (sym (error_as Refused e))
           (sent_as Refused e).1
 
-  pub responded : HasResponded says before now outcome.reported outcome.error outcome.written
+  pub responded : IsResponseWritten says before now outcome.reported outcome.error outcome.written
   responded = record { response = h.text; is = h.is; taken = ended_taken }
 
-  pub ended_used : HasUsed outcome.error start after
+  pub ended_used : AreSinkCallsForError outcome.error start after
   ended_used = by h.finished.sending refl
     where
-      by : (sending : Sending) → h.finished.sending ≡ sending → HasUsed outcome.error start after
+      by : (sending : SinkState) → h.finished.sending ≡ sending → AreSinkCallsForError outcome.error start after
       by Flushed e =
-          subst (λ (r : Option PipeError). HasUsed r start after) (sym (error_as Flushed e))
+          subst (λ (r : Option PipeError). AreSinkCallsForError r start after) (sym (error_as Flushed e))
           (used_well outcome.reported start (reports Flushed e (λ r. cc)) (sent_as Flushed e).1)
       by Unflushed e =
-          subst (λ (r : Option PipeError). HasUsed r start after) (sym (error_as Unflushed e))
+          subst (λ (r : Option PipeError). AreSinkCallsForError r start after) (sym (error_as Unflushed e))
           (false, (sent_as Unflushed e).1)
       by Refused e =
-          subst (λ (r : Option PipeError). HasUsed r start after) (sym (error_as Refused e))
+          subst (λ (r : Option PipeError). AreSinkCallsForError r start after) (sym (error_as Refused e))
           (true, (sent_as Refused e).0)
 
   -- if no put failed, the whole response was accepted
   pub ended_whole : outcome.error ≡ Some errors.Write → after.refused ≡ false
-      → (outcome.reported ≢ Some errors.Write) × HasResponded says before now outcome.reported None outcome.written
+      → (outcome.reported ≢ Some errors.Write) × IsResponseWritten says before now outcome.reported None outcome.written
   ended_whole write good = by h.finished.sending refl
     where
-      by : (sending : Sending) → h.finished.sending ≡ sending
-          → (outcome.reported ≢ Some errors.Write) × HasResponded says before now outcome.reported None outcome.written
+      by : (sending : SinkState) → h.finished.sending ≡ sending
+          → (outcome.reported ≢ Some errors.Write) × IsResponseWritten says before now outcome.reported None
+          outcome.written
       by Flushed e = absurd (reports Flushed e (λ r. cc) (sym (error_as Flushed e) ∙ write))
       by Unflushed e =
           let sent = sent_as Unflushed e in
           (reports Unflushed e (λ r. cc), record { response = h.text; is = h.is; taken = (sent.0, sent.2) })
-      by Refused e = absurd (cc (ap (λ (f : Faults). f.refused) (sent_as Refused e).0, good))
+      by Refused e = absurd (cc (ap (λ (f : SinkFaults). f.refused) (sent_as Refused e).0, good))
 
   -- with a failed write the sink has failed; otherwise it was flushed once
   pub ended_failed : outcome.error ≡ Some errors.Write → has_failed after ≡ true
   ended_failed write = by h.finished.sending refl
     where
-      by : (sending : Sending) → h.finished.sending ≡ sending → has_failed after ≡ true
+      by : (sending : SinkState) → h.finished.sending ≡ sending → has_failed after ≡ true
       by Flushed e = absurd (reports Flushed e (λ r. cc) (sym (error_as Flushed e) ∙ write))
       by Unflushed e = ap has_failed (sent_as Unflushed e).1 ∙ or-true start.refused
       by Refused e = ap has_failed (sent_as Refused e).0
 
-  pub ended_flushed : outcome.error ≢ Some errors.Write → after ≡ after_flush start false
+  pub ended_flushed : outcome.error ≢ Some errors.Write → after ≡ faults_after_flush start false
   ended_flushed fine = by h.finished.sending refl
     where
-      by : (sending : Sending) → h.finished.sending ≡ sending → after ≡ after_flush start false
+      by : (sending : SinkState) → h.finished.sending ≡ sending → after ≡ faults_after_flush start false
       by Flushed e = (sent_as Flushed e).1
       by Unflushed e = absurd (fine (error_as Unflushed e))
       by Refused e = absurd (fine (error_as Refused e))
@@ -323,15 +345,15 @@ module _ (says : List ℕ → Option PipeError → Type 0) {before now : Option 
   pub ended_reported : outcome.error ≢ Some errors.Write → outcome.error ≡ outcome.reported
   ended_reported fine = by h.finished.sending refl
     where
-      by : (sending : Sending) → h.finished.sending ≡ sending → outcome.error ≡ outcome.reported
+      by : (sending : SinkState) → h.finished.sending ≡ sending → outcome.error ≡ outcome.reported
       by Flushed e = error_as Flushed e
       by Unflushed e = absurd (fine (error_as Unflushed e))
       by Refused e = absurd (fine (error_as Refused e))
 
 -- the response of a rejected run is only its last frame
-pub only_end_of_run : (form : RunForm) (read : Result RunRequestValue RequestError) (response : List ℕ)
+pub only_end_of_run : (form : ResponseForm) (read : Result RunRequestValue RequestError) (response : List ℕ)
     (error : Option PipeError)
-    → IsResponse form read response error → IsOnlyEnd response error
+    → IsResponseToRunRequest form read response error → IsResponseOfOnlyEnd response error
 only_end_of_run form read response None is = tt
 only_end_of_run form read response (Some (errors.Request error)) is = is.1
 only_end_of_run form read response (Some (errors.Script error)) is = is.bytes

@@ -6,23 +6,26 @@ use Rattle.std.proofs.Common.{take-append-drop}
 use Rattle.std.proofs.Math.Seq.{drop-cons}
 use Rattle.std.proofs.lemmas.List.{take_more, length-map, length-take-le, map-append}
 use Rattle.std.proofs.lemmas.List.Concat.{flat_map-append}
-use Rattle.cell_core_devices.specs.Device.{Faults}
-use Rattle.cell_core_devices.specs.Blocks.{BlockValue, Appended, Appends}
+use Rattle.cell_core_devices.specs.Device.{SinkFaults}
+use Rattle.cell_core_devices.specs.Blocks.{OutputBlockValue, IsTextAppendedToSink, IsTextAppendedThroughBlock}
 use Rattle.cell_core_devices.proofs.BlockLemmas.{appends_none, appends_then}
 use Rattle.cell_core.specs.Shelf.{ShelfValue}
 use Rattle.rcell.proofs.OutputLemmas.{names_after}
 use Rattle.rcell_script.specs.declared.statement.Statement.{Statement}
 use Rattle.rcell_pipe_request.specs.declared.question.Question.{Question}
-use Rattle.rcell_pipe_request.specs.Questions.{QuestionValue, question_value, question_values}
-use Rattle.rcell_pipe_response.specs.declared.frame_run.RunForm.{RunForm}
-use Rattle.rcell_pipe_response.specs.declared.question_error.QuestionKind.{QuestionKind}
+use Rattle.rcell_pipe_request.specs.Questions.{PatchQuestionValue, question_as_value, questions_as_values}
+use Rattle.rcell_pipe_response.specs.declared.frame_run.ResponseForm.{ResponseForm}
+use Rattle.rcell_pipe_response.specs.declared.question_error.QuestionErrorKind.{QuestionErrorKind}
 use Rattle.rcell_pipe_response.specs.declared.question_error.QuestionError.{QuestionError}
-use Rattle.rcell_pipe_frames.specs.Frames.{OutputFrame, GivesFrames}
+use Rattle.rcell_pipe_frames.specs.Frames.{OutputFrame, StatementsGiveFrames}
 use Rattle.rcell_pipe_frames.specs.FrameBytes.{frame_bytes, frames_bytes, response_magic}
-use Rattle.rcell_pipe_response.specs.QuestionFrames.{all_names, question_fault, fault_or, first_fault}
-use Rattle.rcell_pipe_response.specs.QuestionFrames.{IsAnswer, AreAnswers}
-use Rattle.rcell_pipe_response.specs.RunEnds.{GivesAll}
-use Rattle.rcell_pipe_response.specs.parts.Answering.{HasAnswer, HasAnswered, AnswersFirst}
+use Rattle.rcell_pipe_response.specs.QuestionFrames.{names_of_all_maps, question_error_kind_if_rejected}
+use Rattle.rcell_pipe_response.specs.QuestionFrames.{error_of_question_or_later_one}
+use Rattle.rcell_pipe_response.specs.QuestionFrames.{first_question_error}
+use Rattle.rcell_pipe_response.specs.QuestionFrames.{AreFramesForQuestion, AreFramesForAllQuestions}
+use Rattle.rcell_pipe_response.specs.RunEnds.{AreFramesOfStatementsAndQuestions}
+use Rattle.rcell_pipe_response.specs.parts.Answering.{AreQuestionFramesAppended, AreAllQuestionFramesAppended}
+use Rattle.rcell_pipe_response.specs.parts.Answering.{AreFirstQuestionFramesAppended}
 
 -- the questions from place i on are the question there and those after it
 next_at : (questions : List Question) (i : ℕ) (q : Question) → i < length questions → q ≡ get_or questions i q
@@ -31,52 +34,57 @@ next_at questions i q h read =
     rw add-one (drop-cons questions i q h ∙ ap (λ x. x ∷ drop (suc i) questions) (sym read))
 
 -- if no first error is reported, neither this question nor a later one has an error
-none_of_both : (number : ℕ) (fault : Option QuestionKind) (others : Option QuestionError)
-    → fault_or number fault others ≡ None → (fault ≡ None) × (others ≡ None)
+none_of_both : (number : ℕ) (fault : Option QuestionErrorKind) (others : Option QuestionError)
+    → error_of_question_or_later_one number fault others ≡ None → (fault ≡ None) × (others ≡ None)
 none_of_both number None others h = (refl, h)
 none_of_both number (Some kind) others h = absurd (cc h)
 
-module _ (form : RunForm) (names : List (List ℕ)) (questions : List Question) (i : ℕ) (q : Question)
+module _ (form : ResponseForm) (names : List (List ℕ)) (questions : List Question) (i : ℕ) (q : Question)
     (h : i < length questions) (read : q ≡ get_or questions i q) where
   abbrev after : Option QuestionError
-  after = first_fault form names (question_values (drop (i + 1) questions))
+  after = first_question_error form names (questions_as_values (drop (i + 1) questions))
 
-  opened : first_fault form names (question_values (drop i questions))
-      ≡ fault_or q.number (question_fault form names (question_value q)) after
-  unfolding first_fault
-  opened = ap (λ (l : List Question). first_fault form names (question_values l)) (next_at questions i q h read)
+  opened : first_question_error form names (questions_as_values (drop i questions))
+      ≡ error_of_question_or_later_one q.number (question_error_kind_if_rejected form names (question_as_value q)) after
+  unfolding first_question_error
+  opened = ap (λ (l : List Question). first_question_error form names (questions_as_values l))
+      (next_at questions i q h read)
 
   -- if the question at place i is rejected, its error is the first
-  pub fault_here : {all : Option QuestionError} (kind : QuestionKind)
-      → first_fault form names (question_values (drop i questions)) ≡ all
-      → question_fault form names (question_value q) ≡ Some kind
+  pub fault_here : {all : Option QuestionError} (kind : QuestionErrorKind)
+      → first_question_error form names (questions_as_values (drop i questions)) ≡ all
+      → question_error_kind_if_rejected form names (question_as_value q) ≡ Some kind
       → Some (record { kind = kind; number = q.number }) ≡ all
   fault_here kind before fault =
-      sym (ap (λ (f : Option QuestionKind). fault_or q.number f after) fault) ∙ sym opened ∙ before
+      sym (ap (λ (f : Option QuestionErrorKind). error_of_question_or_later_one q.number f after) fault) ∙ sym opened
+      ∙ before
 
   -- if the question at place i is accepted, the first error belongs to a later question
   pub fault_after : {all : Option QuestionError}
-      → first_fault form names (question_values (drop i questions)) ≡ all
-      → question_fault form names (question_value q) ≡ None
-      → first_fault form names (question_values (drop (i + 1) questions)) ≡ all
+      → first_question_error form names (questions_as_values (drop i questions)) ≡ all
+      → question_error_kind_if_rejected form names (question_as_value q) ≡ None
+      → first_question_error form names (questions_as_values (drop (i + 1) questions)) ≡ all
   fault_after before fine =
-      sym (ap (λ (f : Option QuestionKind). fault_or q.number f after) fine) ∙ sym opened ∙ before
+      sym (ap (λ (f : Option QuestionErrorKind). error_of_question_or_later_one q.number f after) fine) ∙ sym opened
+      ∙ before
 
   -- if no question is rejected, the question at place i and those after it are not rejected
-  pub none_here : first_fault form names (question_values (drop i questions)) ≡ None
-      → (question_fault form names (question_value q) ≡ None)
-      × (first_fault form names (question_values (drop (i + 1) questions)) ≡ None)
-  none_here none = none_of_both q.number (question_fault form names (question_value q)) after (sym opened ∙ none)
+  pub none_here : first_question_error form names (questions_as_values (drop i questions)) ≡ None
+      → (question_error_kind_if_rejected form names (question_as_value q) ≡ None)
+      × (first_question_error form names (questions_as_values (drop (i + 1) questions)) ≡ None)
+  none_here none = none_of_both q.number (question_error_kind_if_rejected form names (question_as_value q)) after
+      (sym opened ∙ none)
 
 -- no questions have no error
-pub none_left : (form : RunForm) (names : List (List ℕ)) → first_fault form names [] ≡ None
-unfolding first_fault
+pub none_left : (form : ResponseForm) (names : List (List ℕ)) → first_question_error form names [] ≡ None
+unfolding first_question_error
 none_left form names = refl
 
 -- one more question adds its frames
-answers_more : (first : List QuestionValue) (shelf : ShelfValue) (question : QuestionValue) (place n : ℕ)
-    (frames more : List OutputFrame) → n ≡ place + length first → AreAnswers shelf place first frames
-    → IsAnswer shelf n question more → AreAnswers shelf place (first ++ question ∷ []) (frames ++ more)
+answers_more : (first : List PatchQuestionValue) (shelf : ShelfValue) (question : PatchQuestionValue) (place n : ℕ)
+    (frames more : List OutputFrame) → n ≡ place + length first → AreFramesForAllQuestions shelf place first frames
+    → AreFramesForQuestion shelf n question more → AreFramesForAllQuestions shelf place (first ++ question
+    ∷ []) (frames ++ more)
 answers_more [] shelf question place n frames more is x answer =
     let none : n ≡ place + 0 = is in
     let same : n ≡ place = omega (arith, none) in (
@@ -84,7 +92,7 @@ answers_more [] shelf question place n frames more is x answer =
       (
         [],
         (
-          subst (λ (k : ℕ). IsAnswer shelf k question more) same answer,
+          subst (λ (k : ℕ). AreFramesForQuestion shelf k question more) same answer,
           (refl, ap (λ t. t ++ more) x ∙ sym (append-nil more)),
         ),
       ),
@@ -105,64 +113,69 @@ answers_more (q ∷ qs) shelf question place n frames more is x answer =
       ),
     )
 
-module _ {S : Type 0} {taken : S → Option (List ℕ)} {faults : S → Faults} where
+module _ {S : Type 0} {taken : S → Option (List ℕ)} {faults : S → SinkFaults} where
   -- a frame alone
-  pub one_frame : {old now : S} {block new : BlockValue} (frame : OutputFrame)
-      → Appends taken faults old block (frame_bytes frame) now new
-      → Appends taken faults old block (frames_bytes (frame ∷ [])) now new
+  pub one_frame : {old now : S} {block new : OutputBlockValue} (frame : OutputFrame)
+      → IsTextAppendedThroughBlock taken faults old block (frame_bytes frame) now new
+      → IsTextAppendedThroughBlock taken faults old block (frames_bytes (frame ∷ [])) now new
   one_frame {old} {now} {block} {new} frame =
-      subst (λ (bytes : List ℕ). Appends taken faults old block bytes now new) (sym (append-nil (frame_bytes frame)))
+      subst (λ (bytes : List ℕ). IsTextAppendedThroughBlock taken faults old block bytes now new)
+      (sym (append-nil (frame_bytes frame)))
 
   -- frames, and then other frames
-  pub frames_then : {old mid now : S} {block middle new : BlockValue} (first second : List OutputFrame)
-      → Appends taken faults old block (frames_bytes first) mid middle
-      → Appends taken faults mid middle (frames_bytes second) now new
-      → Appends taken faults old block (frames_bytes (first ++ second)) now new
+  pub frames_then : {old mid now : S} {block middle new : OutputBlockValue} (first second : List OutputFrame)
+      → IsTextAppendedThroughBlock taken faults old block (frames_bytes first) mid middle
+      → IsTextAppendedThroughBlock taken faults mid middle (frames_bytes second) now new
+      → IsTextAppendedThroughBlock taken faults old block (frames_bytes (first ++ second)) now new
   frames_then {old} {mid} {now} {block} {middle} {new} first second one two =
-      subst (λ (bytes : List ℕ). Appends taken faults old block bytes now new)
+      subst (λ (bytes : List ℕ). IsTextAppendedThroughBlock taken faults old block bytes now new)
       (sym (flat_map-append frame_bytes first second)) (appends_then one two)
 
 -- before any question, there are no frames of questions
-pub answered_none : {S : Type 0} {taken : S → Option (List ℕ)} {faults : S → Faults} (shelf : ShelfValue) (now : S)
-    (block : BlockValue) → HasAnswered taken faults shelf [] now block now block
+pub answered_none : {S : Type 0} {taken : S → Option (List ℕ)} {faults : S → SinkFaults} (shelf : ShelfValue) (now : S)
+    (block : OutputBlockValue) → AreAllQuestionFramesAppended taken faults shelf [] now block now block
 answered_none shelf now block = record { frames = []; answers = refl; appends = appends_none }
 
-module _ {S : Type 0} {taken : S → Option (List ℕ)} {faults : S → Faults} {shelf : ShelfValue}
-    (questions : List Question) (i : ℕ) {old was : S} {block middle : BlockValue}
-    (given : HasAnswered taken faults shelf (question_values (take i questions)) old block was middle) where
+module _ {S : Type 0} {taken : S → Option (List ℕ)} {faults : S → SinkFaults} {shelf : ShelfValue}
+    (questions : List Question) (i : ℕ) {old was : S} {block middle : OutputBlockValue}
+    (given : AreAllQuestionFramesAppended taken faults shelf (questions_as_values
+    (take i questions)) old block was middle) where
   -- the question at place i has its frames
   pub answered_more : (q : Question) → i < length questions → q ≡ get_or questions i q
-      → {mid now : S} {between new : BlockValue}
-      → HasAnswer taken faults shelf i (question_value q) was middle mid between
-      → Appends taken faults mid between [] now new
-      → HasAnswered taken faults shelf (question_values (take (i + 1) questions)) old block now new
+      → {mid now : S} {between new : OutputBlockValue}
+      → AreQuestionFramesAppended taken faults shelf i (question_as_value q) was middle mid between
+      → IsTextAppendedThroughBlock taken faults mid between [] now new
+      → AreAllQuestionFramesAppended taken faults shelf (questions_as_values (take (i + 1) questions)) old block now new
   answered_more q h read {mid} {now} {between} {new} answer emptied =
       let more = answer.frames in
       let short : length (take i questions) ≡ i = length-take-le i questions (omega (arith, h)) in
-      let long : length (question_values (take i questions)) ≡ i =
-      length-map (take i questions) question_value ∙ short in
-      let all : List QuestionValue = question_values (take i questions) ++ question_value q ∷ [] in
-      let list : all ≡ question_values (take (i + 1) questions) =
-      sym (map-append question_value (take i questions) (q ∷ []))
-      ∙ ap question_values (ap (λ x. take i questions ++ x ∷ []) read ∙ sym (take_more questions i q h)) in
-      let answers : AreAnswers shelf 0 all (given.frames ++ more) =
-      answers_more (question_values (take i questions)) shelf (question_value q) 0 i given.frames more
+      let long : length (questions_as_values (take i questions)) ≡ i =
+      length-map (take i questions) question_as_value ∙ short in
+      let all : List PatchQuestionValue = questions_as_values (take i questions) ++ question_as_value q ∷ [] in
+      let list : all ≡ questions_as_values (take (i + 1) questions) =
+      sym (map-append question_as_value (take i questions) (q ∷ []))
+      ∙ ap questions_as_values (ap (λ x. take i questions ++ x ∷ []) read ∙ sym (take_more questions i q h)) in
+      let answers : AreFramesForAllQuestions shelf 0 all (given.frames ++ more) =
+      answers_more (questions_as_values (take i questions)) shelf (question_as_value q) 0 i given.frames more
       (omega (arith, long)) given.answers answer.answer in
       record {
         frames = given.frames ++ more;
-        answers = subst (λ (l : List QuestionValue). AreAnswers shelf 0 l (given.frames ++ more)) list answers;
+        answers = subst (λ (l : List PatchQuestionValue). AreFramesForAllQuestions shelf 0 l (given.frames
+            ++ more)) list answers;
         appends = frames_then given.frames more given.appends
-            (subst (λ (bytes : List ℕ). Appends taken faults was middle bytes now new) (append-nil (frames_bytes more))
+            (subst (λ (bytes : List ℕ). IsTextAppendedThroughBlock taken faults was middle bytes now new)
+            (append-nil (frames_bytes more))
             (appends_then answer.appends emptied));
       }
 
   -- the frames of questions end before the question at place i
-  pub answers_first : AnswersFirst taken faults shelf (question_values questions) old block was middle
+  pub answers_first : AreFirstQuestionFramesAppended taken faults shelf
+      (questions_as_values questions) old block was middle
   answers_first = record {
-    first = question_values (take i questions);
-    others = question_values (drop i questions);
-    whole = sym (map-append question_value (take i questions) (drop i questions))
-        ∙ ap question_values (take-append-drop i questions);
+    first = questions_as_values (take i questions);
+    others = questions_as_values (drop i questions);
+    whole = sym (map-append question_as_value (take i questions) (drop i questions))
+        ∙ ap questions_as_values (take-append-drop i questions);
     answered = given;
   }
 
@@ -170,15 +183,15 @@ module _ {S : Type 0} {taken : S → Option (List ℕ)} {faults : S → Faults} 
 
 -- the names on the shelf after all statements are all names
 pub names_at_end : (statements : List Statement) (shelf after : ShelfValue) (frames : List OutputFrame)
-    → GivesFrames shelf statements frames after → after.names ≡ all_names shelf.names statements
+    → StatementsGiveFrames shelf statements frames after → after.names ≡ names_of_all_maps shelf.names statements
 names_at_end [] shelf after frames x = ap (λ (s : ShelfValue). s.names) x.1
 names_at_end (s ∷ ss) shelf after frames x =
     names_at_end ss x.0 after x.1.0 x.1.1.1.0
-    ∙ ap (λ (names : List (List ℕ)). all_names names ss) (names_after shelf s.command x.0 x.1.1.0)
+    ∙ ap (λ (names : List (List ℕ)). names_of_all_maps names ss) (names_after shelf s.command x.0 x.1.1.0)
 
 -- statements without questions give only their own frames
 pub gives_none : (shelf after : ShelfValue) (statements : List Statement) (frames : List OutputFrame)
-    → GivesFrames shelf statements frames after → GivesAll shelf statements [] frames
+    → StatementsGiveFrames shelf statements frames after → AreFramesOfStatementsAndQuestions shelf statements [] frames
 gives_none shelf after statements frames given = record {
   frames = frames;
   after = after;
@@ -189,13 +202,14 @@ gives_none shelf after statements frames given = record {
 }
 
 -- the frames of questions follow the other frames
-pub answered_after : {S : Type 0} {taken : S → Option (List ℕ)} {faults : S → Faults} {old now : S}
-    {block new : BlockValue} (before : Option (List ℕ)) (start : Faults) (frames answers : List OutputFrame)
-    → Appended before start (response_magic ++ frames_bytes frames) (taken old) (faults old) block
-    → Appends taken faults old block (frames_bytes answers) now new
-    → Appended before start (response_magic ++ frames_bytes (frames ++ answers)) (taken now) (faults now) new
+pub answered_after : {S : Type 0} {taken : S → Option (List ℕ)} {faults : S → SinkFaults} {old now : S}
+    {block new : OutputBlockValue} (before : Option (List ℕ)) (start : SinkFaults) (frames answers : List OutputFrame)
+    → IsTextAppendedToSink before start (response_magic ++ frames_bytes frames) (taken old) (faults old) block
+    → IsTextAppendedThroughBlock taken faults old block (frames_bytes answers) now new
+    → IsTextAppendedToSink before start (response_magic ++ frames_bytes (frames ++ answers)) (taken now)
+    (faults now) new
 answered_after {taken = taken} {faults} {old} {now} {block} {new} before start frames answers first second =
-    subst (λ (text : List ℕ). Appended before start text (taken now) (faults now) new)
+    subst (λ (text : List ℕ). IsTextAppendedToSink before start text (taken now) (faults now) new)
     (append_assoc response_magic (frames_bytes frames) (frames_bytes answers)
     ∙ ap (λ (t : List ℕ). response_magic ++ t) (sym (flat_map-append frame_bytes frames answers)))
     (second.adds before start (response_magic ++ frames_bytes frames) first)

@@ -1,16 +1,16 @@
 //! The ways in which a run ends.
 
 ghost use Rattle.std.specs.Prelude.{◌≡◌};
-ghost use Rattle.cell_core_devices.specs.Blocks.{Appends};
-ghost use Rattle.rcell_pipe_frames.specs.FrameBytes.{end_bytes};
-ghost use Rattle.rcell_pipe_response.specs.RunEnds.{kind_text, request_status, script_column, done_end, request_end, script_end, question_text, question_end, memory_end, error_status, end_status_after, end_value};
-ghost use Rattle.rcell_pipe_response.specs.parts.ScriptKinds.{is_memory};
-ghost use Rattle.rcell_script.specs.ScriptTexts.{kind_text as script_text};
+ghost use Rattle.cell_core_devices.specs.Blocks.{IsTextAppendedThroughBlock};
+ghost use Rattle.rcell_pipe_frames.specs.FrameBytes.{run_end_frame_bytes};
+ghost use Rattle.rcell_pipe_response.specs.RunEnds.{request_error_text, exit_status_of_request_error, column_of_script_error, end_frame_of_successful_run, request_end, end_frame_of_rejected_script, question_error_text, end_frame_of_rejected_question, memory_end, exit_status_of_pipe_error, exit_status_of_pipe_run, end_frame_as_value};
+ghost use Rattle.rcell_pipe_response.specs.parts.ScriptKinds.{is_memory_error};
+ghost use Rattle.rcell_script.specs.ScriptTexts.{request_error_text as script_text_or_fault};
 
-use crate::question_error::{QuestionError, QuestionKind};
+use crate::question_error::{QuestionError, QuestionErrorKind};
 use cell_core::block::OutputBlock;
 use cell_core::sink::Sink;
-use rcell_pipe_frames::bytes::{push_number, push_text};
+use rcell_pipe_frames::bytes::{push_eight_byte_number, push_length_and_text};
 use rcell_pipe_request::error::{ErrorKind, RequestError};
 use rcell_script::script_fault::{ScriptFault, ScriptKind};
 
@@ -44,8 +44,8 @@ pub struct End<'a> {
     pub text: &'a [u8],
 }
 
-fn kind_text(kind: ErrorKind) -> &'static [u8]
-    ensures { result.now ≡ kind_text kind }
+fn request_error_text(kind: ErrorKind) -> &'static [u8]
+    ensures { result.now ≡ request_error_text kind }
 {
     match kind {
         ErrorKind::BadMagic => b"bad magic",
@@ -82,8 +82,8 @@ fn kind_text(kind: ErrorKind) -> &'static [u8]
     }
 }
 
-fn request_status(kind: ErrorKind) -> u8
-    ensures { result ≡ request_status kind }
+fn exit_status_of_request_error(kind: ErrorKind) -> u8
+    ensures { result ≡ exit_status_of_request_error kind }
 {
     match kind {
         ErrorKind::ReadFailed => 4,
@@ -92,8 +92,8 @@ fn request_status(kind: ErrorKind) -> u8
 }
 
 /// The last frame of a successful run.
-pub fn done_end() -> End<'static>
-    ensures { end_value result ≡ done_end }
+pub fn end_frame_of_successful_run() -> End<'static>
+    ensures { end_frame_as_value result ≡ end_frame_of_successful_run }
 {
     End {
         status: 0,
@@ -107,21 +107,21 @@ pub fn done_end() -> End<'static>
 
 /// The last frame if the bytes are not a request.
 pub fn request_end(error: RequestError) -> End<'static>
-    ensures { end_value result ≡ request_end error }
+    ensures { end_frame_as_value result ≡ request_end error }
 {
     End {
-        status: request_status(error.kind),
+        status: exit_status_of_request_error(error.kind),
         source: 1,
         maps: error.maps,
         line: error.row as u64,
         column: 0,
-        text: kind_text(error.kind),
+        text: request_error_text(error.kind),
     }
 }
 
 /// Returns whether memory ran out while a script was read.
-pub(crate) fn is_memory(kind: ScriptKind) -> bool
-    ensures { result ≡ is_memory kind }
+pub(crate) fn is_memory_error(kind: ScriptKind) -> bool
+    ensures { result ≡ is_memory_error kind }
 {
     match kind {
         ScriptKind::Memory => true,
@@ -129,8 +129,8 @@ pub(crate) fn is_memory(kind: ScriptKind) -> bool
     }
 }
 
-fn script_column(kind: ScriptKind) -> u32
-    ensures { result ≡ script_column kind }
+fn column_of_script_error(kind: ScriptKind) -> u32
+    ensures { result ≡ column_of_script_error kind }
 {
     match kind {
         ScriptKind::Calc(error) => error.column,
@@ -139,32 +139,32 @@ fn script_column(kind: ScriptKind) -> u32
 }
 
 /// The last frame if the script was rejected, with the text of its error.
-pub fn script_end<'a>(error: ScriptFault, text: &'a [u8]) -> End<'a>
-    requires { text.now ≡ script_text error.kind }
-    ensures { end_value result ≡ script_end error }
+pub fn end_frame_of_rejected_script<'a>(error: ScriptFault, text: &'a [u8]) -> End<'a>
+    requires { text.now ≡ script_text_or_fault error.kind }
+    ensures { end_frame_as_value result ≡ end_frame_of_rejected_script error }
 {
     End {
         status: 1,
         source: 2,
         maps: 0,
         line: error.line,
-        column: script_column(error.kind),
+        column: column_of_script_error(error.kind),
         text,
     }
 }
 
-fn question_text(kind: QuestionKind) -> &'static [u8]
-    ensures { result.now ≡ question_text kind }
+fn question_error_text(kind: QuestionErrorKind) -> &'static [u8]
+    ensures { result.now ≡ question_error_text kind }
 {
     match kind {
-        QuestionKind::UnknownMap => b"unknown map",
-        QuestionKind::OfText => b"question for a text",
+        QuestionErrorKind::UnknownMap => b"unknown map",
+        QuestionErrorKind::OfText => b"question for a text",
     }
 }
 
 /// The last frame if a question was rejected.
-pub(crate) fn question_end(error: QuestionError) -> End<'static>
-    ensures { end_value result ≡ question_end error }
+pub(crate) fn end_frame_of_rejected_question(error: QuestionError) -> End<'static>
+    ensures { end_frame_as_value result ≡ end_frame_of_rejected_question error }
 {
     End {
         status: 1,
@@ -172,13 +172,13 @@ pub(crate) fn question_end(error: QuestionError) -> End<'static>
         maps: 0,
         line: error.number as u64,
         column: 0,
-        text: question_text(error.kind),
+        text: question_error_text(error.kind),
     }
 }
 
 /// The last frame if memory ran out at a line. Line 0 is before the first statement or after the last.
 pub fn memory_end(line: u64) -> End<'static>
-    ensures { end_value result ≡ memory_end line }
+    ensures { end_frame_as_value result ≡ memory_end line }
 {
     End {
         status: 3,
@@ -191,11 +191,11 @@ pub fn memory_end(line: u64) -> End<'static>
 }
 
 /// Returns the exit status for an error.
-fn error_status(error: PipeError) -> u8
-    ensures { result ≡ error_status error }
+fn exit_status_of_pipe_error(error: PipeError) -> u8
+    ensures { result ≡ exit_status_of_pipe_error error }
 {
     match error {
-        PipeError::Request(error) => request_status(error.kind),
+        PipeError::Request(error) => exit_status_of_request_error(error.kind),
         PipeError::Script(_) => 1,
         PipeError::Question(_) => 1,
         PipeError::Memory => 3,
@@ -206,25 +206,25 @@ fn error_status(error: PipeError) -> u8
 }
 
 /// Returns the exit status of a run.
-pub(crate) fn end_status_after(error: Option<PipeError>) -> u8
-    ensures { result ≡ end_status_after error }
+pub(crate) fn exit_status_of_pipe_run(error: Option<PipeError>) -> u8
+    ensures { result ≡ exit_status_of_pipe_run error }
 {
     match error {
-        Some(error) => error_status(error),
+        Some(error) => exit_status_of_pipe_error(error),
         None => 0,
     }
 }
 
 /// Writes the last frame.
-pub(crate) fn push_end<W: Sink>(out: &mut W, block: &mut OutputBlock, end: &End<'_>)
-    ensures { Appends W.taken W.faults out.old block.old
-        (end_bytes (end_value end.now)) out.new block.new }
+pub(crate) fn push_end_frame<W: Sink>(out: &mut W, block: &mut OutputBlock, end: &End<'_>)
+    ensures { IsTextAppendedThroughBlock W.taken W.faults out.old block.old
+        (run_end_frame_bytes (end_frame_as_value end.now)) out.new block.new }
 {
     block.push(out, b"DONE");
-    push_number(out, block, end.status as u64);
-    push_number(out, block, end.source as u64);
-    push_number(out, block, end.maps as u64);
-    push_number(out, block, end.line);
-    push_number(out, block, end.column as u64);
-    push_text(out, block, end.text);
+    push_eight_byte_number(out, block, end.status as u64);
+    push_eight_byte_number(out, block, end.source as u64);
+    push_eight_byte_number(out, block, end.maps as u64);
+    push_eight_byte_number(out, block, end.line);
+    push_eight_byte_number(out, block, end.column as u64);
+    push_length_and_text(out, block, end.text);
 }

@@ -1,29 +1,29 @@
 //! Executes statements in order: a statement that makes a map puts it on the shelf, and any other writes its frame.
 
 ghost use Rattle.std.specs.Prelude.{◌≡◌, ◌<◌, ◌≤◌, All, length, IfSome, OnOk, OnErr, IfErr};
-ghost use Rattle.cell_core_devices.specs.Blocks.{Appends};
-ghost use Rattle.rcell_script.specs.FittingCommands.{FitsCommand};
-ghost use Rattle.rcell_script.specs.FittingScripts.{Fits};
-ghost use Rattle.rcell.specs.After.{IsShelfAfter};
+ghost use Rattle.cell_core_devices.specs.Blocks.{IsTextAppendedThroughBlock};
+ghost use Rattle.rcell_script.specs.FittingCommands.{CommandFitsKnownMaps};
+ghost use Rattle.rcell_script.specs.FittingScripts.{StatementsFitKnownMaps};
+ghost use Rattle.rcell.specs.After.{IsShelfAfterCommand};
 ghost use Rattle.rcell_pipe_frames.specs.Frames.{command_frames, stats_frame};
 ghost use Rattle.rcell_pipe_frames.specs.FrameBytes.{frame_bytes, frames_bytes};
-ghost use Rattle.rcell_pipe_response.specs.parts.FrameExecution.{HasGiven, StopsFrames};
+ghost use Rattle.rcell_pipe_response.specs.parts.FrameExecution.{AreStatementFramesAppended, IsStoppedFrameExecution};
 
 use cell_core::block::OutputBlock;
 use cell_core::memory::Memory;
 use cell_core::shelf::Shelf;
 use cell_core::sink::Sink;
 use cell_stats::tallying::tally;
-use rcell::making::make_map;
-use rcell_pipe_frames::cells_frame::push_cells_frame;
-use rcell_pipe_frames::map_frame::push_grid;
-use rcell_pipe_frames::table_frame::push_table;
+use rcell::making::add_map_made_by_command;
+use rcell_pipe_frames::cells_frame::push_frame_of_single_cells;
+use rcell_pipe_frames::map_frame::push_grid_frame;
+use rcell_pipe_frames::table_frame::push_table_frame;
 use rcell_script::statement::{Command, Statement, StatsOptions};
 use std::alloc::Global;
 
 /// Why an execution stopped.
 #[derive(Clone, Copy, Debug)]
-pub(crate) enum PipeStop {
+pub(crate) enum FrameExecutionStop {
     /// Memory ran out at the statement of this line.
     Memory { line: u64 },
     /// A write failed.
@@ -31,7 +31,7 @@ pub(crate) enum PipeStop {
 }
 
 // Writes the frame of r.stats. Allocates all memory before it writes the first byte.
-fn push_stats<W: Sink>(
+fn push_stats_frame<W: Sink>(
     alloc: Global,
     shelf: &Shelf,
     line: u64,
@@ -44,17 +44,17 @@ fn push_stats<W: Sink>(
     requires some { 1 ≤ length places.now }
     requires most { length places.now ≤ 16 }
     requires width { IfSome options.now.after (λ k. length k ≡ length places.now) }
-    ensures ok { OnOk result (Appends W.taken W.faults out.old block.old
+    ensures ok { OnOk result (IsTextAppendedThroughBlock W.taken W.faults out.old block.old
         (frame_bytes (stats_frame shelf.now line places.now options.now)) out.new block.new) }
     ensures err { OnErr result ((out.new ≡ out.old) × (block.new ≡ block.old)) }
 {
     if options.cells {
-        return push_cells_frame(alloc, out, block, line, shelf, places, options);
+        return push_frame_of_single_cells(alloc, out, block, line, shelf, places, options);
     }
     let Ok(table) = tally(alloc, shelf, places, options.skip) else {
         return Err(Memory);
     };
-    push_table(out, block, line, shelf, places, &table, options);
+    push_table_frame(out, block, line, shelf, places, &table, options);
     Ok(())
 }
 
@@ -66,10 +66,10 @@ fn execute_statement<W: Sink>(
     block: &mut OutputBlock,
     out: &mut W,
 ) -> Result<(), Memory>
-    requires { FitsCommand shelf.old.names statement.now.command }
-    ensures after { OnOk result (IsShelfAfter shelf.old statement.now.command shelf.new) }
+    requires { CommandFitsKnownMaps shelf.old.names statement.now.command }
+    ensures after { OnOk result (IsShelfAfterCommand shelf.old statement.now.command shelf.new) }
     ensures ok { OnOk result
-        (Appends W.taken W.faults out.old block.old
+        (IsTextAppendedThroughBlock W.taken W.faults out.old block.old
         (frames_bytes (command_frames shelf.old statement.now.line statement.now.command))
         out.new block.new) }
     ensures err { OnErr result ((out.new ≡ out.old) × (block.new ≡ block.old)) }
@@ -78,9 +78,9 @@ fn execute_statement<W: Sink>(
     let line = statement.line;
     match &statement.command {
         Command::Stats { places, options } => {
-            push_stats(alloc, shelf, line, places.as_slice(), options, out, block)
+            push_stats_frame(alloc, shelf, line, places.as_slice(), options, out, block)
         }
-        Command::OutAscii { place, null_text } => push_grid(
+        Command::OutAscii { place, null_text } => push_grid_frame(
             alloc,
             out,
             block,
@@ -89,9 +89,9 @@ fn execute_statement<W: Sink>(
             shelf.name(*place).bytes(),
             shelf.map(*place),
         ),
-        Command::Mapcalc { .. } => make_map(alloc, shelf, &statement.command),
-        Command::Reclass { .. } => make_map(alloc, shelf, &statement.command),
-        Command::Clump { .. } => make_map(alloc, shelf, &statement.command),
+        Command::Mapcalc { .. } => add_map_made_by_command(alloc, shelf, &statement.command),
+        Command::Reclass { .. } => add_map_made_by_command(alloc, shelf, &statement.command),
+        Command::Clump { .. } => add_map_made_by_command(alloc, shelf, &statement.command),
     }
 }
 
@@ -99,33 +99,34 @@ fn execute_statement<W: Sink>(
 ///
 /// # Errors
 ///
-/// Returns [`PipeStop::Memory`] with the line of the first statement for which memory ran out, and which has written
-/// nothing, or [`PipeStop::Write`] if the sink fails.
-pub(crate) fn execute<W: Sink>(
+/// Returns [`FrameExecutionStop::Memory`] with the line of the first statement for which memory ran out, and which has written
+/// nothing, or [`FrameExecutionStop::Write`] if the sink fails.
+pub(crate) fn execute_statements_into_frames<W: Sink>(
     alloc: Global,
     shelf: &mut Shelf,
     statements: &[Statement],
     block: &mut OutputBlock,
     out: &mut W,
-) -> Result<(), PipeStop>
-    requires { Fits shelf.old.names statements.now }
-    ensures ok { OnOk result (HasGiven W.taken W.faults shelf.old statements.now out.old block.old
+) -> Result<(), FrameExecutionStop>
+    requires { StatementsFitKnownMaps shelf.old.names statements.now }
+    ensures ok { OnOk result (AreStatementFramesAppended W.taken W.faults shelf.old statements.now
+        out.old block.old
         out.new block.new shelf.new) }
     ensures err { IfErr result
-        (StopsFrames W.taken W.faults shelf.old statements.now out.old block.old
+        (IsStoppedFrameExecution W.taken W.faults shelf.old statements.now out.old block.old
         out.new block.new) }
 {
     for statement in statements {
         match execute_statement(alloc, shelf, statement, block, out) {
             Ok(()) => block.empty(out),
             Err(_) => {
-                return Err(PipeStop::Memory {
+                return Err(FrameExecutionStop::Memory {
                     line: statement.line,
                 });
             }
         }
         if block.has_failed() {
-            return Err(PipeStop::Write);
+            return Err(FrameExecutionStop::Write);
         }
     }
     Ok(())

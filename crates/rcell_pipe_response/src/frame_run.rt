@@ -2,38 +2,39 @@
 
 ghost use Rattle.std.specs.Prelude.{ℕ, ◌≡◌, List, [], ◌++◌, length, false, Option, Some, None, Result, Ok, IfOk};
 ghost use Rattle.std.specs.String.{string_bytes};
-ghost use Rattle.cell_core_devices.specs.Device.{Faults, append_known};
-ghost use Rattle.cell_core_devices.specs.Blocks.{capped_count, Appended};
+ghost use Rattle.cell_core_devices.specs.Device.{SinkFaults, append_if_known};
+ghost use Rattle.cell_core_devices.specs.Blocks.{capped_byte_count, IsTextAppendedToSink};
 ghost use Rattle.cell_core.specs.Shelf.{ShelfValue};
-ghost use Rattle.rcell_script.specs.FittingScripts.{Fits};
+ghost use Rattle.rcell_script.specs.FittingScripts.{StatementsFitKnownMaps};
 ghost use Rattle.rcell_script.specs.Scripts.{IsScript};
 ghost use Rattle.rcell_script.specs.declared.statement.Statement.{Statement};
-ghost use Rattle.rcell_script.specs.ScriptTexts.{kind_text};
+ghost use Rattle.rcell_script.specs.ScriptTexts.{script_error_text};
 ghost use Rattle.rcell_pipe_request.specs.declared.error.RequestError.{RequestError};
-ghost use Rattle.rcell_pipe_request.specs.Requests.{RunRequestValue, run_request_value};
-ghost use Rattle.rcell_pipe_request.specs.Questions.{QuestionValue, question_values};
-ghost use Rattle.rcell_pipe_response.specs.declared.frame_run.RunForm.TheVariants.{Frames, Text};
-ghost use Rattle.rcell_pipe_frames.specs.Frames.{OutputFrame, GivesFrames};
-ghost use Rattle.rcell_pipe_frames.specs.FrameBytes.{response_magic, frames_bytes, response_bytes, end_bytes};
-ghost use Rattle.rcell_pipe_response.specs.QuestionFrames.{all_names, first_fault};
-ghost use Rattle.rcell_pipe_response.specs.RunEnds.{end_status_after, IsPipeAccepted, IsResponse, end_value};
-ghost use Rattle.rcell_pipe_response.specs.FrameEndings.{error_after, Finished, Rejected, EndsAs};
-ghost use Rattle.rcell_pipe_response.specs.parts.Flushed.{IsFlushed};
+ghost use Rattle.rcell_pipe_request.specs.Requests.{RunRequestValue, run_request_as_value};
+ghost use Rattle.rcell_pipe_request.specs.Questions.{PatchQuestionValue, questions_as_values};
+ghost use Rattle.rcell_pipe_response.specs.declared.frame_run.ResponseForm.TheVariants.{Frames, Text};
+ghost use Rattle.rcell_pipe_frames.specs.Frames.{OutputFrame, StatementsGiveFrames};
+ghost use Rattle.rcell_pipe_frames.specs.FrameBytes.{response_magic, frames_bytes, response_bytes, run_end_frame_bytes};
+ghost use Rattle.rcell_pipe_response.specs.QuestionFrames.{names_of_all_maps, first_question_error};
+ghost use Rattle.rcell_pipe_response.specs.RunEnds.{exit_status_of_pipe_run, IsRunRequestAccepted, IsResponseToRunRequest, end_frame_as_value};
+ghost use Rattle.rcell_pipe_response.specs.FrameEndings.{run_error_with_sink_state, IsTextSentWithOutcome, Rejected, IsEndOfResponseSent};
+ghost use Rattle.rcell_pipe_response.specs.parts.Flushed.{IsSinkFlushedOnce};
 
-use crate::answers::{AnswerStop, answer_all};
+use crate::answers::{AnswerWritingStop, push_frames_for_all_questions};
 use crate::end::{
-    End, PipeError, done_end, end_status_after, is_memory, memory_end, push_end, question_end,
-    script_end,
+    End, PipeError, end_frame_of_rejected_question, end_frame_of_rejected_script,
+    end_frame_of_successful_run, exit_status_of_pipe_run, is_memory_error, memory_end,
+    push_end_frame,
 };
-use crate::frame_execution::{PipeStop, execute};
-use crate::made_names::all_names;
-use crate::question_error::first_fault;
+use crate::frame_execution::{FrameExecutionStop, execute_statements_into_frames};
+use crate::made_names::names_of_all_maps;
+use crate::question_error::first_question_error;
 use cell_core::block::OutputBlock;
 use cell_core::name::Names;
 use cell_core::shelf::Shelf;
 use cell_core::sink::Sink;
-use rcell::execution::{RunStop, execute as execute_as_text};
-use rcell::loading::shelf_names;
+use rcell::execution::{ExecutionStopReason, execute as execute_as_text};
+use rcell::loading::map_names_on_shelf;
 use rcell_pipe_request::question::Question;
 use rcell_pipe_request::request::Request;
 use rcell_script::script_fault::{ScriptFault, ScriptKind};
@@ -43,7 +44,7 @@ use std::alloc::{AllocError, Global};
 
 /// The form of a run's response.
 #[derive(Clone, Copy, Debug, PartialEq, Eq)]
-pub enum RunForm {
+pub enum ResponseForm {
     /// A frame for each statement that writes, a frame for each question, and a last frame.
     Frames,
     /// The text that `rcell` writes for the same maps and script.
@@ -66,7 +67,7 @@ pub struct PipeOutcome {
 
 /// The state of the sink after a response.
 #[derive(Clone, Copy, Debug, PartialEq, Eq)]
-pub enum Sending {
+pub enum SinkState {
     /// All bytes were written, and the sink was flushed.
     Flushed,
     /// All bytes were written, but the flush failed.
@@ -76,40 +77,44 @@ pub enum Sending {
 }
 
 // Flushes the sink.
-fn flush_sink<W: Sink>(out: &mut W) -> Sending
+fn flush_sink<W: Sink>(out: &mut W) -> SinkState
     ensures taken { W.taken out.new ≡ W.taken out.old }
-    ensures faults { IsFlushed result (W.faults out.old) (W.faults out.new) }
+    ensures faults { IsSinkFlushedOnce result (W.faults out.old) (W.faults out.new) }
 {
     match out.flush() {
-        Ok(()) => Sending::Flushed,
-        Err(_) => Sending::Unflushed,
+        Ok(()) => SinkState::Flushed,
+        Err(_) => SinkState::Unflushed,
     }
 }
 
 // Flushes the sink after the block has been emptied.
-fn flush_after<W: Sink>(out: &mut W, block: &OutputBlock) -> Sending
+fn flush_after_block<W: Sink>(out: &mut W, block: &OutputBlock) -> SinkState
     requires good { block.now.failed ≡ false }
     requires held { block.now.held ≡ [] }
     ensures taken { W.taken out.new ≡ W.taken out.old }
-    ensures faults { IsFlushed result (W.faults out.old) (W.faults out.new) }
+    ensures faults { IsSinkFlushedOnce result (W.faults out.old) (W.faults out.new) }
 {
     flush_sink(out)
 }
 
 // Builds the outcome of a complete response from the error that it reports, if any.
-fn outcome_of(reported: Option<PipeError>, sending: Sending, written: u64) -> PipeOutcome
+fn outcome_of_full_response(
+    reported: Option<PipeError>,
+    sending: SinkState,
+    written: u64,
+) -> PipeOutcome
     ensures reported { result.reported ≡ reported }
-    ensures error { result.error ≡ error_after reported sending }
-    ensures status { result.status ≡ end_status_after result.error }
+    ensures error { result.error ≡ run_error_with_sink_state reported sending }
+    ensures status { result.status ≡ exit_status_of_pipe_run result.error }
     ensures written { result.written ≡ written }
 {
     let error = match sending {
-        Sending::Flushed => reported,
-        Sending::Unflushed => Some(PipeError::Write),
-        Sending::Refused => Some(PipeError::Write),
+        SinkState::Flushed => reported,
+        SinkState::Unflushed => Some(PipeError::Write),
+        SinkState::Refused => Some(PipeError::Write),
     };
     PipeOutcome {
-        status: end_status_after(error),
+        status: exit_status_of_pipe_run(error),
         error,
         reported,
         written,
@@ -117,38 +122,38 @@ fn outcome_of(reported: Option<PipeError>, sending: Sending, written: u64) -> Pi
 }
 
 // Builds the outcome of a response that was cut short by a failed write.
-fn cut_short(written: u64) -> PipeOutcome
+fn outcome_after_failed_write(written: u64) -> PipeOutcome
     ensures reported { result.reported ≡ Some PipeError.Write }
     ensures error { result.error ≡ Some PipeError.Write }
-    ensures status { result.status ≡ end_status_after result.error }
+    ensures status { result.status ≡ exit_status_of_pipe_run result.error }
     ensures written { result.written ≡ written }
 {
-    outcome_of(Some(PipeError::Write), Sending::Refused, written)
+    outcome_of_full_response(Some(PipeError::Write), SinkState::Refused, written)
 }
 
 /// Writes the last frame, and flushes the sink unless a write failed.
-pub fn end_response<W: Sink>(
+pub fn end_response_and_flush<W: Sink>(
     out: &mut W,
     mut block: OutputBlock,
     reported: Option<PipeError>,
     end: &End<'_>,
 ) -> PipeOutcome
-    ensures { (before : Option (List ℕ)) (start : Faults) (text : List ℕ)
-        → Appended before start text (W.taken out.old) (W.faults out.old) block
-        → Finished before start (W.taken out.new) (W.faults out.new) reported
-        (text ++ end_bytes (end_value end.now)) result }
+    ensures { (before : Option (List ℕ)) (start : SinkFaults) (text : List ℕ)
+        → IsTextAppendedToSink before start text (W.taken out.old) (W.faults out.old) block
+        → IsTextSentWithOutcome before start (W.taken out.new) (W.faults out.new) reported
+        (text ++ run_end_frame_bytes (end_frame_as_value end.now)) result }
 {
-    push_end(out, &mut block, end);
+    push_end_frame(out, &mut block, end);
     block.empty(out);
     if block.has_failed() {
-        return outcome_of(reported, Sending::Refused, block.written());
+        return outcome_of_full_response(reported, SinkState::Refused, block.written());
     }
-    outcome_of(reported, flush_after(out, &block), block.written())
+    outcome_of_full_response(reported, flush_after_block(out, &block), block.written())
 }
 
 /// Writes the first eight bytes of a response to a new block.
 pub fn begin_response<W: Sink>(out: &mut W) -> OutputBlock
-    ensures { Appended (W.taken out.old) (W.faults out.old) response_magic
+    ensures { IsTextAppendedToSink (W.taken out.old) (W.faults out.old) response_magic
         (W.taken out.new) (W.faults out.new) result }
 {
     let mut block = OutputBlock::new();
@@ -158,16 +163,17 @@ pub fn begin_response<W: Sink>(out: &mut W) -> OutputBlock
 
 /// Writes a response that contains only the last frame.
 pub fn reject<W: Sink>(out: &mut W, error: PipeError, end: &End<'_>) -> PipeOutcome
-    ensures { Finished (W.taken out.old) (W.faults out.old) (W.taken out.new) (W.faults out.new)
-        (Some error) (response_bytes [] (end_value end.now)) result }
+    ensures { IsTextSentWithOutcome (W.taken out.old) (W.faults out.old) (W.taken out.new)
+        (W.faults out.new)
+        (Some error) (response_bytes [] (end_frame_as_value end.now)) result }
 {
     let block = begin_response(out);
-    end_response(out, block, Some(error), end)
+    end_response_and_flush(out, block, Some(error), end)
 }
 
 // Formats the error of a script.
-fn script_text(alloc: Global, kind: ScriptKind) -> Result<String, AllocError>
-    ensures { IfOk result (λ text. string_bytes text ≡ kind_text kind) }
+fn formatted_script_error(alloc: Global, kind: ScriptKind) -> Result<String, AllocError>
+    ensures { IfOk result (λ text. string_bytes text ≡ script_error_text kind) }
 {
     format!(in alloc; "{kind}")
 }
@@ -177,11 +183,11 @@ pub fn reject_script<W: Sink>(alloc: Global, out: &mut W, error: ScriptFault) ->
     ensures { Rejected (W.taken out.old) (W.faults out.old) (W.taken out.new) (W.faults out.new)
         error result }
 {
-    match script_text(alloc, error.kind) {
+    match formatted_script_error(alloc, error.kind) {
         Ok(text) => reject(
             out,
             PipeError::Script(error),
-            &script_end(error, text.as_bytes()),
+            &end_frame_of_rejected_script(error, text.as_bytes()),
         ),
         Err(_) => reject(out, PipeError::Memory, &memory_end(0)),
     }
@@ -195,91 +201,103 @@ fn answer_questions<W: Sink>(
     mut block: OutputBlock,
     out: &mut W,
 ) -> PipeOutcome
-    requires { first_fault Frames shelf.now.names (question_values questions.now) ≡ None }
-    ensures { (before : Option (List ℕ)) (start : Faults)
+    requires { first_question_error Frames shelf.now.names (questions_as_values questions.now)
+        ≡ None }
+    ensures { (before : Option (List ℕ)) (start : SinkFaults)
         (read : Result RunRequestValue RequestError)
         (given : ShelfValue) (statements : List Statement) (frames : List OutputFrame)
-        → IsPipeAccepted Frames read given statements (question_values questions.now)
-        → GivesFrames given statements frames shelf.now
-        → Appended before start (response_magic ++ frames_bytes frames) (W.taken out.old)
+        → IsRunRequestAccepted Frames read given statements (questions_as_values questions.now)
+        → StatementsGiveFrames given statements frames shelf.now
+        → IsTextAppendedToSink before start (response_magic
+        ++ frames_bytes frames) (W.taken out.old)
         (W.faults out.old) block
-        → EndsAs (IsResponse Frames read) before start (W.taken out.new) (W.faults out.new) result }
+        → IsEndOfResponseSent (IsResponseToRunRequest Frames read) before start (W.taken out.new)
+        (W.faults out.new) result }
 {
-    match answer_all(alloc, shelf, questions, &mut block, out) {
-        Ok(()) => end_response(out, block, None, &done_end()),
+    match push_frames_for_all_questions(alloc, shelf, questions, &mut block, out) {
+        Ok(()) => end_response_and_flush(out, block, None, &end_frame_of_successful_run()),
         Err(stop) => match stop {
-            AnswerStop::Memory => end_response(
+            AnswerWritingStop::Memory => end_response_and_flush(
                 out,
                 block,
                 Some(PipeError::MemoryAtQuestion),
                 &memory_end(0),
             ),
-            AnswerStop::Write => cut_short(block.written()),
+            AnswerWritingStop::Write => outcome_after_failed_write(block.written()),
         },
     }
 }
 
 // Runs statements over the maps on a shelf, and writes their frames and the frames of the questions.
-fn run_statements<W: Sink>(
+fn run_statements_and_questions<W: Sink>(
     alloc: Global,
     mut shelf: Shelf,
     script: &Script,
     questions: &[Question],
     out: &mut W,
 ) -> PipeOutcome
-    requires fits { Fits shelf.names script.now }
-    requires known { first_fault Frames (all_names shelf.names script.now)
-        (question_values questions.now) ≡ None }
+    requires fits { StatementsFitKnownMaps shelf.names script.now }
+    requires known { first_question_error Frames (names_of_all_maps shelf.names script.now)
+        (questions_as_values questions.now) ≡ None }
     ensures { (read : Result RunRequestValue RequestError)
-        → IsPipeAccepted Frames read shelf script.now (question_values questions.now)
-        → EndsAs (IsResponse Frames read) (W.taken out.old) (W.faults out.old) (W.taken out.new)
+        → IsRunRequestAccepted Frames read shelf script.now (questions_as_values questions.now)
+        → IsEndOfResponseSent (IsResponseToRunRequest Frames read) (W.taken out.old)
+        (W.faults out.old)
+        (W.taken out.new)
         (W.faults out.new) result }
 {
     let mut block = begin_response(out);
-    match execute(alloc, &mut shelf, script.statements(), &mut block, out) {
+    match execute_statements_into_frames(alloc, &mut shelf, script.statements(), &mut block, out) {
         Ok(()) => answer_questions(alloc, &shelf, questions, block, out),
         Err(stop) => match stop {
-            PipeStop::Memory { line } => end_response(
+            FrameExecutionStop::Memory { line } => end_response_and_flush(
                 out,
                 block,
                 Some(PipeError::MemoryAt { line }),
                 &memory_end(line),
             ),
-            PipeStop::Write => cut_short(block.written()),
+            FrameExecutionStop::Write => outcome_after_failed_write(block.written()),
         },
     }
 }
 
 // Flushes the sink after a text of `written` bytes.
-fn end_text<W: Sink>(out: &mut W, reported: Option<PipeError>, written: u64) -> PipeOutcome
+fn flush_sink_after_text<W: Sink>(
+    out: &mut W,
+    reported: Option<PipeError>,
+    written: u64,
+) -> PipeOutcome
     ensures { (before : Option (List ℕ)) (text : List ℕ)
-        → W.taken out.old ≡ append_known before text → written ≡ capped_count (length text)
-        → Finished before (W.faults out.old) (W.taken out.new) (W.faults out.new) reported text
+        → W.taken out.old ≡ append_if_known before text → written ≡ capped_byte_count (length text)
+        → IsTextSentWithOutcome before (W.faults out.old) (W.taken out.new)
+        (W.faults out.new) reported text
         result }
 {
-    outcome_of(reported, flush_sink(out), written)
+    outcome_of_full_response(reported, flush_sink(out), written)
 }
 
 // Runs statements over the maps on a shelf, and writes their output as text. There are no questions.
-fn print_statements<W: Sink>(
+fn run_statements_as_text<W: Sink>(
     alloc: Global,
     mut shelf: Shelf,
     script: &Script,
     out: &mut W,
 ) -> PipeOutcome
-    requires { Fits shelf.names script.now }
-    ensures { (read : Result RunRequestValue RequestError) (questions : List QuestionValue)
-        → IsPipeAccepted Text read shelf script.now questions
-        → EndsAs (IsResponse Text read) (W.taken out.old) (W.faults out.old) (W.taken out.new)
+    requires { StatementsFitKnownMaps shelf.names script.now }
+    ensures { (read : Result RunRequestValue RequestError) (questions : List PatchQuestionValue)
+        → IsRunRequestAccepted Text read shelf script.now questions
+        → IsEndOfResponseSent (IsResponseToRunRequest Text read) (W.taken out.old)
+        (W.faults out.old)
+        (W.taken out.new)
         (W.faults out.new) result }
 {
     match execute_as_text(alloc, &mut shelf, script.statements(), out) {
-        Ok(written) => end_text(out, None, written),
+        Ok(written) => flush_sink_after_text(out, None, written),
         Err(stopped) => match stopped.stop {
-            RunStop::Memory { line } => {
-                end_text(out, Some(PipeError::MemoryAt { line }), stopped.written)
+            ExecutionStopReason::Memory { line } => {
+                flush_sink_after_text(out, Some(PipeError::MemoryAt { line }), stopped.written)
             }
-            RunStop::Write => cut_short(stopped.written),
+            ExecutionStopReason::Write => outcome_after_failed_write(stopped.written),
         },
     }
 }
@@ -291,26 +309,32 @@ fn run_script<W: Sink>(
     names: Names,
     script: &Script,
     questions: &[Question],
-    form: RunForm,
+    form: ResponseForm,
     out: &mut W,
 ) -> PipeOutcome
     requires same { names ≡ shelf.names }
-    requires fits { Fits names script.now }
+    requires fits { StatementsFitKnownMaps names script.now }
     ensures { (text : List ℕ) → IsScript shelf.names text script.now
-        → EndsAs (IsResponse form (Ok (record {
+        → IsEndOfResponseSent (IsResponseToRunRequest form (Ok (record {
           shelf = shelf;
           script = text;
-          questions = question_values questions.now;
+          questions = questions_as_values questions.now;
         }))) (W.taken out.old) (W.faults out.old) (W.taken out.new) (W.faults out.new) result }
 {
-    let Ok(all) = all_names(alloc, names, script.statements()) else {
+    let Ok(all) = names_of_all_maps(alloc, names, script.statements()) else {
         return reject(out, PipeError::Memory, &memory_end(0));
     };
-    match first_fault(form, &all, questions) {
-        Some(error) => reject(out, PipeError::Question(error), &question_end(error)),
+    match first_question_error(form, &all, questions) {
+        Some(error) => reject(
+            out,
+            PipeError::Question(error),
+            &end_frame_of_rejected_question(error),
+        ),
         None => match form {
-            RunForm::Frames => run_statements(alloc, shelf, script, questions, out),
-            RunForm::Text => print_statements(alloc, shelf, script, out),
+            ResponseForm::Frames => run_statements_and_questions(
+                alloc, shelf, script, questions, out,
+            ),
+            ResponseForm::Text => run_statements_as_text(alloc, shelf, script, out),
         },
     }
 }
@@ -319,10 +343,11 @@ fn run_script<W: Sink>(
 pub fn run_request<W: Sink>(
     alloc: Global,
     request: Request,
-    form: RunForm,
+    form: ResponseForm,
     out: &mut W,
 ) -> PipeOutcome
-    ensures { EndsAs (IsResponse form (Ok (run_request_value request))) (W.taken out.old)
+    ensures { IsEndOfResponseSent (IsResponseToRunRequest form (Ok (run_request_as_value request)))
+        (W.taken out.old)
         (W.faults out.old) (W.taken out.new) (W.faults out.new) result }
 {
     let Request {
@@ -330,7 +355,7 @@ pub fn run_request<W: Sink>(
         script,
         questions,
     } = request;
-    let Ok(names) = shelf_names(alloc, &shelf) else {
+    let Ok(names) = map_names_on_shelf(alloc, &shelf) else {
         return reject(out, PipeError::Memory, &memory_end(0));
     };
     match parse_script(alloc, &script, &names) {
@@ -344,7 +369,7 @@ pub fn run_request<W: Sink>(
             out,
         ),
         Err(error) => {
-            if is_memory(error.kind) {
+            if is_memory_error(error.kind) {
                 reject(out, PipeError::Memory, &memory_end(0))
             } else {
                 reject_script(alloc, out, error)

@@ -1,10 +1,10 @@
 //! Collects the names of all maps of a script.
 
 ghost use Rattle.std.specs.Prelude.{◌≡◌, IfOk, OnOk};
-ghost use Rattle.rcell_script.specs.FittingCommands.{FitsCommand};
-ghost use Rattle.rcell_script.specs.FittingScripts.{Fits};
-ghost use Rattle.rcell_script.specs.KnownMaps.{known_after};
-ghost use Rattle.rcell_pipe_response.specs.QuestionFrames.{all_names};
+ghost use Rattle.rcell_script.specs.FittingCommands.{CommandFitsKnownMaps};
+ghost use Rattle.rcell_script.specs.FittingScripts.{StatementsFitKnownMaps};
+ghost use Rattle.rcell_script.specs.KnownMaps.{known_names_after_command};
+ghost use Rattle.rcell_pipe_response.specs.QuestionFrames.{names_of_all_maps};
 
 use cell_core::memory::Memory;
 use cell_core::name::Names;
@@ -12,9 +12,9 @@ use rcell_script::statement::{Command, Statement};
 use std::alloc::Global;
 
 // Adds the name of the map that a command makes, if it makes one.
-fn push_made(alloc: Global, names: &mut Names, command: &Command) -> Result<(), Memory>
-    requires { FitsCommand names.old command.now }
-    ensures { OnOk result (names.new ≡ known_after names.old command.now) }
+fn push_made_map_name(alloc: Global, names: &mut Names, command: &Command) -> Result<(), Memory>
+    requires { CommandFitsKnownMaps names.old command.now }
+    ensures { OnOk result (names.new ≡ known_names_after_command names.old command.now) }
 {
     match command {
         Command::Mapcalc { target, .. } => {
@@ -38,12 +38,16 @@ fn push_made(alloc: Global, names: &mut Names, command: &Command) -> Result<(), 
 /// # Errors
 ///
 /// Returns [`Memory`] if memory runs out.
-pub fn all_names(alloc: Global, mut names: Names, statements: &[Statement]) -> Result<Names, Memory>
-    requires { Fits names statements.now }
-    ensures { IfOk result (λ all. all ≡ all_names names statements.now) }
+pub fn names_of_all_maps(
+    alloc: Global,
+    mut names: Names,
+    statements: &[Statement],
+) -> Result<Names, Memory>
+    requires { StatementsFitKnownMaps names statements.now }
+    ensures { IfOk result (λ all. all ≡ names_of_all_maps names statements.now) }
 {
     for statement in statements {
-        push_made(alloc, &mut names, &statement.command)?;
+        push_made_map_name(alloc, &mut names, &statement.command)?;
     }
     Ok(names)
 }

@@ -1,16 +1,16 @@
 //! Errors of questions, which are checked after the script has been accepted.
 
 ghost use Rattle.std.specs.Prelude.{◌≡◌};
-ghost use Rattle.rcell_pipe_response.specs.QuestionFrames.{has_unknown_zones, question_fault, first_fault};
-ghost use Rattle.rcell_pipe_request.specs.Questions.{question_value, question_values};
+ghost use Rattle.rcell_pipe_response.specs.QuestionFrames.{question_has_unknown_zone_map, question_error_kind_if_rejected, first_question_error};
+ghost use Rattle.rcell_pipe_request.specs.Questions.{question_as_value, questions_as_values};
 
-use crate::frame_run::RunForm;
+use crate::frame_run::ResponseForm;
 use cell_core::name::{Name, Names};
 use rcell_pipe_request::question::Question;
 
 /// What is wrong with a question.
 #[derive(Clone, Copy, Debug, PartialEq, Eq)]
-pub enum QuestionKind {
+pub enum QuestionErrorKind {
     /// No map has this name at the end of the script.
     UnknownMap,
     /// The response is text, which cannot contain the frames of questions.
@@ -20,13 +20,13 @@ pub enum QuestionKind {
 /// An error, and the number of its question, from 1.
 #[derive(Clone, Copy, Debug, PartialEq, Eq)]
 pub struct QuestionError {
-    pub kind: QuestionKind,
+    pub kind: QuestionErrorKind,
     pub number: u32,
 }
 
 // Returns whether a question's map of zones is none of the maps with these names.
-fn has_unknown_zones(names: &Names, zones: &Option<Name>) -> bool
-    ensures { result ≡ has_unknown_zones names.now zones.now }
+fn question_has_unknown_zone_map(names: &Names, zones: &Option<Name>) -> bool
+    ensures { result ≡ question_has_unknown_zone_map names.now zones.now }
 {
     match zones {
         Some(name) => names.find(name.bytes()).is_none(),
@@ -35,14 +35,21 @@ fn has_unknown_zones(names: &Names, zones: &Option<Name>) -> bool
 }
 
 // Returns why a question is rejected, if it is. `names` contains the names of all maps.
-fn question_fault(form: RunForm, names: &Names, question: &Question) -> Option<QuestionKind>
-    ensures { result ≡ question_fault form names.now (question_value question.now) }
+fn question_error_kind_if_rejected(
+    form: ResponseForm,
+    names: &Names,
+    question: &Question,
+) -> Option<QuestionErrorKind>
+    ensures { result ≡ question_error_kind_if_rejected form names.now
+        (question_as_value question.now) }
 {
     match form {
-        RunForm::Text => Some(QuestionKind::OfText),
-        RunForm::Frames => {
-            if names.find(&question.map).is_none() || has_unknown_zones(names, &question.zones) {
-                Some(QuestionKind::UnknownMap)
+        ResponseForm::Text => Some(QuestionErrorKind::OfText),
+        ResponseForm::Frames => {
+            if names.find(&question.map).is_none()
+                || question_has_unknown_zone_map(names, &question.zones)
+            {
+                Some(QuestionErrorKind::UnknownMap)
             } else {
                 None
             }
@@ -51,15 +58,15 @@ fn question_fault(form: RunForm, names: &Names, question: &Question) -> Option<Q
 }
 
 /// Returns the error of the first question that is rejected. `names` contains the names of all maps.
-pub(crate) fn first_fault(
-    form: RunForm,
+pub(crate) fn first_question_error(
+    form: ResponseForm,
     names: &Names,
     questions: &[Question],
 ) -> Option<QuestionError>
-    ensures { result ≡ first_fault form names.now (question_values questions.now) }
+    ensures { result ≡ first_question_error form names.now (questions_as_values questions.now) }
 {
     for question in questions {
-        if let Some(kind) = question_fault(form, names, question) {
+        if let Some(kind) = question_error_kind_if_rejected(form, names, question) {
             return Some(QuestionError {
                 kind,
                 number: question.number,

@@ -7,12 +7,12 @@ use Rattle.std.specs.declared.cmp.Ordering.{Ordering}
 use Rattle.std.specs.declared.cmp.Ordering.TheVariants.{Less, Equal}
 use Rattle.std.proofs.lemmas.List.{map-append}
 use Rattle.cell_core.specs.Grid.{CellValue}
-use Rattle.cell_core_values.specs.Cell.{cell_cmp, cell_eq}
+use Rattle.cell_core_values.specs.Cell.{compare_cells_null_last, cell_eq}
 use Rattle.cell_calc_language.specs.Applied.{grid_position}
-use Rattle.cell_stats_combinations.specs.Combinations.{Combination, combination_cmp, combination_at}
-use Rattle.cell_stats_counts.specs.Counts.{count_of}
+use Rattle.cell_stats_combinations.specs.Combinations.{Combination, combination_cmp, combination_at_row_and_column}
+use Rattle.cell_stats_counts.specs.Counts.{cell_count_of_combination}
 use Rattle.cell_stats.proofs.TableLemmas.{count_cons}
-use Rattle.rcell_plan.specs.LocalLaw.{cells_alone, cells_of_shelf, CountsFollow}
+use Rattle.rcell_plan.specs.LocalLaw.{cells_as_combinations, combinations_of_picked_maps, ValueCountSumsCombinations}
 use Rattle.rcell_plan.proofs.TallyLemmas.{table-counts}
 use Rattle.cell_join_numbers.proofs.SumLemmas.{sum-cons}
 
@@ -43,30 +43,32 @@ module _ (g : Combination → Combination) (made given : ℕ → ℕ → Combina
 -- ---- counts of one map
 
 one-eq : (v w : CellValue) → eq_by_cmp combination_cmp (v ∷ []) (w ∷ []) ≡ cell_eq v w
-one-eq v w = by (cell_cmp v w)
+one-eq v w = by (compare_cells_null_last v w)
   where
     by : (o : Ordering) → is_eq (ordering_then o Equal) ≡ is_eq o
     by Less = refl
     by _ = refl
 
 count-mapped : (given : Combination → CellValue) (v : CellValue) (cells : List Combination)
-    → count_of (v ∷ []) (map (λ k. given k ∷ []) cells) ≡ count_by (λ k. cell_eq v (given k)) cells
+    → cell_count_of_combination (v ∷ []) (map (λ k. given k ∷ []) cells) ≡ count_by (λ k. cell_eq v (given k)) cells
 count-mapped given v [] = refl
 count-mapped given v (k ∷ cells) =
     count_cons (v ∷ []) (given k ∷ []) (map (λ k. given k ∷ []) cells)
-    ∙ ap (λ b. cond b 1 0 + count_of (v ∷ []) (map (λ k. given k ∷ []) cells)) (one-eq v (given k))
+    ∙ ap (λ b. cond b 1 0 + cell_count_of_combination (v ∷ []) (map (λ k. given k ∷ []) cells)) (one-eq v (given k))
     ∙ ap (λ n. cond (cell_eq v (given k)) 1 0 + n) (count-mapped given v cells)
     ∙ sym (sum-cons (λ (k : Combination). cond (cell_eq v (given k)) 1 0) k cells)
 
-pub counts-follow : CountsFollow
+pub counts-follow : ValueCountSumsCombinations
 counts-follow f picks given gives shelf x are v =
     let rows = shelf.region.rows in
     let cols = shelf.region.cols in
-    let old = combination_at shelf.maps picks in
-    let cells : cells_alone shelf.region x ≡ map (λ k. given k ∷ []) (cells_of_shelf shelf picks) =
-    all-mapped (λ k. given k ∷ []) (combination_at (x ∷ []) (0 ∷ [])) old cols 0 rows (λ row col row_lt col_lt.
+    let old = combination_at_row_and_column shelf.maps picks in
+    let cells : cells_as_combinations shelf.region x ≡ map (λ k. given k
+    ∷ []) (combinations_of_picked_maps shelf picks) =
+    all-mapped (λ k. given k ∷ []) (combination_at_row_and_column (x ∷ []) (0 ∷ [])) old cols 0 rows
+    (λ row col row_lt col_lt.
     let value = are.cells row col (omega (arith, row_lt)) col_lt ∙ gives shelf.maps (grid_position shelf.region row col) in
     ap (λ (c : CellValue). c ∷ []) value) in
-    ap (count_of (v ∷ [])) cells
-    ∙ count-mapped given v (cells_of_shelf shelf picks)
-    ∙ sym (table-counts (λ k. cell_eq v (given k)) (cells_of_shelf shelf picks))
+    ap (cell_count_of_combination (v ∷ [])) cells
+    ∙ count-mapped given v (combinations_of_picked_maps shelf picks)
+    ∙ sym (table-counts (λ k. cell_eq v (given k)) (combinations_of_picked_maps shelf picks))

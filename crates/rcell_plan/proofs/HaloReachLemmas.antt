@@ -3,22 +3,27 @@ use Rattle.std.proofs.Common.{◌+◌, ◌-◌, ◌<◌, ◌≤◌, max, min, co
 use Rattle.std.specs.Prelude.{◌≡◌, ℕ, ◌⊎◌, Bool, true, false, List, All}
 use Rattle.std.proofs.lemmas.Bool.{cases_lt}
 use Rattle.cell_core_values.specs.Region.{RegionValue}
-use Rattle.cell_core.specs.Grid.{Grid, IsFilled}
-use Rattle.cell_calc_language.specs.Applied.{GridPosition, grid_position}
-use Rattle.cell_calc_language.specs.Grammatical.{up_by, down_by}
+use Rattle.cell_core.specs.Grid.{Grid, RowsFillRegion}
+use Rattle.cell_calc_language.specs.Applied.{PositionAndGridSize, grid_position}
+use Rattle.cell_calc_language.specs.Grammatical.{cell_count_up_or_left, cell_count_down_or_right}
 use Rattle.cell_calc_language.specs.Formula as formula
-use Rattle.cell_calc_language.specs.Formula.{Formula, Formulas}
-use Rattle.cell_calc_language.specs.Reach.{up_of, down_of, up_of_all, down_of_all}
+use Rattle.cell_calc_language.specs.Formula.{Formula, ArgumentFormulas}
+use Rattle.cell_calc_language.specs.Reach.{rows_read_above_by_formula, rows_read_below_by_formula}
+use Rattle.cell_calc_language.specs.Reach.{rows_read_above_by_formulas, rows_read_below_by_formulas}
 use Rattle.cell_calc_language.specs.Value.{value}
-use Rattle.rcell_plan.specs.HaloParts.{left_of, right_of, left_of_all, right_of_all, ReadsWithin, value_seen_from}
-use Rattle.rcell_plan.specs.HaloParts.{calls, asks_rows, asks_cols}
-use Rattle.cell_join_numbers.specs.Parts.{Rectangle, AreCutOut}
+use Rattle.rcell_plan.specs.HaloParts.{columns_read_left_by_formula, columns_read_right_by_formula}
+use Rattle.rcell_plan.specs.HaloParts.{columns_read_left_by_formulas, columns_read_right_by_formulas}
+use Rattle.rcell_plan.specs.HaloParts.{ReadsInRectangleOrOutsideRegion, value_seen_from}
+use Rattle.rcell_plan.specs.HaloParts.{calls, is_row_or_nrows_function, is_col_or_ncols_function}
+use Rattle.cell_join_numbers.specs.Parts.{Rectangle, RowsAreCutOutOfMaps}
 use Rattle.rcell_plan.specs.ReachParts as reached
-use Rattle.rcell_plan.specs.ReachParts.{Halo, reach_of, reach_of_all, IsWithinReach, with_halo, IsCellInside}
+use Rattle.rcell_plan.specs.ReachParts.{Halo, reach_of, reach_of_all, ExpressionReadsWithinReach}
+use Rattle.rcell_plan.specs.ReachParts.{rectangle_with_halo_in_region}
+use Rattle.rcell_plan.specs.ReachParts.{IsCellInRectangleInRegion}
 use Rattle.rcell_plan.proofs.HaloLemmas.{halo-is-enough, reach-is-enough}
 
 -- the position of a cell of the region within a part of the region
-abbrev pub position_in : Rectangle → (row col : ℕ) → GridPosition
+abbrev pub position_in : Rectangle → (row col : ℕ) → PositionAndGridSize
 position_in r row col = record { rows = r.rows; cols = r.cols; row = row - r.top; col = col - r.left }
 
 own-most : (b : Bool) (n : ℕ) → cond b n 0 ≤ n
@@ -28,21 +33,21 @@ own-most false n = omega arith
 max-most : (a b c d : ℕ) → a ≤ c → b ≤ d → max a b ≤ max c d
 max-most a b c d one other = omega (arith, one, other)
 
-record IsWithinAll (xs : Formulas) (place : ℕ) : Type 0 where
-  up : up_of_all place xs ≤ (reach_of_all xs).up
-  down : down_of_all place xs ≤ (reach_of_all xs).down
-  left : left_of_all place xs ≤ (reach_of_all xs).left
-  right : right_of_all place xs ≤ (reach_of_all xs).right
+record IsWithinAll (xs : ArgumentFormulas) (place : ℕ) : Type 0 where
+  up : rows_read_above_by_formulas place xs ≤ (reach_of_all xs).up
+  down : rows_read_below_by_formulas place xs ≤ (reach_of_all xs).down
+  left : columns_read_left_by_formulas place xs ≤ (reach_of_all xs).left
+  right : columns_read_right_by_formulas place xs ≤ (reach_of_all xs).right
 
 mutual
-  within : (f : Formula) (place : ℕ) → IsWithinReach f place
+  within : (f : Formula) (place : ℕ) → ExpressionReadsWithinReach f place
   within (formula.Number n) place =
       record { up = omega arith; down = omega arith; left = omega arith; right = omega arith }
   within (formula.Map i down right) place = record {
-    up = own-most (eqb place i) (up_by down);
-    down = own-most (eqb place i) (down_by down);
-    left = own-most (eqb place i) (up_by right);
-    right = own-most (eqb place i) (down_by right);
+    up = own-most (eqb place i) (cell_count_up_or_left down);
+    down = own-most (eqb place i) (cell_count_down_or_right down);
+    left = own-most (eqb place i) (cell_count_up_or_left right);
+    right = own-most (eqb place i) (cell_count_down_or_right right);
   }
   within (formula.Negated a) place =
       let h = within a place in record { up = h.up; down = h.down; left = h.left; right = h.right }
@@ -60,7 +65,7 @@ mutual
   within (formula.Call f xs) place =
       let h = all-within xs place in record { up = h.up; down = h.down; left = h.left; right = h.right }
 
-  all-within : (xs : Formulas) (place : ℕ) → IsWithinAll xs place
+  all-within : (xs : ArgumentFormulas) (place : ℕ) → IsWithinAll xs place
   all-within formula.NoTrees place =
       record { up = omega arith; down = omega arith; left = omega arith; right = omega arith }
   all-within (formula.Then a xs) place =
@@ -73,7 +78,7 @@ mutual
         right = max-most _ _ _ _ h.right k.right;
       }
 
-pub maps-are-within-reach : reached.MapsAreWithinReach
+pub maps-are-within-reach : reached.NoMapIsReadBeyondReach
 maps-are-within-reach f place = within f place
 
 -- ---- in one dimension: the start of a stretch with its halo, and the cells read before and after a cell
@@ -96,30 +101,34 @@ behind total first n up down reads i fits most from to =
 back : (first up i : ℕ) → first ≤ i → first - up + (i - (first - up)) ≡ i
 back first up i from = omega (arith, from)
 
-module _ (f : Formula) (region : RegionValue) (r : Rectangle) (row col : ℕ) (is : IsCellInside region r row col) where
+module _ (f : Formula) (region : RegionValue) (r : Rectangle) (row col : ℕ)
+    (is : IsCellInRectangleInRegion region r row col) where
   abbrev h : Rectangle
-  h = with_halo region (reach_of f) r
+  h = rectangle_with_halo_in_region region (reach_of f) r
 
   abbrev reach : Halo
   reach = reach_of f
 
-  above-or : (place : ℕ) → (h.top ≡ 0) ⊎ (up_of place f ≤ row - h.top)
-  above-or place = before r.top reach.up (up_of place f) row (within f place).up is.below
+  above-or : (place : ℕ) → (h.top ≡ 0) ⊎ (rows_read_above_by_formula place f ≤ row - h.top)
+  above-or place = before r.top reach.up (rows_read_above_by_formula place f) row (within f place).up is.below
 
-  below-or : (place : ℕ) → (region.rows ≤ h.top + h.rows) ⊎ (row - h.top + down_of place f < h.rows)
+  below-or : (place : ℕ) → (region.rows ≤ h.top + h.rows) ⊎ (row - h.top + rows_read_below_by_formula place f < h.rows)
   below-or place =
-      behind region.rows r.top r.rows reach.up reach.down (down_of place f) row is.high (within f place).down
+      behind region.rows r.top r.rows reach.up reach.down (rows_read_below_by_formula place f) row is.high
+      (within f place).down
       is.below is.above
 
-  left-or : (place : ℕ) → (h.left ≡ 0) ⊎ (left_of place f ≤ col - h.left)
-  left-or place = before r.left reach.left (left_of place f) col (within f place).left is.right
+  left-or : (place : ℕ) → (h.left ≡ 0) ⊎ (columns_read_left_by_formula place f ≤ col - h.left)
+  left-or place = before r.left reach.left (columns_read_left_by_formula place f) col (within f place).left is.right
 
-  right-or : (place : ℕ) → (region.cols ≤ h.left + h.cols) ⊎ (col - h.left + right_of place f < h.cols)
+  right-or : (place : ℕ) → (region.cols ≤ h.left + h.cols) ⊎ (col - h.left + columns_read_right_by_formula place f
+      < h.cols)
   right-or place =
-      behind region.cols r.left r.cols reach.left reach.right (right_of place f) col is.wide (within f place).right
+      behind region.cols r.left r.cols reach.left reach.right (columns_read_right_by_formula place f) col is.wide
+      (within f place).right
       is.right is.left
 
-  reads : ReadsWithin f region h (row - h.top) (col - h.left)
+  reads : ReadsInRectangleOrOutsideRegion f region h (row - h.top) (col - h.left)
   reads = record { up = above-or; down = below-or; left = left-or; right = right-or }
 
   there : grid_position region (h.top + (row - h.top)) (h.left + (col - h.left)) ≡ grid_position region row col
@@ -129,23 +138,27 @@ module _ (f : Formula) (region : RegionValue) (r : Rectangle) (row col : ℕ) (i
 
 -- in a rectangle with a halo of its reach, an expression that asks for no rows or columns has the full map's values
 pub its-reach-is-enough : (f : Formula) (whole part : List Grid) (region : RegionValue) (r : Rectangle)
-    → All (λ m. IsFilled region m.rows) whole → AreCutOut (with_halo region (reach_of f) r) whole part
-    → calls asks_rows f ≡ false → calls asks_cols f ≡ false
-    → (row col : ℕ) → IsCellInside region r row col
-    → value f part (position_in (with_halo region (reach_of f) r) row col) ≡ value f whole (grid_position region row col)
+    → All (λ m. RowsFillRegion region m.rows) whole → RowsAreCutOutOfMaps (rectangle_with_halo_in_region region
+    (reach_of f) r) whole part
+    → calls is_row_or_nrows_function f ≡ false → calls is_col_or_ncols_function f ≡ false
+    → (row col : ℕ) → IsCellInRectangleInRegion region r row col
+    → value f part (position_in (rectangle_with_halo_in_region region (reach_of f) r) row col) ≡ value f whole (grid_position region row col)
 its-reach-is-enough f whole part region r all cut no_rows no_cols row col holds =
-    halo-is-enough f whole part region (with_halo region (reach_of f) r) _ _ all cut
+    halo-is-enough f whole part region (rectangle_with_halo_in_region region (reach_of f) r) _ _ all cut
     (record { reads = reads f region r row col holds; rows = inl no_rows; cols = inl no_cols })
     ∙ ap (value f whole) (there f region r row col holds)
 
 -- any expression has the values of the full map if row() and similar functions give the position there
 pub its-reach-is-enough-elsewhere : (f : Formula) (whole part : List Grid) (region : RegionValue) (r : Rectangle)
-    → All (λ m. IsFilled region m.rows) whole → AreCutOut (with_halo region (reach_of f) r) whole part
-    → (row col : ℕ) → IsCellInside region r row col
-    → value_seen_from f part (position_in (with_halo region (reach_of f) r) row col) (grid_position region row col)
+    → All (λ m. RowsFillRegion region m.rows) whole → RowsAreCutOutOfMaps (rectangle_with_halo_in_region region
+    (reach_of f) r) whole part
+    → (row col : ℕ) → IsCellInRectangleInRegion region r row col
+    → value_seen_from f part (position_in (rectangle_with_halo_in_region region (reach_of f) r) row col)
+    (grid_position region row col)
     ≡ value f whole (grid_position region row col)
 its-reach-is-enough-elsewhere f whole part region r all cut row col holds =
-    let here = position_in (with_halo region (reach_of f) r) row col in
+    let here = position_in (rectangle_with_halo_in_region region (reach_of f) r) row col in
     ap (value_seen_from f part here) (sym (there f region r row col holds))
-    ∙ reach-is-enough f whole part region (with_halo region (reach_of f) r) _ _ all cut (reads f region r row col holds)
+    ∙ reach-is-enough f whole part region (rectangle_with_halo_in_region region (reach_of f) r) _ _ all cut
+    (reads f region r row col holds)
     ∙ ap (value f whole) (there f region r row col holds)

@@ -4,16 +4,17 @@ use Rattle.std.specs.Option.{option_map_or}
 use Rattle.std.proofs.lemmas.List.{get_or_default, same_lists}
 use Rattle.std.proofs.lemmas.List.Elements.{All-get_or}
 use Rattle.cell_core_values.specs.Region.{RegionValue}
-use Rattle.cell_core.specs.Grid.{Grid, CellValue, IsFilled, cell_at}
+use Rattle.cell_core.specs.Grid.{Grid, CellValue, RowsFillRegion, cell_at}
 use Rattle.cell_core.specs.Shelf.{ShelfValue}
 use Rattle.cell_calc_language.specs.Applied.{grid_position}
-use Rattle.cell_calc_language.specs.CellOperators.{chosen_cell, truth, is_null}
+use Rattle.cell_calc_language.specs.CellOperators.{cell_chosen_by_condition, cell_of_truth_value, is_null}
 use Rattle.cell_calc_language.specs.Formula.{Formula, Map}
 use Rattle.cell_calc_language.specs.Value.{value}
-use Rattle.rcell.specs.Making.{AreValues}
+use Rattle.rcell.specs.Making.{IsMapOfExpressionValues}
 
 -- two lists of rows of one region are equal if their cells are
-module _ (region : RegionValue) (xs ys : List (List CellValue)) (x : IsFilled region xs) (y : IsFilled region ys) where
+module _ (region : RegionValue) (xs ys : List (List CellValue)) (x : RowsFillRegion region xs)
+    (y : RowsFillRegion region ys) where
   pub same_rows :
       ((r c : ℕ) → r < region.rows → c < region.cols
       → get_or (get_or xs r []) c None ≡ get_or (get_or ys r []) c None)
@@ -38,7 +39,8 @@ same_grid : (a b : Grid) → a.region ≡ b.region → a.rows ≡ b.rows → a.l
 same_grid a b region rows labels = λ i. record { region = region i; rows = rows i; labels = labels i }
 
 -- the rows of a map of values fill the region of the shelf
-pub fills : (f : Formula) (shelf : ShelfValue) (x : Grid) → AreValues f shelf x → IsFilled shelf.region x.rows
+pub fills : (f : Formula) (shelf : ShelfValue) (x : Grid) → IsMapOfExpressionValues f shelf x
+    → RowsFillRegion shelf.region x.rows
 fills f shelf x are =
     let rows : x.region.rows ≡ shelf.region.rows = ap (λ (r : RegionValue). r.rows) are.region in
     let cols : x.region.cols ≡ shelf.region.cols = ap (λ (r : RegionValue). r.cols) are.region in
@@ -48,7 +50,8 @@ fills f shelf x are =
     }
 
 -- two expressions that have the same value at each cell give the same map
-pub one-map-of-values : (f g : Formula) (shelf : ShelfValue) (x y : Grid) → AreValues f shelf x → AreValues g shelf y
+pub one-map-of-values : (f g : Formula) (shelf : ShelfValue) (x y : Grid) → IsMapOfExpressionValues f shelf x
+    → IsMapOfExpressionValues g shelf y
     → ((row col : ℕ) → row < shelf.region.rows → col < shelf.region.cols
     → value f shelf.maps (grid_position shelf.region row col) ≡ value g shelf.maps (grid_position shelf.region row col))
     → x ≡ y

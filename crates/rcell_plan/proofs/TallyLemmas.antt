@@ -11,20 +11,20 @@ use Rattle.cell_stats_combinations.specs.declared.skip.Skip.TheVariants.{Nothing
 use Rattle.cell_stats_combinations.specs.Combinations.{Combination, combination_cmp, combination_cmp_total}
 use Rattle.cell_stats_combinations.specs.LeftOut.{kept_cells}
 use Rattle.cell_stats_combinations.proofs.OrderLemmas.{combination_cmp-exact, is_equal}
-use Rattle.cell_stats_counts.specs.Counts.{count_of}
-use Rattle.cell_stats.specs.CategoryTables.{Pairs, table_of}
+use Rattle.cell_stats_counts.specs.Counts.{cell_count_of_combination}
+use Rattle.cell_stats.specs.CategoryTables.{CombinationsWithCounts, table_of_cells}
 use Rattle.cell_stats.proofs.SortedLemmas.{both_true, is_less}
 use Rattle.cell_join_numbers.proofs.SumLemmas.{sum-cons}
-use Rattle.cell_stats.proofs.TableLemmas.{IsTally, IsFound-from, counts_of-IsTally, count_cons, found}
+use Rattle.cell_stats.proofs.TableLemmas.{IsTally, IsFound-from, combination_counts-IsTally, count_cons, found}
 
 pub kept-nothing : (cells : List Combination) → kept_cells Nothing cells ≡ cells
 kept-nothing [] = refl
 kept-nothing (k ∷ cells) = ap (λ (l : List Combination). k ∷ l) (kept-nothing cells)
 
-pub whole-tally : (cells : List Combination) → IsTally cells (table_of Nothing cells)
+pub whole-tally : (cells : List Combination) → IsTally cells (table_of_cells Nothing cells)
 whole-tally cells =
-    let kept_cells = counts_of-IsTally (kept_cells Nothing cells) in
-    subst (λ (l : List Combination). IsTally l (table_of Nothing cells)) (kept-nothing cells) kept_cells
+    let kept_cells = combination_counts-IsTally (kept_cells Nothing cells) in
+    subst (λ (l : List Combination). IsTally l (table_of_cells Nothing cells)) (kept-nothing cells) kept_cells
 
 -- ---- each cell is counted in exactly one entry
 
@@ -39,7 +39,8 @@ eq-swap a b = ap is_eq (combination_cmp_total.antisymm a b) ∙ reversed (combin
     reversed Less = refl
     reversed _ = refl
 
-mark-none : (k : Combination) (es : Pairs) → below_all combination_cmp k es ≡ true → sum_by (mark k) es ≡ 0
+mark-none : (k : Combination) (es : CombinationsWithCounts) → below_all combination_cmp k es ≡ true
+    → sum_by (mark k) es ≡ 0
 mark-none k [] below = refl
 mark-none k (e ∷ es) below =
     let both = both_true _ _ below in
@@ -47,12 +48,12 @@ mark-none k (e ∷ es) below =
     omega (arith, sum-cons (mark k) e es, first, mark-none k es both.1)
 
 -- if a combination is found among the entries with the count n, exactly one entry has it
-abbrev IsOneIf : Combination → Combination × ℕ → Pairs → ℕ → Bool → Type 0
+abbrev IsOneIf : Combination → Combination × ℕ → CombinationsWithCounts → ℕ → Bool → Type 0
 IsOneIf k e es n t =
     eq_by_cmp combination_cmp k e.0 ≡ t → cond t (Some e.1) (find combination_cmp k es) ≡ Some n
     → sum_by (mark k) (e ∷ es) ≡ 1
 
-mark-one : (k : Combination) (es : Pairs) (n : ℕ) → is_sorted combination_cmp es ≡ true
+mark-one : (k : Combination) (es : CombinationsWithCounts) (n : ℕ) → is_sorted combination_cmp es ≡ true
     → find combination_cmp k es ≡ Some n → sum_by (mark k) es ≡ 1
 mark-one k [] n sorted is = cc
 mark-one k (e ∷ es) n sorted is =
@@ -71,7 +72,7 @@ mark-one k (e ∷ es) n sorted is =
 
 -- each cell is counted at least once
 counts-itself : (cells : List Combination) (i : ℕ) (d : Combination) → i < length cells
-    → 0 < count_of (get_or cells i d) cells
+    → 0 < cell_count_of_combination (get_or cells i d) cells
 counts-itself [] i d within = absurd (omega (arith, within))
 counts-itself (k ∷ cells) zero d within =
     let one : ◌≡◌ {A = ℕ} (cond (eq_by_cmp combination_cmp k k) 1 0) 1 =
@@ -104,7 +105,8 @@ module _ (h : Combination → Bool) where
   cond-add true m n = refl
   cond-add false m n = refl
 
-  sum-marks : (k : Combination) (es : Pairs) → sum_by (counted (mark k)) es ≡ cond (h k) (sum_by (mark k) es) 0
+  sum-marks : (k : Combination) (es : CombinationsWithCounts)
+      → sum_by (counted (mark k)) es ≡ cond (h k) (sum_by (mark k) es) 0
   sum-marks k [] = sym (nothing (h k))
   sum-marks k (e ∷ es) =
       let first = same-mark k e.0 (eq_by_cmp combination_cmp e.0 k) refl in
@@ -113,31 +115,32 @@ module _ (h : Combination → Bool) where
       let split = cond-add (h k) (mark k e) (sum_by (mark k) es) in
       omega (arith, sum-cons (counted (mark k)) e es, first, sum-marks k es, whole, split)
 
-  sum-more : (k : Combination) (cells : List Combination) (es : Pairs)
-      → sum_by (counted (λ e. count_of e.0 (k ∷ cells))) es
-      ≡ sum_by (counted (mark k)) es + sum_by (counted (λ e. count_of e.0 cells)) es
+  sum-more : (k : Combination) (cells : List Combination) (es : CombinationsWithCounts)
+      → sum_by (counted (λ e. cell_count_of_combination e.0 (k ∷ cells))) es
+      ≡ sum_by (counted (mark k)) es + sum_by (counted (λ e. cell_count_of_combination e.0 cells)) es
   sum-more k cells [] = refl
   sum-more k cells (e ∷ es) =
-      let first : cond (h e.0) (count_of e.0 (k ∷ cells)) 0
-      ≡ cond (h e.0) (mark k e) 0 + cond (h e.0) (count_of e.0 cells) 0 =
-      ap (λ n. cond (h e.0) n 0) (count_cons e.0 k cells) ∙ cond-add (h e.0) (mark k e) (count_of e.0 cells) in
+      let first : cond (h e.0) (cell_count_of_combination e.0 (k ∷ cells)) 0
+      ≡ cond (h e.0) (mark k e) 0 + cond (h e.0) (cell_count_of_combination e.0 cells) 0 =
+      ap (λ n. cond (h e.0) n 0) (count_cons e.0 k cells) ∙ cond-add (h e.0) (mark k e)
+      (cell_count_of_combination e.0 cells) in
       omega (
         arith,
-        sum-cons (counted (λ e. count_of e.0 (k ∷ cells))) e es,
+        sum-cons (counted (λ e. cell_count_of_combination e.0 (k ∷ cells))) e es,
         sum-cons (counted (mark k)) e es,
-        sum-cons (counted (λ e. count_of e.0 cells)) e es,
+        sum-cons (counted (λ e. cell_count_of_combination e.0 cells)) e es,
         first,
         sum-more k cells es,
       )
 
-  sum-none : (es : Pairs) → sum_by (counted (λ e. count_of e.0 [])) es ≡ 0
+  sum-none : (es : CombinationsWithCounts) → sum_by (counted (λ e. cell_count_of_combination e.0 [])) es ≡ 0
   sum-none [] = refl
   sum-none (e ∷ es) =
-      let first : cond (h e.0) (count_of e.0 []) 0 ≡ 0 = nothing (h e.0) in
-      omega (arith, sum-cons (counted (λ e. count_of e.0 [])) e es, first, sum-none es)
+      let first : cond (h e.0) (cell_count_of_combination e.0 []) 0 ≡ 0 = nothing (h e.0) in
+      omega (arith, sum-cons (counted (λ e. cell_count_of_combination e.0 [])) e es, first, sum-none es)
 
-  sum-cells : (es : Pairs) (cells : List Combination) → All (λ k. sum_by (mark k) es ≡ 1) cells
-      → sum_by (counted (λ e. count_of e.0 cells)) es ≡ count_by h cells
+  sum-cells : (es : CombinationsWithCounts) (cells : List Combination) → All (λ k. sum_by (mark k) es ≡ 1) cells
+      → sum_by (counted (λ e. cell_count_of_combination e.0 cells)) es ≡ count_by h cells
   sum-cells es [] all = sum-none es
   sum-cells es (k ∷ cells) all =
       let first : sum_by (counted (mark k)) es ≡ cond (h k) 1 0 =
@@ -147,12 +150,13 @@ module _ (h : Combination → Bool) where
       let others = sum-cells es cells (λ i d within. all (suc i) d (omega (arith, within))) in
       omega (arith, sum-more k cells es, first, cons, others)
 
-  sum-filter : (es : Pairs) → sum_by (λ e. e.1) (filter (λ e. h e.0) es) ≡ sum_by (counted (λ e. e.1)) es
+  sum-filter : (es : CombinationsWithCounts) → sum_by (λ e. e.1) (filter (λ e. h e.0) es)
+      ≡ sum_by (counted (λ e. e.1)) es
   sum-filter [] = refl
   sum-filter (e ∷ es) =
       by (h e.0) ∙ ap (λ n. cond (h e.0) e.1 0 + n) (sum-filter es) ∙ sym (sum-cons (counted (λ e. e.1)) e es)
     where
-      rest : Pairs
+      rest : CombinationsWithCounts
       rest = filter (λ e. h e.0) es
 
       by : (b : Bool)
@@ -161,7 +165,8 @@ module _ (h : Combination → Bool) where
       by true = sum-cons (λ (x : Combination × ℕ). x.1) e (filter (λ e. h e.0) es)
       by false = sym (zero-add _)
 
-  sum-alike : (f g : Combination × ℕ → ℕ) (es : Pairs) → All (λ e. f e ≡ g e) es → sum_by f es ≡ sum_by g es
+  sum-alike : (f g : Combination × ℕ → ℕ) (es : CombinationsWithCounts) → All (λ e. f e ≡ g e) es
+      → sum_by f es ≡ sum_by g es
   sum-alike f g [] all = refl
   sum-alike f g (e ∷ es) all =
       let first : f e ≡ g e = all 0 e (omega arith) in
@@ -170,19 +175,19 @@ module _ (h : Combination → Bool) where
 
   -- the counts of the entries that pass a test add up to the number of cells that pass it
   pub table-counts : (cells : List Combination)
-      → sum_by (λ e. e.1) (filter (λ e. h e.0) (table_of Nothing cells)) ≡ count_by h cells
+      → sum_by (λ e. e.1) (filter (λ e. h e.0) (table_of_cells Nothing cells)) ≡ count_by h cells
   table-counts cells =
-      let es = table_of Nothing cells in
+      let es = table_of_cells Nothing cells in
       let tally = whole-tally cells in
       let is_found = IsFound-from cells es tally in
       sum-filter es
-      ∙ sum-alike (counted (λ e. e.1)) (counted (λ e. count_of e.0 cells)) es (λ i d within.
+      ∙ sum-alike (counted (λ e. e.1)) (counted (λ e. cell_count_of_combination e.0 cells)) es (λ i d within.
       let e = get_or es i d in
       ap (λ n. cond (h e.0) n 0) ((tally.counted e.0 e.1).0 (i, within, get_or-any es i d e within)).1)
       ∙ sum-cells es cells (λ i d within.
       let k = get_or cells i d in
-      let some = found-some (count_of k cells) (counts-itself cells i d within) in
-      mark-one k es (count_of k cells) is_found.sorted (is_found.finds k ∙ some))
+      let some = found-some (cell_count_of_combination k cells) (counts-itself cells i d within) in
+      mark-one k es (cell_count_of_combination k cells) is_found.sorted (is_found.finds k ∙ some))
     where
       get_or-any : {X : Type 0} (xs : List X) (i : ℕ) (d e : X) → i < length xs → get_or xs i e ≡ get_or xs i d
       get_or-any [] i d e within = absurd (omega (arith, within))

@@ -5,17 +5,18 @@ use Rattle.cell_core.specs.Grid.{Grid, CellValue, cell_at}
 use Rattle.cell_core.specs.Shelf.{ShelfValue}
 use Rattle.cell_calc_grammar.specs.declared.function.Function.{Function}
 use Rattle.cell_calc_grammar.specs.declared.function.Function.TheVariants.{Row, Column}
-use Rattle.cell_calc_language.specs.Applied.{GridPosition, grid_position, negated_cell, inverted_cell, operator_value, call_result}
+use Rattle.cell_calc_language.specs.Applied.{PositionAndGridSize, grid_position, negated_cell, logical_negation_of_cell, operator_value, call_result}
 use Rattle.cell_calc_language.proofs.Fit.{fit_number}
-use Rattle.cell_calc_language.specs.Formula.{Formula, Number, Map, Negated, Not, Binary, Call, Formulas, NoTrees, Then}
+use Rattle.cell_calc_language.specs.Formula.{Formula, Number, Map, Negated, Not, Binary, Call, ArgumentFormulas}
+use Rattle.cell_calc_language.specs.Formula.{NoTrees, Then}
 use Rattle.cell_calc_language.specs.Value.{value, argument_values}
 use Rattle.rcell_plan.specs.HaloParts.{value_seen_from, values_seen_from}
 use Rattle.cell_join_numbers.specs.Parts.{Rectangle}
-use Rattle.rcell_plan.specs.ReachParts.{reach_of, IsCellInside}
+use Rattle.rcell_plan.specs.ReachParts.{reach_of, IsCellInRectangleInRegion}
 use Rattle.rcell_plan.proofs.HaloReachLemmas.{its-reach-is-enough, its-reach-is-enough-elsewhere, position_in}
-use Rattle.rcell.specs.Making.{AreValues}
-use Rattle.rcell_plan.specs.TileLaw.{haloed_rectangle, IsHaloedTile, TilesMakeTheMap}
-use Rattle.rcell_plan.specs.TileLaw.{placed, all_placed, placed_call, PlacedTilesMakeTheMap}
+use Rattle.rcell.specs.Making.{IsMapOfExpressionValues}
+use Rattle.rcell_plan.specs.TileLaw.{tile_rectangle_with_halo, IsHaloedTile, HaloedTileHasFullMapValues}
+use Rattle.rcell_plan.specs.TileLaw.{placed, all_placed, call_rewritten_for_tile, RewritingForTileKeepsValues}
 
 inside : (total first n up down i rows : ℕ)
     → rows ≡ min total (first + n + down) - (first - up) → first + n ≤ total → first ≤ i → i < first + n
@@ -23,10 +24,10 @@ inside : (total first n up down i rows : ℕ)
 inside total first n up down i rows is fits from to = omega (arith, fits, from, to, is)
 
 module _ (f g : Formula) (whole tile : ShelfValue) (r : Rectangle) (is : IsHaloedTile f r whole tile) (x y : Grid)
-    (are_x : AreValues f whole x) (are_y : AreValues g tile y) (row col : ℕ)
-    (holds : IsCellInside whole.region r row col) where
+    (are_x : IsMapOfExpressionValues f whole x) (are_y : IsMapOfExpressionValues g tile y) (row col : ℕ)
+    (holds : IsCellInRectangleInRegion whole.region r row col) where
   abbrev h : Rectangle
-  h = haloed_rectangle f whole r
+  h = tile_rectangle_with_halo f whole r
 
   row-in : row < whole.region.rows
   row-in = omega (arith, holds.high, holds.above)
@@ -48,7 +49,7 @@ module _ (f g : Formula) (whole tile : ShelfValue) (r : Rectangle) (is : IsHaloe
       are_y.cells (row - h.top) (col - h.left) row_here col_here
       ∙ ap (value g tile.maps) here ∙ same ∙ sym (are_x.cells row col row-in col-in)
 
-pub tiles-make-the-map : TilesMakeTheMap
+pub tiles-make-the-map : HaloedTileHasFullMapValues
 tiles-make-the-map f whole tile r is no_rows no_cols x y are_x are_y row col holds =
     same-cell f f whole tile r is x y are_x are_y row col holds
     (its-reach-is-enough f whole.maps tile.maps whole.region r is.filled is.cells no_rows no_cols row col holds)
@@ -57,14 +58,14 @@ tiles-make-the-map f whole tile r is no_rows no_cols x y are_x are_y row col hol
 
 module _ (region : RegionValue) (r : Rectangle) (maps : List Grid) (row col : ℕ)
     (below : r.top ≤ row) (right : r.left ≤ col) (rows : row < 2147483647) (cols : col < 2147483647) where
-  abbrev here : GridPosition
+  abbrev here : PositionAndGridSize
   here = position_in r row col
 
-  abbrev there : GridPosition
+  abbrev there : PositionAndGridSize
   there = grid_position region row col
 
-  called : (f : Function) (xs : Formulas)
-      → value (placed_call region r f xs) maps here ≡ call_result f there (argument_values xs maps here)
+  called : (f : Function) (xs : ArgumentFormulas)
+      → value (call_rewritten_for_tile region r f xs) maps here ≡ call_result f there (argument_values xs maps here)
   called Row xs =
       let on : row - r.top + 1 + r.top ≡ row + 1 = omega (arith, below) in
       fit_number (row - r.top + 1 + r.top) (omega (arith, on, rows)) ∙ ap (λ n. Some (pos n)) on
@@ -78,21 +79,21 @@ module _ (region : RegionValue) (r : Rectangle) (maps : List Grid) (row col : �
     placed-reported (Number n) = refl
     placed-reported (Map i down right) = refl
     placed-reported (Negated a) = ap negated_cell (placed-reported a)
-    placed-reported (Not a) = ap inverted_cell (placed-reported a)
+    placed-reported (Not a) = ap logical_negation_of_cell (placed-reported a)
     placed-reported (Binary op a b) =
         ap (λ x. operator_value op x (value (placed region r b) maps here)) (placed-reported a)
         ∙ ap (operator_value op (value_seen_from a maps here there)) (placed-reported b)
     placed-reported (Call f xs) = called f (all_placed region r xs) ∙ ap (call_result f there) (all-read xs)
 
-    all-read : (xs : Formulas) → argument_values (all_placed region r xs) maps here ≡ values_seen_from xs maps here there
+    all-read : (xs : ArgumentFormulas) → argument_values (all_placed region r xs) maps here ≡ values_seen_from xs maps here there
     all-read NoTrees = refl
     all-read (Then a xs) =
         ap (λ (x : CellValue). x ∷ argument_values (all_placed region r xs) maps here) (placed-reported a)
         ∙ ap (λ (l : List CellValue). value_seen_from a maps here there ∷ l) (all-read xs)
 
-pub placed-tiles-make-the-map : PlacedTilesMakeTheMap
+pub placed-tiles-make-the-map : RewritingForTileKeepsValues
 placed-tiles-make-the-map f whole tile r is few_rows few_cols x y are_x are_y row col holds =
-    let h = haloed_rectangle f whole r in
+    let h = tile_rectangle_with_halo f whole r in
     let row_lt = row-in f (placed whole.region h f) whole tile r is x y are_x are_y row col holds in
     let col_lt = col-in f (placed whole.region h f) whole tile r is x y are_x are_y row col holds in
     same-cell f (placed whole.region h f) whole tile r is x y are_x are_y row col holds

@@ -2,17 +2,17 @@
 
 ghost use Rattle.std.specs.Prelude.{◌≡◌};
 ghost use Rattle.std.specs.List.{list_any};
-ghost use Rattle.rcell_plan.specs.Plans.{position_flag, command_flags, command_code};
-ghost use Rattle.rcell_plan.specs.parts.PositionSteps.{step_asks};
-ghost use Rattle.rcell_plan.specs.LocalLaw.{asks_where};
+ghost use Rattle.rcell_plan.specs.Plans.{position_flag_of_expression, command_flags, command_code};
+ghost use Rattle.rcell_plan.specs.parts.PositionSteps.{step_calls_position_function};
+ghost use Rattle.rcell_plan.specs.LocalLaw.{is_position_function};
 
 use cell_calc_grammar::function::Function;
 use cell_calc_grammar::step::Step;
 use cell_calc_language::bound::Bound;
 use rcell_script::statement::Command;
 
-fn asks_where(function: Function) -> bool
-    ensures { result ≡ asks_where function }
+fn is_position_function(function: Function) -> bool
+    ensures { result ≡ is_position_function function }
 {
     match function {
         Function::Row => true,
@@ -23,26 +23,30 @@ fn asks_where(function: Function) -> bool
     }
 }
 
-fn step_asks(step: Step<usize>) -> bool
-    ensures { result ≡ step_asks step }
+fn step_calls_position_function(step: Step<usize>) -> bool
+    ensures { result ≡ step_calls_position_function step }
 {
     match step {
-        Step::Call(function, _) => asks_where(function),
+        Step::Call(function, _) => is_position_function(function),
         _ => false,
     }
 }
 
-fn steps_ask(steps: &[Step<usize>]) -> bool
-    ensures { result ≡ list_any step_asks steps.now }
+fn steps_call_position_function(steps: &[Step<usize>]) -> bool
+    ensures { result ≡ list_any step_calls_position_function steps.now }
 {
-    steps.iter().any(|step| step_asks(*step))
+    steps.iter().any(|step| step_calls_position_function(*step))
 }
 
 #[tactic(auto, using(crate::proofs::AskLemmas::asks_postfix))]
-fn position_flag(bound: &Bound) -> u8
-    ensures { result ≡ position_flag bound.now }
+fn position_flag_of_expression(bound: &Bound) -> u8
+    ensures { result ≡ position_flag_of_expression bound.now }
 {
-    if steps_ask(bound.steps()) { 8 } else { 0 }
+    if steps_call_position_function(bound.steps()) {
+        8
+    } else {
+        0
+    }
 }
 
 /// Returns the sum of the flags: 1 if a command writes, 2 if it prints labels, 4 if it needs the full map, 8 if it
@@ -51,7 +55,7 @@ pub fn command_flags(command: &Command) -> u8
     ensures { result ≡ command_flags command.now }
 {
     match command {
-        Command::Mapcalc { bound, .. } => position_flag(bound),
+        Command::Mapcalc { bound, .. } => position_flag_of_expression(bound),
         Command::Reclass { .. } => 0,
         Command::Clump { .. } => 4,
         Command::Stats { options, .. } => { if options.labels { 3 } else { 1 } }

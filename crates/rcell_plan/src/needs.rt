@@ -1,8 +1,8 @@
 //! The maps that are needed around a cell, and how far.
 
 ghost use Rattle.std.specs.Prelude.{◌≡◌, ◌+◌, [], ◌∷◌, map, IfOk, OnOk};
-ghost use Rattle.rcell_plan.specs.Needs.{margin_of_both, added, joined, moved, wholly, with_need, with_needs};
-ghost use Rattle.rcell_plan.specs.parts.Places.{place_among, put_need};
+ghost use Rattle.rcell_plan.specs.Needs.{margin_covering_both_margins, sum_of_margins, need_covering_both_needs, need_widened_by_margin, requiring_full_map, needs_with_added_need, needs_with_added_needs};
+ghost use Rattle.rcell_plan.specs.parts.Places.{position_among_needs, insert_or_join_need};
 
 use cell_core::memory::Memory;
 use std::alloc::Global;
@@ -19,7 +19,7 @@ pub struct Margin {
 
 /// A map, by index, and how far it is needed around a cell.
 #[derive(Clone, Copy, Debug, PartialEq, Eq)]
-pub struct Need {
+pub struct MapNeed {
     pub place: usize,
     pub margin: Margin,
     /// Whether the full map is needed, because an r.clump is in between.
@@ -28,21 +28,21 @@ pub struct Need {
 
 /// Needs of distinct maps, ordered by map index.
 #[derive(Debug, Drop)]
-pub struct Needs {
-    list: Vec<Need>,
+pub struct MapNeeds {
+    list: Vec<MapNeed>,
 }
 
-impl Model for Needs {
+impl Model for MapNeeds {
     ghost use Rattle.std.specs.Prelude.{List};
-    ghost use Rattle.rcell_plan.specs.declared.needs.Need.{Need};
+    ghost use Rattle.rcell_plan.specs.declared.needs.MapNeed.{MapNeed};
 
-    ghost Value = { List Need };
+    ghost Value = { List MapNeed };
 
     ghost view = { λ n. n.list.items };
 }
 
-fn margin_of_both(a: Margin, b: Margin) -> Margin
-    ensures { result ≡ margin_of_both a b }
+fn margin_covering_both_margins(a: Margin, b: Margin) -> Margin
+    ensures { result ≡ margin_covering_both_margins a b }
 {
     Margin {
         up: a.up.max(b.up),
@@ -53,7 +53,7 @@ fn margin_of_both(a: Margin, b: Margin) -> Margin
 }
 
 // Adds two numbers. A margin can overflow only for scripts too large for memory.
-fn sum(a: u64, b: u64) -> Result<u64, Memory>
+fn sum_or_memory_error(a: u64, b: u64) -> Result<u64, Memory>
     ensures { IfOk result (λ n. n ≡ a + b) }
 {
     match a.checked_add(b) {
@@ -62,13 +62,13 @@ fn sum(a: u64, b: u64) -> Result<u64, Memory>
     }
 }
 
-fn added(a: Margin, b: Margin) -> Result<Margin, Memory>
-    ensures { IfOk result (λ margin. margin ≡ added a b) }
+fn sum_of_margins(a: Margin, b: Margin) -> Result<Margin, Memory>
+    ensures { IfOk result (λ margin. margin ≡ sum_of_margins a b) }
 {
-    let up = sum(a.up, b.up)?;
-    let down = sum(a.down, b.down)?;
-    let left = sum(a.left, b.left)?;
-    let right = sum(a.right, b.right)?;
+    let up = sum_or_memory_error(a.up, b.up)?;
+    let down = sum_or_memory_error(a.down, b.down)?;
+    let left = sum_or_memory_error(a.left, b.left)?;
+    let right = sum_or_memory_error(a.right, b.right)?;
     Ok(Margin {
         up,
         down,
@@ -77,21 +77,21 @@ fn added(a: Margin, b: Margin) -> Result<Margin, Memory>
     })
 }
 
-fn joined(a: Need, b: Need) -> Need
-    ensures { result ≡ joined a b }
+fn need_covering_both_needs(a: MapNeed, b: MapNeed) -> MapNeed
+    ensures { result ≡ need_covering_both_needs a b }
 {
-    Need {
+    MapNeed {
         place: a.place,
-        margin: margin_of_both(a.margin, b.margin),
+        margin: margin_covering_both_margins(a.margin, b.margin),
         whole: a.whole || b.whole,
     }
 }
 
-fn moved(margin: Margin, need: Need) -> Result<Need, Memory>
-    ensures { IfOk result (λ n. n ≡ moved margin need) }
+fn need_widened_by_margin(margin: Margin, need: MapNeed) -> Result<MapNeed, Memory>
+    ensures { IfOk result (λ n. n ≡ need_widened_by_margin margin need) }
 {
-    let margin = added(margin, need.margin)?;
-    Ok(Need {
+    let margin = sum_of_margins(margin, need.margin)?;
+    Ok(MapNeed {
         place: need.place,
         margin,
         whole: need.whole,
@@ -99,8 +99,8 @@ fn moved(margin: Margin, need: Need) -> Result<Need, Memory>
 }
 
 // Returns the position of the need for the map `place`, or where to insert it.
-fn place_among(needs: &[Need], place: usize) -> usize
-    ensures { result ≡ place_among place needs.now }
+fn position_among_needs(needs: &[MapNeed], place: usize) -> usize
+    ensures { result ≡ position_among_needs place needs.now }
 {
     for (i, need) in needs.iter().enumerate() {
         if place <= need.place {
@@ -111,13 +111,13 @@ fn place_among(needs: &[Need], place: usize) -> usize
 }
 
 // Inserts a need at its position, or joins it with the need there for the same map.
-fn put_need(needs: &mut Vec<Need>, at: usize, need: Need) -> Result<(), Memory>
-    ensures { OnOk result (needs.new.items ≡ put_need needs.old.items at need) }
+fn insert_or_join_need(needs: &mut Vec<MapNeed>, at: usize, need: MapNeed) -> Result<(), Memory>
+    ensures { OnOk result (needs.new.items ≡ insert_or_join_need needs.old.items at need) }
 {
     match needs.get(at).copied() {
         Some(known) => {
             if known.place == need.place {
-                needs[at] = joined(known, need);
+                needs[at] = need_covering_both_needs(known, need);
             } else {
                 needs.insert(at, need)?;
             }
@@ -127,18 +127,18 @@ fn put_need(needs: &mut Vec<Need>, at: usize, need: Need) -> Result<(), Memory>
     Ok(())
 }
 
-impl Needs {
+impl MapNeeds {
     /// Creates an empty list of needs.
-    pub fn new(alloc: Global) -> Needs
+    pub fn new(alloc: Global) -> MapNeeds
         ensures { result ≡ [] }
     {
-        Needs {
+        MapNeeds {
             list: Vec::new(alloc),
         }
     }
 
     /// Returns the needs as a slice.
-    pub fn in_order(&self) -> &[Need]
+    pub fn in_order(&self) -> &[MapNeed]
         ensures { result.now ≡ self.now }
     {
         &self.list
@@ -150,11 +150,11 @@ impl Needs {
     ///
     /// Returns [`Memory`] if memory runs out.
     #[tactic(auto, using(crate::proofs::NeedLemmas::put_among))]
-    pub fn add(&mut self, need: Need) -> Result<(), Memory>
-        ensures { OnOk result (self.new ≡ with_need self.old need) }
+    pub fn add(&mut self, need: MapNeed) -> Result<(), Memory>
+        ensures { OnOk result (self.new ≡ needs_with_added_need self.old need) }
     {
-        let at = place_among(self.list.as_slice(), need.place);
-        put_need(&mut self.list, at, need)
+        let at = position_among_needs(self.list.as_slice(), need.place);
+        insert_or_join_need(&mut self.list, at, need)
     }
 
     /// Adds the needs of a map that is itself read within a margin.
@@ -162,11 +162,16 @@ impl Needs {
     /// # Errors
     ///
     /// Returns [`Memory`] if memory runs out.
-    pub fn add_moved(&mut self, margin: Margin, more: &[Need]) -> Result<(), Memory>
-        ensures { OnOk result (self.new ≡ with_needs self.old (map (moved margin) more.now)) }
+    pub fn add_needs_widened_by_margin(
+        &mut self,
+        margin: Margin,
+        more: &[MapNeed],
+    ) -> Result<(), Memory>
+        ensures { OnOk result (self.new ≡ needs_with_added_needs self.old
+            (map (need_widened_by_margin margin) more.now)) }
     {
         for need in more {
-            let need = moved(margin, *need)?;
+            let need = need_widened_by_margin(margin, *need)?;
             self.add(need)?;
         }
         Ok(())
@@ -177,11 +182,11 @@ impl Needs {
     /// # Errors
     ///
     /// Returns [`Memory`] if memory runs out.
-    pub fn copy_of(alloc: Global, needs: &[Need]) -> Result<Needs, Memory>
+    pub fn copy_of_needs(alloc: Global, needs: &[MapNeed]) -> Result<MapNeeds, Memory>
         ensures { IfOk result (λ copy. copy ≡ needs.now) }
     {
         let list = Vec::from_slice(alloc, needs)?;
-        Ok(Needs { list })
+        Ok(MapNeeds { list })
     }
 
     /// Copies needs, and requires each map in full.
@@ -189,16 +194,16 @@ impl Needs {
     /// # Errors
     ///
     /// Returns [`Memory`] if memory runs out.
-    pub fn wholly(alloc: Global, needs: &[Need]) -> Result<Needs, Memory>
-        ensures { IfOk result (λ whole. whole ≡ map wholly needs.now) }
+    pub fn requiring_full_map(alloc: Global, needs: &[MapNeed]) -> Result<MapNeeds, Memory>
+        ensures { IfOk result (λ whole. whole ≡ map requiring_full_map needs.now) }
     {
         let mut list = Vec::with_capacity(alloc, needs.len())?;
         for need in needs {
-            list.push(Need {
+            list.push(MapNeed {
                 whole: true,
                 ..*need
             })?;
         }
-        Ok(Needs { list })
+        Ok(MapNeeds { list })
     }
 }

@@ -1,18 +1,18 @@
 //! The maps that a statement reads.
 
 ghost use Rattle.std.specs.Prelude.{◌≡◌, [], ◌∷◌, map, flat_map, IfOk, OnOk};
-ghost use Rattle.cell_calc_language.specs.Grammatical.{up_by, down_by};
-ghost use Rattle.rcell_plan.specs.Needs.{margin_of, no_margin, own, with_needs};
-ghost use Rattle.rcell_plan.specs.Plans.{step_reads, command_reads};
+ghost use Rattle.cell_calc_language.specs.Grammatical.{cell_count_up_or_left, cell_count_down_or_right};
+ghost use Rattle.rcell_plan.specs.Needs.{margin_containing_offset, no_margin, need_of_own_cell, needs_with_added_needs};
+ghost use Rattle.rcell_plan.specs.Plans.{map_read_by_step, maps_read_by_command};
 
-use crate::needs::{Margin, Need, Needs};
+use crate::needs::{MapNeed, MapNeeds, Margin};
 use cell_calc_grammar::step::Step;
 use cell_core::memory::Memory;
 use rcell_script::statement::Command;
 use std::alloc::Global;
 
-fn up_by(offset: i32) -> u64
-    ensures { result ≡ up_by offset }
+fn cell_count_up_or_left(offset: i32) -> u64
+    ensures { result ≡ cell_count_up_or_left offset }
 {
     if offset < 0 {
         -(offset as i64) as u64
@@ -21,27 +21,27 @@ fn up_by(offset: i32) -> u64
     }
 }
 
-fn down_by(offset: i32) -> u64
-    ensures { result ≡ down_by offset }
+fn cell_count_down_or_right(offset: i32) -> u64
+    ensures { result ≡ cell_count_down_or_right offset }
 {
     if offset < 0 { 0 } else { offset as u64 }
 }
 
 // Returns the margin that contains an offset.
-fn margin_of(down: i32, right: i32) -> Margin
-    ensures { result ≡ margin_of down right }
+fn margin_containing_offset(down: i32, right: i32) -> Margin
+    ensures { result ≡ margin_containing_offset down right }
 {
     Margin {
-        up: up_by(down),
-        down: down_by(down),
-        left: up_by(right),
-        right: down_by(right),
+        up: cell_count_up_or_left(down),
+        down: cell_count_down_or_right(down),
+        left: cell_count_up_or_left(right),
+        right: cell_count_down_or_right(right),
     }
 }
 
 /// Returns the need of a map that is read only at the cell itself.
-pub(crate) fn own(place: usize) -> Need
-    ensures { result ≡ own place }
+pub(crate) fn need_of_own_cell(place: usize) -> MapNeed
+    ensures { result ≡ need_of_own_cell place }
 {
     let margin = Margin {
         up: 0,
@@ -49,7 +49,7 @@ pub(crate) fn own(place: usize) -> Need
         left: 0,
         right: 0,
     };
-    Need {
+    MapNeed {
         place,
         margin,
         whole: false,
@@ -57,56 +57,58 @@ pub(crate) fn own(place: usize) -> Need
 }
 
 /// Returns the needs of a command that reads only this map, at the cell itself.
-pub(crate) fn own_alone(alloc: Global, place: usize) -> Result<Needs, Memory>
-    ensures { IfOk result (λ needs. needs ≡ own place ∷ []) }
+pub(crate) fn needs_of_own_cell_only(alloc: Global, place: usize) -> Result<MapNeeds, Memory>
+    ensures { IfOk result (λ needs. needs ≡ need_of_own_cell place ∷ []) }
 {
-    let mut reads = Needs::new(alloc);
-    reads.add(own(place))?;
+    let mut reads = MapNeeds::new(alloc);
+    reads.add(need_of_own_cell(place))?;
     Ok(reads)
 }
 
-fn add_step(reads: &mut Needs, step: Step<usize>) -> Result<(), Memory>
-    ensures { OnOk result (reads.new ≡ with_needs reads.old (step_reads step)) }
+fn add_read_of_step(reads: &mut MapNeeds, step: Step<usize>) -> Result<(), Memory>
+    ensures { OnOk result (reads.new ≡ needs_with_added_needs reads.old (map_read_by_step step)) }
 {
     match step {
-        Step::Map { leaf, down, right } => reads.add(Need {
+        Step::Map { leaf, down, right } => reads.add(MapNeed {
             place: leaf,
-            margin: margin_of(down, right),
+            margin: margin_containing_offset(down, right),
             whole: false,
         }),
         _ => Ok(()),
     }
 }
 
-fn steps_reads(alloc: Global, steps: &[Step<usize>]) -> Result<Needs, Memory>
-    ensures { IfOk result (λ reads. reads ≡ with_needs [] (flat_map step_reads steps.now)) }
+fn maps_read_by_steps(alloc: Global, steps: &[Step<usize>]) -> Result<MapNeeds, Memory>
+    ensures { IfOk result (λ reads. reads ≡ needs_with_added_needs []
+        (flat_map map_read_by_step steps.now)) }
 {
-    let mut reads = Needs::new(alloc);
+    let mut reads = MapNeeds::new(alloc);
     for step in steps {
-        add_step(&mut reads, *step)?;
+        add_read_of_step(&mut reads, *step)?;
     }
     Ok(reads)
 }
 
-fn places_reads(alloc: Global, places: &[usize]) -> Result<Needs, Memory>
-    ensures { IfOk result (λ reads. reads ≡ with_needs [] (map own places.now)) }
+fn needs_of_places_at_own_cell(alloc: Global, places: &[usize]) -> Result<MapNeeds, Memory>
+    ensures { IfOk result (λ reads. reads ≡ needs_with_added_needs []
+        (map need_of_own_cell places.now)) }
 {
-    let mut reads = Needs::new(alloc);
+    let mut reads = MapNeeds::new(alloc);
     for place in places {
-        reads.add(own(*place))?;
+        reads.add(need_of_own_cell(*place))?;
     }
     Ok(reads)
 }
 
 /// Returns the maps that a command reads, each once.
-pub(crate) fn command_reads(alloc: Global, command: &Command) -> Result<Needs, Memory>
-    ensures { IfOk result (λ reads. reads ≡ command_reads command.now) }
+pub(crate) fn maps_read_by_command(alloc: Global, command: &Command) -> Result<MapNeeds, Memory>
+    ensures { IfOk result (λ reads. reads ≡ maps_read_by_command command.now) }
 {
     match command {
-        Command::Mapcalc { bound, .. } => steps_reads(alloc, bound.steps()),
-        Command::Reclass { place, .. } => own_alone(alloc, *place),
-        Command::Clump { place, .. } => own_alone(alloc, *place),
-        Command::Stats { places, .. } => places_reads(alloc, places.as_slice()),
-        Command::OutAscii { place, .. } => own_alone(alloc, *place),
+        Command::Mapcalc { bound, .. } => maps_read_by_steps(alloc, bound.steps()),
+        Command::Reclass { place, .. } => needs_of_own_cell_only(alloc, *place),
+        Command::Clump { place, .. } => needs_of_own_cell_only(alloc, *place),
+        Command::Stats { places, .. } => needs_of_places_at_own_cell(alloc, places.as_slice()),
+        Command::OutAscii { place, .. } => needs_of_own_cell_only(alloc, *place),
     }
 }

@@ -1,25 +1,25 @@
 //! Laws about local expressions, shifts, and expressions over tiles, in the terms of map algebra.
 
-ghost use Rattle.rcell_plan.specs.HaloParts.{HaloIsEnough, ReachIsEnough};
-ghost use Rattle.rcell_plan.specs.LocalLaw.{CountsFollow, LocalGoesByCombinations, OneValueACombination};
-ghost use Rattle.rcell_plan.specs.ReachParts.{MapsAreWithinReach};
+ghost use Rattle.rcell_plan.specs.HaloParts.{HaloIsEnough, ReachAndPositionAreEnough};
+ghost use Rattle.rcell_plan.specs.LocalLaw.{ValueCountSumsCombinations, CombinationDeterminesValue, SameCombinationGivesSameValue};
+ghost use Rattle.rcell_plan.specs.ReachParts.{NoMapIsReadBeyondReach};
 ghost use Rattle.rcell_plan.specs.ShiftLaw.{NullBeyondTheEdge, ShiftsAddUp};
-ghost use Rattle.rcell_plan.specs.TileLaw.{PlacedTilesMakeTheMap, TilesMakeTheMap};
+ghost use Rattle.rcell_plan.specs.TileLaw.{RewritingForTileKeepsValues, HaloedTileHasFullMapValues};
 
 /// A local expression has the same value at all cells with the same combination of the maps that it reads.
-pub fn one_value_a_combination()
-    ensures { OneValueACombination }
+pub fn same_combination_gives_same_value()
+    ensures { SameCombinationGivesSameValue }
 {}
 
 /// For every local expression, a function of the combination gives its values at all cells of all maps.
-pub fn local_goes_by_combinations()
-    ensures { LocalGoesByCombinations }
+pub fn combination_determines_value()
+    ensures { CombinationDeterminesValue }
 {}
 
 /// After `x = f` with a local expression f, the number of cells of x with a given value is the sum of the counts of the
 /// combinations that give this value, in the table of the maps that f reads.
-pub fn counts_follow()
-    ensures { CountsFollow }
+pub fn value_count_sums_combinations()
+    ensures { ValueCountSumsCombinations }
 {}
 
 /// After `x = g[a,b]`, `y = x[c,d]` and `z = g[a+c,b+d]`, y equals z at each cell from which the step (c,d) stays in
@@ -41,24 +41,24 @@ pub fn halo_is_enough()
 
 /// An expression that calls `row()` or similar functions also has the same value over a tile, if these functions return
 /// the position in the full map.
-pub fn reach_is_enough()
-    ensures { ReachIsEnough }
+pub fn reach_and_position_are_enough()
+    ensures { ReachAndPositionAreEnough }
 {}
 
 /// An expression reads no map beyond its reach.
-pub fn maps_are_within_reach()
-    ensures { MapsAreWithinReach }
+pub fn no_map_is_read_beyond_reach()
+    ensures { NoMapIsReadBeyondReach }
 {}
 
 /// If `x = f` is computed over the full map and `y = f` over a tile with its halo, y equals x in the tile, unless f
 /// uses a row or column number.
-pub fn tiles_make_the_map()
-    ensures { TilesMakeTheMap }
+pub fn haloed_tile_has_full_map_values()
+    ensures { HaloedTileHasFullMapValues }
 {}
 
 /// An expression has the same values in a tile, whether it is computed over the full map or, rewritten for the tile,
 /// over the tile with its halo. Rewriting replaces `row()` with `row() + t`, where t rows are above the tile, and
 /// adapts `col()`, `nrows()` and `ncols()`.
-pub fn placed_tiles_make_the_map()
-    ensures { PlacedTilesMakeTheMap }
+pub fn rewriting_for_tile_keeps_values()
+    ensures { RewritingForTileKeepsValues }
 {}

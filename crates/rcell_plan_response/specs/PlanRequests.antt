@@ -2,44 +2,45 @@
 use Rattle.std.specs.Prelude.{ℕ, nat_le, List, [], ◌∷◌, ◌++◌, length, Ok, Err, if◌then◌else◌}
 use Rattle.std.specs.Option.{is_none}
 use Rattle.std.specs.Int.{w32}
-use Rattle.cell_core_devices.specs.Device.{Coming}
+use Rattle.cell_core_devices.specs.Device.{ComingBytes}
 use Rattle.cell_core_values.specs.Answers.{◌>>=◌}
-use Rattle.cell_core_values.specs.Name.{place_of}
+use Rattle.cell_core_values.specs.Name.{place_of_name}
 use Rattle.rcell_pipe_request.specs.declared.error.ErrorKind.TheVariants as kinds
-use Rattle.rcell_pipe_request.specs.RequestFields.{FieldReading, Placed, error_at, number_at, steps}
-use Rattle.rcell_pipe_request.specs.Heads.{map_name_at}
-use Rattle.rcell_pipe_request.specs.Requests.{last_script_at}
+use Rattle.rcell_pipe_request.specs.RequestFields.{RequestFieldReading, PositionedReading, result_with_error_position}
+use Rattle.rcell_pipe_request.specs.RequestFields.{unsigned_number_reading, reading_repeated_n_times}
+use Rattle.rcell_pipe_request.specs.Heads.{map_name_reading}
+use Rattle.rcell_pipe_request.specs.Requests.{script_to_request_end_reading}
 use Rattle.rcell_plan_response.specs.declared.plan_request.PlanRequest.{PlanRequest}
 
 -- the number of names
-unfoldable pub name_count_at : Coming → FieldReading ℕ
-name_count_at c = do
-  count ← number_at w32 c
+unfoldable pub name_count_reading : ComingBytes → RequestFieldReading ℕ
+name_count_reading c = do
+  count ← unsigned_number_reading w32 c
   if nat_le count.0 65535 then Ok count else Err kinds.BadCount
 
 -- a name that differs from all previous names
-unfoldable pub unused_name_at : List (List ℕ) → Coming → FieldReading (List ℕ)
-unused_name_at names c = do
-  name ← map_name_at c
-  if is_none (place_of name.0 names) then Ok name else Err kinds.NameTwice
+unfoldable pub distinct_name_reading : List (List ℕ) → ComingBytes → RequestFieldReading (List ℕ)
+distinct_name_reading names c = do
+  name ← map_name_reading c
+  if is_none (place_of_name name.0 names) then Ok name else Err kinds.NameTwice
 
 -- the names so far, and one more
-unfoldable pub one_more_name : List (List ℕ) → Coming → Placed (List (List ℕ))
-one_more_name names c = do
-  name ← error_at (length names) 0 (unused_name_at names c)
+unfoldable pub names_with_next_name_reading : List (List ℕ) → ComingBytes → PositionedReading (List (List ℕ))
+names_with_next_name_reading names c = do
+  name ← result_with_error_position (length names) 0 (distinct_name_reading names c)
   Ok (names ++ name.0 ∷ [], name.1)
 
 pub record PlanRequestValue : Type 0 where
   pub names : List (List ℕ)
   pub script : List ℕ
 
-unfoldable pub plan_at : Coming → Placed PlanRequestValue
-plan_at c = do
-  count ← error_at 0 0 (name_count_at c)
-  names ← steps one_more_name [] count.0 count.1
-  script ← error_at count.0 0 (last_script_at names.1)
+unfoldable pub plan_request_reading : ComingBytes → PositionedReading PlanRequestValue
+plan_request_reading c = do
+  count ← result_with_error_position 0 0 (name_count_reading c)
+  names ← reading_repeated_n_times names_with_next_name_reading [] count.0 count.1
+  script ← result_with_error_position count.0 0 (script_to_request_end_reading names.1)
   Ok (record { names = names.0; script = script.0 }, script.1)
 
 -- the request as a value
-abbrev pub plan_request_value : PlanRequest → PlanRequestValue
-plan_request_value request = record { names = request.names; script = request.script.items }
+abbrev pub plan_request_as_value : PlanRequest → PlanRequestValue
+plan_request_as_value request = record { names = request.names; script = request.script.items }

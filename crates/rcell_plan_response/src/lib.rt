@@ -2,7 +2,7 @@
 //! the bytes (profile).
 //!
 //! - `responding`: `respond` reads a request and writes its response: all that `rcell-pipe` does
-//! - `plan_request`: `read_plan` reads names of maps and a script, or reports the first error
+//! - `plan_request`: `read_plan_request` reads names of maps and a script, or reports the first error
 //! - `plan_response`: `plan_request` writes the plan of each statement, as computed by `rcell_plan`
 //! - specs/Responses.antt: the response to every request
 //! - private: `plan_frames` and `plan_options` write plans as bytes; `plan_details` collects a statement's position

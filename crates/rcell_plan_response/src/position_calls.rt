@@ -1,14 +1,14 @@
 //! Finds the calls of `row()`, `col()`, `nrows()` and `ncols()` in the line of an r.mapcalc.
 
 ghost use Rattle.std.specs.Prelude.{◌≡◌, ◌≤◌, IfOk, length};
-ghost use Rattle.rcell_plan_response.specs.PositionCalls.{position_code, token_code, opens_call, closes_call, call_of, call_from, calls_among, calls_in_line};
+ghost use Rattle.rcell_plan_response.specs.PositionCalls.{position_function_code, position_function_code_of_token, is_opening_parenthesis, is_closing_parenthesis, position_call_of_three_tokens, position_call_starting_at_token, position_calls_among_tokens, position_calls_in_line};
 
 use cell_calc_grammar::calc_fault::CalcKind;
-use cell_calc_grammar::function::{Function, function_of};
-use cell_calc_grammar::token::{Placed, Sign, Token};
+use cell_calc_grammar::function::{Function, function_with_name};
+use cell_calc_grammar::token::{Sign, Token, TokenAtColumn};
 use cell_calc_grammar::tokens::tokens;
 use cell_core::memory::Memory;
-use rcell_script::r_mapcalc::assignment_text;
+use rcell_script::r_mapcalc::assignment_with_blanked_command;
 use std::alloc::Global;
 
 /// A call, from the column of its first byte to the column of its last byte. Columns start at 1.
@@ -20,8 +20,8 @@ pub struct PositionCall {
     pub code: u8,
 }
 
-fn position_code(function: Function) -> Option<u8>
-    ensures { result ≡ position_code function }
+fn position_function_code(function: Function) -> Option<u8>
+    ensures { result ≡ position_function_code function }
 {
     match function {
         Function::Row => Some(1),
@@ -32,17 +32,17 @@ fn position_code(function: Function) -> Option<u8>
     }
 }
 
-fn token_code(token: &Token) -> Option<u8>
-    ensures { result ≡ token_code token.now }
+fn position_function_code_of_token(token: &Token) -> Option<u8>
+    ensures { result ≡ position_function_code_of_token token.now }
 {
     match token {
-        Token::Name(name) => position_code(function_of(name.bytes())?),
+        Token::Name(name) => position_function_code(function_with_name(name.bytes())?),
         _ => None,
     }
 }
 
-fn opens_call(token: &Token) -> bool
-    ensures { result ≡ opens_call token.now }
+fn is_opening_parenthesis(token: &Token) -> bool
+    ensures { result ≡ is_opening_parenthesis token.now }
 {
     match token {
         Token::Sign(Sign::OpenParenthesis) => true,
@@ -50,8 +50,8 @@ fn opens_call(token: &Token) -> bool
     }
 }
 
-fn closes_call(token: &Token) -> bool
-    ensures { result ≡ closes_call token.now }
+fn is_closing_parenthesis(token: &Token) -> bool
+    ensures { result ≡ is_closing_parenthesis token.now }
 {
     match token {
         Token::Sign(Sign::CloseParenthesis) => true,
@@ -60,13 +60,17 @@ fn closes_call(token: &Token) -> bool
 }
 
 // Returns the call that three tokens form, if they form one.
-fn call_of(name: &Placed, opening: &Placed, closing: &Placed) -> Option<PositionCall>
-    ensures { result ≡ call_of name.now opening.now closing.now }
+fn position_call_of_three_tokens(
+    name: &TokenAtColumn,
+    opening: &TokenAtColumn,
+    closing: &TokenAtColumn,
+) -> Option<PositionCall>
+    ensures { result ≡ position_call_of_three_tokens name.now opening.now closing.now }
 {
-    if !opens_call(&opening.token) || !closes_call(&closing.token) {
+    if !is_opening_parenthesis(&opening.token) || !is_closing_parenthesis(&closing.token) {
         return None;
     }
-    let code = token_code(&name.token)?;
+    let code = position_function_code_of_token(&name.token)?;
     Some(PositionCall {
         first: name.column,
         last: closing.column,
@@ -75,22 +79,28 @@ fn call_of(name: &Placed, opening: &Placed, closing: &Placed) -> Option<Position
 }
 
 // Returns the call that starts at a token, if there is one.
-fn call_from(name: &Placed, others: &[Placed]) -> Option<PositionCall>
-    ensures { result ≡ call_from name.now others.now }
+fn position_call_starting_at_token(
+    name: &TokenAtColumn,
+    others: &[TokenAtColumn],
+) -> Option<PositionCall>
+    ensures { result ≡ position_call_starting_at_token name.now others.now }
 {
     match others {
-        [opening, closing, ..] => call_of(name, opening, closing),
+        [opening, closing, ..] => position_call_of_three_tokens(name, opening, closing),
         _ => None,
     }
 }
 
-fn calls_among(alloc: Global, tokens: &[Placed]) -> Result<Vec<PositionCall>, Memory>
-    ensures { IfOk result (λ calls. calls.items ≡ calls_among tokens.now) }
+fn position_calls_among_tokens(
+    alloc: Global,
+    tokens: &[TokenAtColumn],
+) -> Result<Vec<PositionCall>, Memory>
+    ensures { IfOk result (λ calls. calls.items ≡ position_calls_among_tokens tokens.now) }
 {
     let mut calls = Vec::new(alloc);
     let mut rest = tokens;
     while let [name, others @ ..] = rest {
-        if let Some(call) = call_from(name, others) {
+        if let Some(call) = position_call_starting_at_token(name, others) {
             calls.push(call)?;
         }
         rest = others;
@@ -103,13 +113,16 @@ fn calls_among(alloc: Global, tokens: &[Placed]) -> Result<Vec<PositionCall>, Me
 /// # Errors
 ///
 /// Returns [`Memory`] if memory runs out.
-pub(crate) fn calls_in_line(alloc: Global, line: &[u8]) -> Result<Vec<PositionCall>, Memory>
+pub(crate) fn position_calls_in_line(
+    alloc: Global,
+    line: &[u8],
+) -> Result<Vec<PositionCall>, Memory>
     requires { length line.now ≤ 65535 }
-    ensures { IfOk result (λ calls. calls.items ≡ calls_in_line line.now) }
+    ensures { IfOk result (λ calls. calls.items ≡ position_calls_in_line line.now) }
 {
-    let text = assignment_text(alloc, line)?;
+    let text = assignment_with_blanked_command(alloc, line)?;
     match tokens(alloc, &text) {
-        Ok(found) => calls_among(alloc, &found),
+        Ok(found) => position_calls_among_tokens(alloc, &found),
         Err(fault) => match fault.kind {
             CalcKind::Memory => Err(Memory),
             _ => Ok(Vec::new(alloc)),

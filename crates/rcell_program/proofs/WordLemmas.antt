@@ -7,8 +7,9 @@ use Rattle.std.proofs.lemmas.Bool.Decides.{nat_tests}
 use Rattle.std.proofs.lemmas.List.{drop_more}
 use Rattle.clap.specs.Walk.{Text, texts}
 use Rattle.rcell_command.proofs.ProcessLemmas.{text_at}
-use Rattle.rcell_command.specs.CommandWords.{begins_with_hyphen, has_hyphen_word, is_command}
-use Rattle.rcell_program.specs.CommandLine.{first_bad, grid_words, is_grid_argument, is_misuse}
+use Rattle.rcell_command.specs.CommandWords.{begins_with_hyphen, has_word_starting_with_hyphen, is_valid_command_line}
+use Rattle.rcell_program.specs.CommandLine.{place_of_first_bad_grid_word, words_of_grid_names_and_paths}
+use Rattle.rcell_program.specs.CommandLine.{is_grid_argument, words_are_usage_error}
 
 pub or_true : (b : Bool) → (b || true) ≡ true
 or_true true = refl
@@ -22,21 +23,23 @@ from_not true c is = ap not is
 from_not false c is = ap not is
 
 -- fewer than two words, or a first word that begins with a hyphen, are a misuse
-pub too_few : (words : List Text) → is_command words ≡ false → is_misuse words ≡ true
+pub too_few : (words : List Text) → is_valid_command_line words ≡ false → words_are_usage_error words ≡ true
 too_few [] bad = refl
-too_few (word ∷ []) bad = or_true (has_hyphen_word (word ∷ []))
+too_few (word ∷ []) bad = or_true (has_word_starting_with_hyphen (word ∷ []))
 too_few (first ∷ word ∷ words) bad =
     let flagged : begins_with_hyphen first ≡ true = from_not _ false bad in
     rw flagged refl
 
 -- a later word that begins with a hyphen is a misuse
-pub flagged : (first : Text) (rest : List Text) → has_hyphen_word rest ≡ true → is_misuse (first ∷ rest) ≡ true
+pub flagged : (first : Text) (rest : List Text) → has_word_starting_with_hyphen rest ≡ true
+    → words_are_usage_error (first ∷ rest) ≡ true
 flagged first rest is =
     ap (λ some. (begins_with_hyphen first || some) || nat_lt (length (first ∷ rest)) 2) is
     ∙ ap (λ some. some || nat_lt (length (first ∷ rest)) 2) (or_true (begins_with_hyphen first))
 
-pub well_used : (first : Text) (rest : List Text) → is_command (first ∷ rest) ≡ true → has_hyphen_word rest ≡ false
-    → is_misuse (first ∷ rest) ≡ false
+pub well_used : (first : Text) (rest : List Text) → is_valid_command_line (first ∷ rest) ≡ true
+    → has_word_starting_with_hyphen rest ≡ false
+    → words_are_usage_error (first ∷ rest) ≡ false
 well_used first [] good plain = apart good
 well_used first (word ∷ words) good plain =
     let first_plain : begins_with_hyphen first ≡ false = from_not _ true good in
@@ -54,7 +57,8 @@ made_reported (Ok x) y is f = cc
 made_reported (Err e) y is f = f e is
 
 pub grid_words_more : (names paths : List Text) (name path : Text) → length names ≡ length paths
-    → grid_words (names ++ name ∷ []) (paths ++ path ∷ []) ≡ grid_words names paths ++ (name ++ 61 ∷ path) ∷ []
+    → words_of_grid_names_and_paths (names ++ name ∷ []) (paths ++ path ∷ [])
+    ≡ words_of_grid_names_and_paths names paths ++ (name ++ 61 ∷ path) ∷ []
 grid_words_more [] [] name path same = refl
 grid_words_more [] (p ∷ ps) name path same = cc
 grid_words_more (n ∷ ns) [] name path same = cc
@@ -63,9 +67,10 @@ grid_words_more (n ∷ ns) (p ∷ ps) name path same =
 
 pub first_bad_next : (place : ℕ) (words : List (Bor Text)) (i : ℕ) (word : Bor Text) → i < length words
     → is_grid_argument (slice_index_or words i word).now ≡ true
-    → first_bad place (texts (drop i words)) ≡ first_bad (place + 1) (texts (drop (i + 1) words))
+    → place_of_first_bad_grid_word place (texts (drop i words))
+    ≡ place_of_first_bad_grid_word (place + 1) (texts (drop (i + 1) words))
 first_bad_next place words i word within good =
-    ap (λ left. first_bad place (texts left)) (drop_more words i word within) ∙ rw good refl
+    ap (λ left. place_of_first_bad_grid_word place (texts left)) (drop_more words i word within) ∙ rw good refl
 
 -- the text of a word at a place is the text at that place
 pub word_at : (words : List (Bor Text)) (i : ℕ) (word : Bor Text) (none : Text) → word ≡ slice_index_or words i word →

@@ -6,29 +6,36 @@ use Rattle.std.specs.Option.{option_map, IsSomeAnd}
 use Rattle.std.proofs.lemmas.List.Elements.{All-head, All-tail}
 use Rattle.std.proofs.lemmas.Option.{same_Some}
 use Rattle.cell_core.specs.Shelf.{ShelfValue}
-use Rattle.cell_core_devices.specs.Device.{Coming, Faults, has_failed}
-use Rattle.cell_core_devices.specs.Supposed.{Supposed, to_come}
+use Rattle.cell_core_devices.specs.Device.{ComingBytes, SinkFaults, has_failed}
+use Rattle.cell_core_devices.specs.Supposed.{SupposedContent, content_to_come}
 use Rattle.clap.specs.Walk.{Text}
-use Rattle.rcell.specs.Sources.{Named, Report, Suppose}
-use Rattle.rcell.specs.SourcesLaw.{contents_of}
+use Rattle.rcell.specs.Sources.{Named, SourcesHoldKnownContents, SourcesHoldSupposedContents}
+use Rattle.rcell.specs.SourcesLaw.{contents_of_named_sources}
 use Rattle.rcell.specs.declared.outcome.Outcome.{Outcome}
-use Rattle.rcell.specs.declared.outcome.Ran.{Ran}
+use Rattle.rcell.specs.declared.outcome.OutcomeWithSources.{OutcomeWithSources}
 use Rattle.rcell.specs.declared.run_fault.RunFault.{RunFault}
-use Rattle.rcell.specs.runs.Accepted.{IsAccepted}
-use Rattle.rcell.specs.runs.Statuses.{status_after}
+use Rattle.rcell.specs.runs.Accepted.{AreGridsAndScriptAccepted}
+use Rattle.rcell.specs.runs.Statuses.{exit_status_of_run}
 use Rattle.rcell.proofs.runs.EndLemmas.{none_at_zero}
-use Rattle.rcell_command.specs.CommandWords.{has_hyphen_word}
-use Rattle.rcell_command.specs.Processes.{ErrorLine, GivesFile, OpensSomeFiles, HasReported, IsTold, grown}
-use Rattle.rcell_command.specs.Reported.{PlaceValue, status_of}
+use Rattle.rcell_command.specs.CommandWords.{has_word_starting_with_hyphen}
+use Rattle.rcell_command.specs.Processes.{StandardErrorLine, SourceGivesContentsOfFile, OpensFilesAtFirstPaths}
+use Rattle.rcell_command.specs.Processes.{HasOnlyReportedError}
+use Rattle.rcell_command.specs.Processes.{IsErrorLinePrinted, known_list_with_items}
+use Rattle.rcell_command.specs.Reported.{ErrorPlaceValue, exit_status_of_error_place}
 use Rattle.rcell_command.proofs.ProcessLemmas.{known_gives, nowhere, opened_none, opens_after, told_after, told_at}
-use Rattle.rcell_program.specs.CommandLine.{IsRequest, first_bad, grid_name, grid_names}
-use Rattle.rcell_program.specs.CommandLine.{grid_path, grid_paths, is_misuse, refusal_of, script_path}
-use Rattle.rcell_program.specs.Refusals.{IsOfOpening, grid_path_at, refusal_place, run_place}
-use Rattle.rcell_program.specs.OpenedGrids.{AreFiles}
-use Rattle.rcell_program.specs.Work.{AreTexts, EndsWork, IsDoneOverFiles, IsDoneWork, IsReason, MayBeInAnyFile}
-use Rattle.rcell_program.specs.Work.{HasRun, IsWork, Rejected, WorkEnd, end_place, run_in_end}
+use Rattle.rcell_program.specs.CommandLine.{WordsNameScriptAndGrids, place_of_first_bad_grid_word}
+use Rattle.rcell_program.specs.CommandLine.{grid_name_in_argument}
+use Rattle.rcell_program.specs.CommandLine.{grid_names_in_arguments}
+use Rattle.rcell_program.specs.CommandLine.{grid_path_in_argument, grid_paths_in_arguments, words_are_usage_error}
+use Rattle.rcell_program.specs.CommandLine.{refusal_of_words, script_path_in_arguments}
+use Rattle.rcell_program.specs.Refusals.{IsRefusalOfOpeningFiles, grid_path_at_place, error_place_of_refusal}
+use Rattle.rcell_program.specs.Refusals.{error_place_of_run}
+use Rattle.rcell_program.specs.OpenedGrids.{SourcesHoldFileContents}
+use Rattle.rcell_program.specs.Work.{AreContentsOfNamedFiles, IsEndOfWork, IsDoneOverFiles, IsProgramDoneWithoutError}
+use Rattle.rcell_program.specs.Work.{IsReasonForNoRun, MayBeContentOfAnyFile}
+use Rattle.rcell_program.specs.Work.{HasRun, IsWork, Rejected, ProgramEnd, error_place_of_work_end, run_of_work_end}
 use Rattle.rcell_program.specs.declared.refusal.Refusal.{Refusal}
-use Rattle.rcell_program.specs.declared.worked.Worked.{Worked}
+use Rattle.rcell_program.specs.declared.worked.FinishedWork.{FinishedWork}
 use Rattle.rcell_program.specs.declared.refusal.Refusal.TheVariants.{Usage, GridWord, Memory, ScriptFile, GridFile}
 use Rattle.rcell_program.proofs.WordLemmas.{or_true}
 use Rattle.rcell_script.specs.declared.statement.Statement.{Statement}
@@ -56,13 +63,16 @@ of_form true bad refusal is = let same : Usage ≡ refusal = cc in subst OfWords
 of_form false None refusal is = cc
 of_form false (Some place) refusal is = let same : GridWord place ≡ refusal = cc in subst OfWords same tt
 
-of_words : (words : List Text) (refusal : Refusal) → refusal_of words ≡ Some refusal → OfWords refusal
-of_words words refusal is = of_form (is_misuse words) (first_bad 2 (drop 1 words)) refusal is
+of_words : (words : List Text) (refusal : Refusal) → refusal_of_words words ≡ Some refusal → OfWords refusal
+of_words words refusal is = of_form (words_are_usage_error words) (place_of_first_bad_grid_word 2
+    (drop 1 words)) refusal is
 
 -- the words could not be read
-pub reason_unknown : (files : Text → Option Coming) (all : Option (List Text)) (refusal : Refusal) → (refusal ≢ Memory
-    → (refusal ≡ Usage) × (all ≡ None)) → IsReason files (given_of all) refusal
-reason_unknown files all Usage reported = let p = reported (λ same. cc) in ap (λ known. refusal_of (given_of known)) p.1
+pub reason_unknown : (files : Text → Option ComingBytes) (all : Option (List Text)) (refusal : Refusal)
+    → (refusal ≢ Memory
+    → (refusal ≡ Usage) × (all ≡ None)) → IsReasonForNoRun files (given_of all) refusal
+reason_unknown files all Usage reported = let p = reported (λ same. cc) in ap
+    (λ known. refusal_of_words (given_of known)) p.1
 reason_unknown files all (GridWord place) reported = let p = reported (λ same. cc) in let bad : GridWord place ≡ Usage
     = p.0 in cc
 reason_unknown files all Memory reported = tt
@@ -71,7 +81,8 @@ reason_unknown files all (GridFile grid) reported = let p = reported (λ same. c
     p.0 in cc
 
 pub place_unknown : (names : List Text) (all : Option (List Text)) (refusal : Refusal) → (refusal ≢ Memory → (refusal
-    ≡ Usage) × (all ≡ None)) → ◌≡◌ {A = Option PlaceValue} (Some (refusal_place [] refusal)) (Some (refusal_place
+    ≡ Usage) × (all ≡ None)) → ◌≡◌ {A = Option ErrorPlaceValue} (Some (error_place_of_refusal [] refusal))
+    (Some (error_place_of_refusal
     names refusal))
 place_unknown names all Usage reported = refl
 place_unknown names all (GridWord place) reported = refl
@@ -81,16 +92,18 @@ place_unknown names all (GridFile grid) reported = let p = reported (λ same. cc
     p.0 in cc
 
 -- the words do not ask for a run
-pub reason_words : (files : Text → Option Coming) (words : List Text) (refusal : Refusal) → (refusal ≢ Memory →
-    refusal_of words ≡ Some refusal) → IsReason files words refusal
+pub reason_words : (files : Text → Option ComingBytes) (words : List Text) (refusal : Refusal) → (refusal ≢ Memory →
+    refusal_of_words words ≡ Some refusal) → IsReasonForNoRun files words refusal
 reason_words files words Usage reported = reported (λ same. cc)
 reason_words files words (GridWord place) reported = reported (λ same. cc)
 reason_words files words Memory reported = tt
 reason_words files words ScriptFile reported = absurd (of_words words ScriptFile (reported (λ same. cc)))
 reason_words files words (GridFile grid) reported = absurd (of_words words (GridFile grid) (reported (λ same. cc)))
 
-pub place_words : (names words : List Text) (refusal : Refusal) → (refusal ≢ Memory → refusal_of words ≡ Some refusal)
-    → ◌≡◌ {A = Option PlaceValue} (Some (refusal_place [] refusal)) (Some (refusal_place names refusal))
+pub place_words : (names words : List Text) (refusal : Refusal)
+    → (refusal ≢ Memory → refusal_of_words words ≡ Some refusal)
+    → ◌≡◌ {A = Option ErrorPlaceValue} (Some (error_place_of_refusal [] refusal))
+    (Some (error_place_of_refusal names refusal))
 place_words names words Usage reported = refl
 place_words names words (GridWord place) reported = refl
 place_words names words Memory reported = refl
@@ -98,33 +111,39 @@ place_words names words ScriptFile reported = refl
 place_words names words (GridFile grid) reported = absurd (of_words words (GridFile grid) (reported (λ same. cc)))
 
 -- words that are accepted name a grid
-names_grid : (words : List Text) → refusal_of words ≡ None → grid_paths words ≡ [] → ⊥
+names_grid : (words : List Text) → refusal_of_words words ≡ None → grid_paths_in_arguments words ≡ [] → ⊥
 names_grid [] good none = let bad : Some Usage ≡ None = good in cc
 names_grid (script ∷ []) good none =
-    let misuse : is_misuse (script ∷ []) ≡ true = or_true (has_hyphen_word (script ∷ [])) in
-    let bad : Some Usage ≡ None = ap (λ b. if b then Some Usage else option_map (λ place. GridWord place) (first_bad 2
+    let misuse : words_are_usage_error (script ∷ []) ≡ true = or_true (has_word_starting_with_hyphen (script ∷ [])) in
+    let bad : Some Usage ≡ None = ap (λ b. if b then Some Usage else option_map (λ place. GridWord place)
+    (place_of_first_bad_grid_word 2
     [])) (sym misuse) ∙ good in
     cc
 names_grid (script ∷ grid ∷ grids) good none = cc
 
 -- a file could not be opened
-pub reason_files : (files : Text → Option Coming) (words : List Text) (script : Text) (names paths : List Text)
-    (refusal : Refusal) → IsRequest words script names paths
-    → refusal_of words ≡ None → IsOfOpening files script paths refusal → IsReason files words refusal
+pub reason_files : (files : Text → Option ComingBytes) (words : List Text) (script : Text) (names paths : List Text)
+    (refusal : Refusal) → WordsNameScriptAndGrids words script names paths
+    → refusal_of_words words ≡ None → IsRefusalOfOpeningFiles files script paths refusal
+    → IsReasonForNoRun files words refusal
 reason_files files words script names paths Usage asked good is = absurd (names_grid words good (sym asked.of_paths ∙
     is))
 reason_files files words script names paths (GridWord place) asked good is = absurd is
 reason_files files words script names paths Memory asked good is = tt
 reason_files files words script names paths ScriptFile asked good is = ap files (sym asked.of_script) ∙ is
 reason_files files words script names paths (GridFile grid) asked good is = subst (λ all. (grid < length all) × (files
-    (grid_path_at all grid) ≡ None)) asked.of_paths is
+    (grid_path_at_place all grid) ≡ None)) asked.of_paths is
 
 -- the sources of the grids give the content of the known files
-pub reports : {F : Type 0} (files : Text → Option Coming) (coming : F → Option Coming) (words : List Text) (grids :
+pub reports : {F : Type 0} (files : Text → Option ComingBytes) (coming : F
+    → Option ComingBytes) (words : List Text) (grids :
     List (Text × F)) (named : List Named)
-    → map (λ grid. grid.0) grids ≡ map grid_name words → AllZip (λ path grid. GivesFile files coming path grid.1) (map
-    grid_path words) grids
-    → AllZip (λ word n. (grid_name word ≡ n.0) × (files (grid_path word) ≡ Some n.1)) words named → Report coming
+    → map (λ grid. grid.0) grids ≡ map grid_name_in_argument words → AllZip
+    (λ path grid. SourceGivesContentsOfFile files coming path grid.1) (map
+    grid_path_in_argument words) grids
+    → AllZip (λ word n. (grid_name_in_argument word ≡ n.0) × (files (grid_path_in_argument word)
+    ≡ Some n.1)) words named
+    → SourcesHoldKnownContents coming
     grids named
 reports files coming [] [] [] names gives are = tt
 reports files coming [] [] (n ∷ named) names gives are = absurd are
@@ -132,35 +151,40 @@ reports files coming [] (grid ∷ grids) named names gives are = absurd gives
 reports files coming (word ∷ words) [] named names gives are = absurd gives
 reports files coming (word ∷ words) (grid ∷ grids) [] names gives are = absurd are
 reports files coming (word ∷ words) (grid ∷ grids) (n ∷ named) names gives are =
-    let first : grid.0 ≡ grid_name word = cc in
-    let others : map (λ grid. grid.0) grids ≡ map grid_name words = cc in (
-      (first ∙ are.0.0, known_gives (files (grid_path word)) are.0.1 gives.0),
+    let first : grid.0 ≡ grid_name_in_argument word = cc in
+    let others : map (λ grid. grid.0) grids ≡ map grid_name_in_argument words = cc in (
+      (first ∙ are.0.0, known_gives (files (grid_path_in_argument word)) are.0.1 gives.0),
       reports files coming words grids named
           others gives.1 are.1,
     )
 
 -- the sources of the grids are supposed to hold the content of their files
-pub supposes : {F : Type 0} (file : Text → Supposed) (supposed : F → Supposed) (words : List Text) (grids : List (Text
+pub supposes : {F : Type 0} (file : Text → SupposedContent) (supposed : F
+    → SupposedContent) (words : List Text) (grids : List (Text
     × F)) (named : List Named)
-    → map (λ grid. grid.0) grids ≡ map grid_name words → AreFiles file supposed (map grid_path words) grids
-    → AllZip (λ word n. (grid_name word ≡ n.0) × (to_come (file (grid_path word)) n.1 ≡ Some n.1)) words named
-    → Suppose supposed (contents_of named) grids named
+    → map (λ grid. grid.0) grids ≡ map grid_name_in_argument words
+    → SourcesHoldFileContents file supposed (map grid_path_in_argument words) grids
+    → AllZip (λ word n. (grid_name_in_argument word ≡ n.0) × (content_to_come (file (grid_path_in_argument word)) n.1
+    ≡ Some n.1)) words named
+    → SourcesHoldSupposedContents supposed (contents_of_named_sources named) grids named
 supposes file supposed [] [] [] names files are = tt
 supposes file supposed [] [] (n ∷ named) names files are = absurd are
 supposes file supposed [] (grid ∷ grids) named names files are = absurd files
 supposes file supposed (word ∷ words) [] named names files are = absurd files
 supposes file supposed (word ∷ words) (grid ∷ grids) [] names files are = absurd are
 supposes file supposed (word ∷ words) (grid ∷ grids) (n ∷ named) names files are =
-    let first : grid.0 ≡ grid_name word = cc in
-    let others : map (λ grid. grid.0) grids ≡ map grid_name words = cc in (
-      (first ∙ are.0.0, ap (λ (s : Supposed). to_come s n.1) files.0 ∙ are.0.1),
+    let first : grid.0 ≡ grid_name_in_argument word = cc in
+    let others : map (λ grid. grid.0) grids ≡ map grid_name_in_argument words = cc in (
+      (first ∙ are.0.0, ap (λ (s : SupposedContent). content_to_come s n.1) files.0 ∙ are.0.1),
       supposes file supposed words grids named others files.1 are.1,
     )
 
 -- a known file is not missing
-not_missing : (files : Text → Option Coming) (words : List Text) (named : List Named) (grid : ℕ)
-    → AllZip (λ word n. (grid_name word ≡ n.0) × (files (grid_path word) ≡ Some n.1)) words named
-    → grid < length (map grid_path words) → files (grid_path_at (map grid_path words) grid) ≡ None → ⊥
+not_missing : (files : Text → Option ComingBytes) (words : List Text) (named : List Named) (grid : ℕ)
+    → AllZip (λ word n. (grid_name_in_argument word ≡ n.0) × (files (grid_path_in_argument word)
+    ≡ Some n.1)) words named
+    → grid < length (map grid_path_in_argument words) → files
+    (grid_path_at_place (map grid_path_in_argument words) grid) ≡ None → ⊥
 not_missing files [] named grid are within missing = absurd (nowhere grid within)
 not_missing files (word ∷ words) [] grid are within missing = absurd are
 not_missing files (word ∷ words) (n ∷ named) zero are within missing = let bad : None ≡ Some n.1 = sym missing ∙
@@ -170,11 +194,13 @@ not_missing files (word ∷ words) (n ∷ named) (suc grid) are within missing =
 
 -- the status returned is the status of the run
 status_same : (names : List Text) (fault : Option RunFault) (outcome : Outcome) → outcome.fault ≡ fault →
-    outcome.status ≡ status_after outcome.fault → status_of (run_place names outcome) ≡ outcome.status
-status_same names None outcome is status = ap status_of (ap (option_map _) is) ∙ sym (status ∙ ap status_after is)
-status_same names (Some fault) outcome is status = ap status_of (ap (option_map _) is)
+    outcome.status ≡ exit_status_of_run outcome.fault → exit_status_of_error_place (error_place_of_run names outcome)
+    ≡ outcome.status
+status_same names None outcome is status = ap exit_status_of_error_place (ap (option_map _) is)
+    ∙ sym (status ∙ ap exit_status_of_run is)
+status_same names (Some fault) outcome is status = ap exit_status_of_error_place (ap (option_map _) is)
 
-no_place : (names : List Text) (outcome : Outcome) → outcome.fault ≡ None → run_place names outcome ≡ None
+no_place : (names : List Text) (outcome : Outcome) → outcome.fault ≡ None → error_place_of_run names outcome ≡ None
 no_place names outcome is = ap (option_map _) is
 
 same_given : {given words : List Text} (all : Option (List Text)) → all ≡ Some words → IfSome all (λ known. given ≡
@@ -182,22 +208,30 @@ same_given : {given words : List Text} (all : Option (List Text)) → all ≡ So
 same_given None is known = cc
 same_given (Some other) is known = known ∙ ap (drop 1) (same_Some other _ is)
 
-pub all_paths : (words : List Text) (script : Text) (names paths : List Text) → IsRequest words script names paths →
-    ◌≡◌ {A = List Text} (script ∷ paths) (script_path words ∷ grid_paths words)
-all_paths words script names paths asked = ap (λ first. first ∷ paths) asked.of_script ∙ ap (λ others. script_path
+pub all_paths : (words : List Text) (script : Text) (names paths : List Text)
+    → WordsNameScriptAndGrids words script names paths →
+    ◌≡◌ {A = List Text} (script ∷ paths) (script_path_in_arguments words ∷ grid_paths_in_arguments words)
+all_paths words script names paths asked = ap (λ first. first ∷ paths) asked.of_script
+    ∙ ap (λ others. script_path_in_arguments
     words ∷ others) asked.of_paths
 
-done_by : {F P W : Type 0} (files : P → List ℕ → Option Coming) (file : P → List ℕ → Supposed) (supposed : F → Supposed)
+done_by : {F P W : Type 0} (files : P → List ℕ → Option ComingBytes) (file : P → List ℕ
+    → SupposedContent) (supposed : F → SupposedContent)
     (opened : P → Option (List (List ℕ))) (errors : P →
-    Option (List ErrorLine)) (failed : P → Bool) (taken : W → Option (List ℕ)) (faults : W → Faults) (old new : P)
-    (out now : W) (given : List Text) (end : WorkEnd F) (status : ℕ) (named : List Named) (text : Coming) (shelf :
+    Option (List StandardErrorLine)) (failed : P → Bool) (taken : W → Option (List ℕ)) (faults : W
+    → SinkFaults) (old new : P)
+    (out now : W) (given : List Text) (end : ProgramEnd F) (status : ℕ) (named : List Named) (text : ComingBytes)
+    (shelf :
     ShelfValue) (statements : List Statement)
-    → EndsWork (files old) (file old) supposed given (opened old) (opened new) taken faults out now end
-    → IsTold errors failed old new
-    (codes "rcell") (end_place (grid_names given) end) status
-    → refusal_of given ≡ None → AreTexts (files old) given named text → IsAccepted named text shelf statements →
+    → IsEndOfWork (files old) (file old) supposed given (opened old) (opened new) taken faults out now end
+    → IsErrorLinePrinted errors failed old new
+    (codes "rcell") (error_place_of_work_end (grid_names_in_arguments given) end) status
+    → refusal_of_words given ≡ None → AreContentsOfNamedFiles (files old) given named text
+    → AreGridsAndScriptAccepted named text shelf statements →
     status ≢ 3 → has_failed (faults now) ≡ false
-    → IsDoneWork shelf statements (script_path given ∷ grid_paths given) (opened old) (opened new) (errors old)
+    → IsProgramDoneWithoutError shelf statements (script_path_in_arguments given ∷ grid_paths_in_arguments given)
+    (opened old) (opened new)
+    (errors old)
     (errors new) (taken out) (taken now) status
 done_by files file supposed opened errors failed taken faults old new out now given (Rejected Usage) status named text
     shelf
@@ -219,20 +253,21 @@ done_by files file supposed opened errors failed taken faults old new out now gi
 done_by files file supposed opened errors failed taken faults old new out now given (HasRun ran) status named text shelf
     statements
     ends told good are accepted memory well =
-    let same = told.status_is ∙ status_same (grid_names given) ran.outcome.fault ran.outcome refl ends.status in
+    let same = told.status_is ∙ status_same (grid_names_in_arguments given) ran.outcome.fault ran.outcome refl
+    ends.status in
     let all = (ends.over named text are).headline shelf statements accepted (λ three. memory (same ∙ three)) well in
     record {
       output = all.1.1.text;
       of_script = all.1.1.output;
       written = all.1.1.taken;
       opens = ends.opens;
-      silent = told.silent (no_place (grid_names given) ran.outcome all.1.0);
+      silent = told.silent (no_place (grid_names_in_arguments given) ran.outcome all.1.0);
       good = same ∙ all.0;
     }
 
 -- an error before a run has a status other than 0
 refusal_not_zero : {X : Type 0} (names : List Text) (refusal : Refusal)
-    → status_of (Some (refusal_place names refusal)) ≡
+    → exit_status_of_error_place (Some (error_place_of_refusal names refusal)) ≡
     0 → X
 refusal_not_zero names Usage good = cc
 refusal_not_zero names (GridWord place) good = cc
@@ -241,56 +276,65 @@ refusal_not_zero names ScriptFile good = cc
 refusal_not_zero names (GridFile grid) good = cc
 
 -- contents that any file may have, under the names of the grids, are contents of the files that the words name
-in_files : (file : Text → Supposed) (words : List Text) (named : List Named)
-    → map (λ n. n.0) named ≡ map grid_name words
-    → All (λ n. MayBeInAnyFile file n.1) named
-    → AllZip (λ word n. (grid_name word ≡ n.0) × (to_come (file (grid_path word)) n.1 ≡ Some n.1)) words named
+in_files : (file : Text → SupposedContent) (words : List Text) (named : List Named)
+    → map (λ n. n.0) named ≡ map grid_name_in_argument words
+    → All (λ n. MayBeContentOfAnyFile file n.1) named
+    → AllZip (λ word n. (grid_name_in_argument word ≡ n.0) × (content_to_come (file (grid_path_in_argument word)) n.1
+    ≡ Some n.1)) words named
 in_files file [] [] names are = tt
 in_files file [] (n ∷ named) names are = cc
 in_files file (word ∷ words) [] names are = cc
 in_files file (word ∷ words) (n ∷ named) names are =
-    let first : grid_name word ≡ n.0 = cc in
-    let others : map (λ n. n.0) named ≡ map grid_name words = cc in
-    let head = All-head (λ (n : Named). MayBeInAnyFile file n.1) n named are in
-    let tail = All-tail (λ (n : Named). MayBeInAnyFile file n.1) n named are in
-    ((first, head (grid_path word)), in_files file words named others tail)
+    let first : grid_name_in_argument word ≡ n.0 = cc in
+    let others : map (λ n. n.0) named ≡ map grid_name_in_argument words = cc in
+    let head = All-head (λ (n : Named). MayBeContentOfAnyFile file n.1) n named are in
+    let tail = All-tail (λ (n : Named). MayBeContentOfAnyFile file n.1) n named are in
+    ((first, head (grid_path_in_argument word)), in_files file words named others tail)
 
 -- at status 0, there was a run, and it wrote the output for all contents with which the reads agreed
-over_files : {F P W : Type 0} (files : P → List ℕ → Option Coming) (file : P → List ℕ → Supposed) (supposed : F →
-    Supposed) (opened : P → Option (List (List ℕ))) (errors : P → Option (List ErrorLine)) (failed : P → Bool)
-    (taken : W → Option (List ℕ)) (faults : W → Faults) (old new : P) (out now : W) (worked : Worked F)
-    (given : List Text) (end : WorkEnd F) → worked.ran ≡ run_in_end end
-    → IfSome worked.ran (λ ran. worked.names.items ≡ grid_names given)
-    → EndsWork (files old) (file old) supposed given (opened old) (opened new) taken faults out now end
-    → IsTold errors failed old new (codes "rcell") (end_place (grid_names given) end) worked.status → worked.status ≡ 0
+over_files : {F P W : Type 0} (files : P → List ℕ → Option ComingBytes) (file : P → List ℕ
+    → SupposedContent) (supposed : F →
+    SupposedContent) (opened : P → Option (List (List ℕ))) (errors : P → Option (List StandardErrorLine)) (failed : P
+    → Bool)
+    (taken : W → Option (List ℕ)) (faults : W → SinkFaults) (old new : P) (out now : W) (worked : FinishedWork F)
+    (given : List Text) (end : ProgramEnd F) → worked.ran ≡ run_of_work_end end
+    → IfSome worked.ran (λ ran. worked.names.items ≡ grid_names_in_arguments given)
+    → IsEndOfWork (files old) (file old) supposed given (opened old) (opened new) taken faults out now end
+    → IsErrorLinePrinted errors failed old new (codes "rcell")
+    (error_place_of_work_end (grid_names_in_arguments given) end) worked.status → worked.status ≡ 0
     → IsSomeAnd worked.ran (IsDoneOverFiles (file old) supposed worked.names.items (taken out) (taken now))
 over_files files file supposed opened errors failed taken faults old new out now worked given (Rejected refusal) same
     names ends told good =
-    refusal_not_zero (grid_names given) refusal (sym told.status_is ∙ good)
+    refusal_not_zero (grid_names_in_arguments given) refusal (sym told.status_is ∙ good)
 over_files {F} files file supposed opened errors failed taken faults old new out now worked given (HasRun ran) same
     names ends told good =
-    let status = sym (status_same (grid_names given) ran.outcome.fault ran.outcome refl ends.status) ∙ sym
+    let status = sym (status_same (grid_names_in_arguments given) ran.outcome.fault ran.outcome refl ends.status) ∙ sym
     told.status_is ∙ good in
-    let read : worked.names.items ≡ grid_names given = subst (λ (all : Option (Ran F)). IfSome all (λ ran.
-    worked.names.items ≡ grid_names given)) same names in
+    let read : worked.names.items ≡ grid_names_in_arguments given = subst
+    (λ (all : Option (OutcomeWithSources F)). IfSome all
+    (λ ran.
+    worked.names.items ≡ grid_names_in_arguments given)) same names in
     rw same (record {
       done = λ named text are agreed.
           (ends.agreed named text (record {
-            script = are.script (script_path given);
+            script = are.script (script_path_in_arguments given);
             grids = in_files (file old) (drop 1 given) named (are.named_so ∙ read) are.grids;
           }) agreed).done (none_at_zero ran.outcome.fault (sym ends.status ∙ status));
     })
 
-module _ {F P W : Type 0} {words : P → Option (List (List ℕ))} {files : P → List ℕ → Option Coming}
-    {file : P → List ℕ → Supposed} {supposed : F → Supposed} {opened : P → Option
-    (List (List ℕ))} {errors : P → Option (List ErrorLine)} {failed : P → Bool} {taken : W → Option (List ℕ)} {faults
-    : W → Faults} where
+module _ {F P W : Type 0} {words : P → Option (List (List ℕ))} {files : P → List ℕ → Option ComingBytes}
+    {file : P → List ℕ → SupposedContent} {supposed : F → SupposedContent} {opened : P → Option
+    (List (List ℕ))} {errors : P → Option (List StandardErrorLine)} {failed : P → Bool} {taken : W
+    → Option (List ℕ)} {faults
+    : W → SinkFaults} where
   -- no run was started because the words could not be read or do not ask for a run
-  pub rejected : {old new : P} {out : W} (given : List Text) (refusal : Refusal) (worked : Worked F)
+  pub rejected : {old new : P} {out : W} (given : List Text) (refusal : Refusal) (worked : FinishedWork F)
       → IfSome (words old) (λ
-      all. given ≡ drop 1 all) → worked.ran ≡ None → IsReason (files old) given refusal
-      → ◌≡◌ {A = Option PlaceValue} (Some (refusal_place [] refusal)) (Some (refusal_place (grid_names given) refusal))
-      → HasReported opened errors failed old new (codes "rcell") (Some (refusal_place [] refusal)) worked.status
+      all. given ≡ drop 1 all) → worked.ran ≡ None → IsReasonForNoRun (files old) given refusal
+      → ◌≡◌ {A = Option ErrorPlaceValue} (Some (error_place_of_refusal [] refusal))
+      (Some (error_place_of_refusal (grid_names_in_arguments given) refusal))
+      → HasOnlyReportedError opened errors failed old new (codes "rcell")
+      (Some (error_place_of_refusal [] refusal)) worked.status
       → IsWork words files file supposed opened errors failed old new taken faults out out worked
   rejected {old} {new} given refusal worked known none reason place reported = record {
     given = given;
@@ -309,10 +353,12 @@ module _ {F P W : Type 0} {words : P → Option (List (List ℕ))} {files : P �
 
   -- no run was started because a file could not be opened
   pub unopened : {old mid new : P} {out : W} (given : List Text) (script : Text) (names paths shown : List Text)
-      (refusal : Refusal) (worked : Worked F) → IfSome (words old) (λ all. given ≡ drop 1 all) → worked.ran ≡ None
-      → IsRequest given script names paths → refusal_of given ≡ None → IsOfOpening (files old) script paths refusal →
-      OpensSomeFiles files opened errors failed old mid (script ∷ paths)
-      → shown ≡ names → HasReported opened errors failed mid new (codes "rcell") (Some (refusal_place shown refusal))
+      (refusal : Refusal) (worked : FinishedWork F) → IfSome (words old) (λ all. given ≡ drop 1 all) → worked.ran ≡ None
+      → WordsNameScriptAndGrids given script names paths → refusal_of_words given ≡ None
+      → IsRefusalOfOpeningFiles (files old) script paths refusal →
+      OpensFilesAtFirstPaths files opened errors failed old mid (script ∷ paths)
+      → shown ≡ names → HasOnlyReportedError opened errors failed mid new (codes "rcell")
+      (Some (error_place_of_refusal shown refusal))
       worked.status
       → IsWork words files file supposed opened errors failed old new taken faults out out worked
   unopened {old} {mid} {new} given script names paths shown refusal worked known none asked good reason some same
@@ -326,27 +372,34 @@ module _ {F P W : Type 0} {words : P → Option (List (List ℕ))} {files : P �
         ends = record {
           reason = reason_files (files old) given script names paths refusal asked good reason;
           count = some.count;
-          opens = opens_after some.opens reported ∙ ap (λ all. grown (opened old) (take some.count all)) (all_paths given
+          opens = opens_after some.opens reported ∙ ap (λ all. known_list_with_items (opened old) (take some.count all)) (all_paths given
               script names paths asked);
           untouched = refl;
         };
-        told = told_at (ap (λ all. Some (refusal_place all refusal)) (same ∙ asked.of_names)) (told_after some.opens
+        told = told_at (ap (λ all. Some (error_place_of_refusal all refusal)) (same ∙ asked.of_names))
+            (told_after some.opens
             reported);
       }
 
   -- the outcome for words and files that are known
-  pub headline_of : {old new : P} {out now : W} {worked : Worked F} → IsWork words files file supposed opened errors
+  pub headline_of : {old new : P} {out now : W} {worked : FinishedWork F}
+      → IsWork words files file supposed opened errors
       failed old new taken
       faults out now worked
-      → (all : List Text) (named : List Named) (text : Coming) (shelf : ShelfValue) (statements : List Statement)
-      → words old ≡ Some all → refusal_of (drop 1 all) ≡ None → AreTexts (files old) (drop 1 all) named text →
-      IsAccepted named text shelf statements → worked.status ≢ 3 → has_failed (faults now) ≡ false
-      → IsDoneWork shelf statements (script_path (drop 1 all) ∷ grid_paths (drop 1 all)) (opened old) (opened new)
+      → (all : List Text) (named : List Named) (text : ComingBytes) (shelf : ShelfValue) (statements : List Statement)
+      → words old ≡ Some all → refusal_of_words (drop 1 all) ≡ None
+      → AreContentsOfNamedFiles (files old) (drop 1 all) named text →
+      AreGridsAndScriptAccepted named text shelf statements → worked.status ≢ 3 → has_failed (faults now) ≡ false
+      → IsProgramDoneWithoutError shelf statements (script_path_in_arguments (drop 1 all)
+      ∷ grid_paths_in_arguments (drop 1 all)) (opened old)
+      (opened new)
       (errors old) (errors new) (taken out) (taken now) worked.status
   headline_of {old} {new} {out} {now} {worked} is all named text shelf statements known good are accepted memory well =
       let same : is.given ≡ drop 1 all = same_given (words old) known is.known in
-      subst (λ given. refusal_of given ≡ None → AreTexts (files old) given named text
-      → IsDoneWork shelf statements (script_path given ∷ grid_paths given) (opened old) (opened new) (errors old)
+      subst (λ given. refusal_of_words given ≡ None → AreContentsOfNamedFiles (files old) given named text
+      → IsProgramDoneWithoutError shelf statements (script_path_in_arguments given ∷ grid_paths_in_arguments given)
+      (opened old) (opened new)
+      (errors old)
       (errors new) (taken out) (taken now) worked.status)
       same
       (λ good are. done_by files file supposed opened errors failed taken faults old new out now is.given is.end
@@ -355,7 +408,7 @@ module _ {F P W : Type 0} {words : P → Option (List (List ℕ))} {files : P �
       good are
 
   -- at status 0, the output for all contents with which the reads agreed was written
-  pub done_over_files : {old new : P} {out now : W} {worked : Worked F}
+  pub done_over_files : {old new : P} {out now : W} {worked : FinishedWork F}
       → IsWork words files file supposed opened errors failed old new taken
       faults out now worked
       → worked.status ≡ 0

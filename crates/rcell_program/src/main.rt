@@ -2,7 +2,7 @@
 //!
 //! `rcell::run` does the work. This crate handles arguments, files and errors, in the order of work:
 //! - `working`: `work` does all that the program does, for any `Process`, and returns `Worked`
-//! - `command_words`: `read_words` reads arguments as a `RunRequest`
+//! - `command_words`: `read_request_words` reads arguments as a `RunRequest`
 //! - `opening`: `open_files` opens the script and the grids
 //! - `refusal`, `run_report`: why no run was started, and why a run failed
 //!

@@ -3,9 +3,9 @@
 ghost use Rattle.std.specs.Prelude.{◌≡◌, ◌≢◌, ◌<◌, ℕ, List, [], ◌∷◌, None, IfErr, IfOk, OnErr, OnOk, get_or, vec_len};
 ghost use Rattle.clap.specs.Walk.{texts};
 ghost use Rattle.cell_core_devices.specs.declared.source.Asked.{Asked};
-ghost use Rattle.rcell_command.specs.Processes.{GivesFile, OpensFiles, OpensSomeFiles};
-ghost use Rattle.rcell_program.specs.OpenedGrids.{AreFiles, AreOpened};
-ghost use Rattle.rcell_program.specs.Refusals.{IsOfOpening};
+ghost use Rattle.rcell_command.specs.Processes.{SourceGivesContentsOfFile, OpensExactlyFilesAtPaths, OpensFilesAtFirstPaths};
+ghost use Rattle.rcell_program.specs.OpenedGrids.{SourcesHoldFileContents, AreGridSourcesOpened};
+ghost use Rattle.rcell_program.specs.Refusals.{IsRefusalOfOpeningFiles};
 
 use crate::command_words::RunRequest;
 use crate::refusal::Refusal;
@@ -35,15 +35,16 @@ fn open_grid<P: Process>(
     ensures name { IfOk result (λ opened. opened.0 ≡ name.now) }
     ensures asked { IfOk result (λ opened. P.File.asked opened.1 ≡ Asked.Going) }
     ensures gives { IfOk result
-        (λ opened. GivesFile (P.files process.old) P.File.coming path.now opened.1) }
+        (λ opened. SourceGivesContentsOfFile (P.files process.old) P.File.coming path.now
+        opened.1) }
     ensures supposed { IfOk result
         (λ opened. P.File.supposed opened.1 ≡ P.supposed_file process.old path.now) }
     ensures same { P.supposed_file process.new ≡ P.supposed_file process.old }
     ensures opens { OnOk result
-        (OpensFiles P.files P.opened P.errors P.failed process.old process.new
+        (OpensExactlyFilesAtPaths P.files P.opened P.errors P.failed process.old process.new
         (path.now ∷ [])) }
     ensures some { OnErr result
-        (OpensSomeFiles P.files P.opened P.errors P.failed process.old
+        (OpensFilesAtFirstPaths P.files P.opened P.errors P.failed process.old
         process.new (path.now ∷ [])) }
     ensures reported { IfErr result (λ refusal. refusal ≢ Refusal.Memory
         → (refusal ≡ Refusal.GridFile grid) × (P.files process.old path.now ≡ None)) }
@@ -60,7 +61,7 @@ fn open_grid<P: Process>(
 
 // Returns the path of a grid.
 #[tactic(auto, using(crate::proofs::WordLemmas::word_at))]
-fn path_of<'a>(request: &RunRequest<'a>, grid: usize) -> &'a str
+fn path_of_grid<'a>(request: &RunRequest<'a>, grid: usize) -> &'a str
     requires { grid < vec_len request.now.paths }
     ensures { (none : List ℕ) → result.now ≡ get_or (texts request.now.paths.items) grid none }
 {
@@ -73,25 +74,26 @@ fn open_grids<P: Process>(
     process: &mut P,
     request: &RunRequest<'_>,
 ) -> Result<Vec<(Name, P::File)>, Refusal>
-    ensures opened { IfOk result (λ grids. AreOpened
+    ensures opened { IfOk result (λ grids. AreGridSourcesOpened
         (P.files process.old) P.File.coming P.File.asked
         request.now.names.items (texts request.now.paths.items) grids.items) }
-    ensures supposed { IfOk result (λ grids. AreFiles
+    ensures supposed { IfOk result (λ grids. SourcesHoldFileContents
         (P.supposed_file process.old) P.File.supposed
         (texts request.now.paths.items) grids.items) }
     ensures opens { OnOk result
-        (OpensFiles P.files P.opened P.errors P.failed process.old process.new
+        (OpensExactlyFilesAtPaths P.files P.opened P.errors P.failed process.old process.new
         (texts request.now.paths.items)) }
     ensures some { OnErr result
-        (OpensSomeFiles P.files P.opened P.errors P.failed process.old
+        (OpensFilesAtFirstPaths P.files P.opened P.errors P.failed process.old
         process.new (texts request.now.paths.items)) }
-    ensures reported { (script : List ℕ) → IfErr result (IsOfOpening (P.files process.old) script
+    ensures reported { (script : List ℕ) → IfErr result
+        (IsRefusalOfOpeningFiles (P.files process.old) script
         (texts request.now.paths.items)) }
 {
     let mut grids = Vec::new(alloc);
     for grid in 0..request.names.len() {
         let name = &request.names[grid];
-        let path = path_of(request, grid);
+        let path = path_of_grid(request, grid);
         let opened = match open_grid(alloc, process, grid, name, path) {
             Ok(opened) => opened,
             Err(refusal) => return Err(refusal),
@@ -116,25 +118,27 @@ pub fn open_files<P: Process>(
 ) -> Result<OpenedFiles<P::File>, Refusal>
     // No source has been read yet, so none has ended or failed.
     ensures script { IfOk result (λ opened. P.File.asked opened.script ≡ Asked.Going) }
-    ensures gives { IfOk result (λ opened. GivesFile (P.files process.old) P.File.coming
+    ensures gives { IfOk result (λ opened. SourceGivesContentsOfFile
+        (P.files process.old) P.File.coming
         request.now.script.now opened.script) }
-    ensures grids { IfOk result (λ opened. AreOpened
+    ensures grids { IfOk result (λ opened. AreGridSourcesOpened
         (P.files process.old) P.File.coming P.File.asked
         request.now.names.items (texts request.now.paths.items)
         opened.grids.items) }
     // The sources return the contents of the files at their paths, as far as these are known or supposed.
     ensures supposed { IfOk result (λ opened. P.File.supposed opened.script
         ≡ P.supposed_file process.old request.now.script.now) }
-    ensures files { IfOk result (λ opened. AreFiles
+    ensures files { IfOk result (λ opened. SourcesHoldFileContents
         (P.supposed_file process.old) P.File.supposed
         (texts request.now.paths.items) opened.grids.items) }
     ensures opens { OnOk result
-        (OpensFiles P.files P.opened P.errors P.failed process.old process.new
+        (OpensExactlyFilesAtPaths P.files P.opened P.errors P.failed process.old process.new
         (request.now.script.now ∷ texts request.now.paths.items)) }
     ensures some { OnErr result
-        (OpensSomeFiles P.files P.opened P.errors P.failed process.old
+        (OpensFilesAtFirstPaths P.files P.opened P.errors P.failed process.old
         process.new (request.now.script.now ∷ texts request.now.paths.items)) }
-    ensures reported { IfErr result (IsOfOpening (P.files process.old) request.now.script.now
+    ensures reported { IfErr result (IsRefusalOfOpeningFiles
+        (P.files process.old) request.now.script.now
         (texts request.now.paths.items)) }
 {
     let path = request.script;

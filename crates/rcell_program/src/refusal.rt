@@ -3,7 +3,7 @@
 ghost use Rattle.std.specs.Prelude.{Some};
 
 use cell_core::name::Name;
-use rcell_command::reported::{Place, Reported, on_line};
+use rcell_command::reported::{ErrorPlace, Reported, error_place_on_line};
 use std::fmt;
 use thiserror::Error;
 
@@ -42,19 +42,19 @@ impl<'a> fmt::Display for RefusalReport<'a> {
 }
 
 impl<'a> Reported for RefusalReport<'a> {
-    ghost use Rattle.rcell_program.specs.Refusals.{refusal_place};
+    ghost use Rattle.rcell_program.specs.Refusals.{error_place_of_refusal};
 
-    ghost place = { λ r. Some (refusal_place r.names.now r.refusal) };
+    ghost place = { λ r. Some (error_place_of_refusal r.names.now r.refusal) };
 
-    fn place(&self) -> Option<Place<'_>> {
+    fn place(&self) -> Option<ErrorPlace<'_>> {
         Some(match self.refusal {
-            Refusal::Usage => on_line(b"arguments", 0, 2),
-            Refusal::GridWord { place } => on_line(b"arguments", place, 2),
-            Refusal::Memory => on_line(b"arguments", 0, 3),
-            Refusal::ScriptFile => on_line(b"script", 0, 4),
+            Refusal::Usage => error_place_on_line(b"arguments", 0, 2),
+            Refusal::GridWord { place } => error_place_on_line(b"arguments", place, 2),
+            Refusal::Memory => error_place_on_line(b"arguments", 0, 3),
+            Refusal::ScriptFile => error_place_on_line(b"script", 0, 4),
             Refusal::GridFile { grid } => match self.names.get(grid) {
-                Some(name) => on_line(name.bytes(), 0, 4),
-                None => on_line(b"", 0, 4),
+                Some(name) => error_place_on_line(name.bytes(), 0, 4),
+                None => error_place_on_line(b"", 0, 4),
             },
         })
     }

@@ -6,15 +6,15 @@ use Rattle.std.specs.Cmp.Lexicographic.{bytes_decides}
 use Rattle.std.specs.List.{flat_map, filter_map}
 use Rattle.std.specs.Option.{option_map, option_and_then, ok_or}
 use Rattle.std.proofs.lemmas.Bool.{eqb-true, le-ltb}
-use Rattle.cell_core_values.specs.Words.{parts_of, pair_of}
+use Rattle.cell_core_values.specs.Words.{parts_between_commas, texts_around_equals_sign}
 use Rattle.cell_core_values.specs.Name.{is_name}
-use Rattle.rcell_script.specs.NullText.{is_null_text, is_table_null_text}
-use Rattle.rcell_script.specs.Options.{letters_in, value_in, IsOption, values_of, IsOptional, SpellsText, SpellsNames, separator_in}
-use Rattle.rcell_script.specs.OptionReading.{Given, flags_of, option_keys, key_among, option_key_of, option_name, names_of, null_text_of, table_null_text_of, no_flags, no_options, with_letters, options_of}
+use Rattle.rcell_script.specs.NullText.{is_grid_null_text, is_table_null_text}
+use Rattle.rcell_script.specs.Options.{letters_after_dash, value_of_key_in_word, IsOptionWord, values_of_key_in_words, SpellsOptionalValue, SpellsItselfIfValid, SpellsMapNames, separator_in_option}
+use Rattle.rcell_script.specs.OptionReading.{GivenOptions, flag_letters_of_command, option_keys_of_command, option_key_in_list, option_key_by_name, map_name_in_option, map_names_in_option_value, grid_null_text_in_option, table_null_text_in_option, empty_flags, empty_options, flags_with_letters, options_in_words}
 use Rattle.rcell_script.specs.declared.option_fault.OptionFault.{OptionFault}
 use Rattle.rcell_script.specs.declared.option_fault.OptionFault.TheVariants.{BadOption, BadName}
-use Rattle.rcell_script.specs.declared.options.Form.{Form}
-use Rattle.rcell_script.specs.declared.options.Form.TheVariants.{Reclass, Clump, Stats, OutAscii}
+use Rattle.rcell_script.specs.declared.options.CommandWithOptions.{CommandWithOptions}
+use Rattle.rcell_script.specs.declared.options.CommandWithOptions.TheVariants.{Reclass, Clump, Stats, OutAscii}
 use Rattle.rcell_script.specs.declared.options.OptionKey.{OptionKey}
 use Rattle.rcell_script.specs.declared.options.OptionKey.TheVariants.{Input, Inputs, Output, Separator, NullText, TableNullText, After}
 use Rattle.rcell_script.proofs.NullTextLemmas.{and_true as both}
@@ -47,7 +47,7 @@ abbrev are_apart : List (List ℕ × OptionKey) → Bool
 are_apart [] = true
 are_apart (k ∷ ks) = is_plain k.0 && (no_tag (tag k.1) ks && (no_text k.0 ks && are_apart ks))
 
-keys-apart : (form : Form) → are_apart (option_keys form) ≡ true
+keys-apart : (form : CommandWithOptions) → are_apart (option_keys_of_command form) ≡ true
 keys-apart Reclass = refl
 keys-apart Clump = refl
 keys-apart Stats = refl
@@ -59,7 +59,7 @@ pair_value None t v = None
 pair_value (Some text) t v = cond (bytes_eq t text) (Some v) None
 
 abbrev pair_setting : List (List ℕ × OptionKey) → List ℕ → List ℕ → Option (OptionKey × List ℕ)
-pair_setting ks t v = option_map (λ key. (key, v)) (key_among ks t)
+pair_setting ks t v = option_map (λ key. (key, v)) (option_key_in_list ks t)
 
 no_tag-none : (ks : List (List ℕ × OptionKey)) (key : OptionKey) (t v : List ℕ) → no_tag (tag key) ks ≡ true
     → value_for key (pair_setting ks t v) ≡ None
@@ -111,24 +111,24 @@ pair-value (k ∷ ks) key t v h = by (λ rest. pair-value ks key t v rest) (tag 
     by others false false s e = rw (s, e) (others texts.1)
 
 -- the texts of the keys of a command
-abbrev pub option_texts : Form → List (List ℕ)
-option_texts form = map (λ k. k.0) (option_keys form)
+abbrev pub option_texts : CommandWithOptions → List (List ℕ)
+option_texts form = map (λ k. k.0) (option_keys_of_command form)
 
 -- ---- a word
 
-abbrev setting_of : Form → Option (List ℕ × List ℕ) → Option (OptionKey × List ℕ)
-setting_of form pair = option_and_then (λ pair. option_map (λ key. (key, pair.1)) (option_key_of form pair.0)) pair
+abbrev setting_of : CommandWithOptions → Option (List ℕ × List ℕ) → Option (OptionKey × List ℕ)
+setting_of form pair = option_and_then (λ pair. option_map (λ key. (key, pair.1)) (option_key_by_name form pair.0)) pair
 
 -- the value that a word gives to a key's text, if the key has a text
 abbrev slot_value : Option (List ℕ) → List ℕ → Option (List ℕ)
 slot_value None word = None
-slot_value (Some text) word = value_in text word
+slot_value (Some text) word = value_of_key_in_word text word
 
 abbrev first_value : List ℕ → Option (List ℕ × List ℕ) → Option (List ℕ)
 first_value text pair = option_and_then (λ pair. cond (bytes_eq pair.0 text) (Some pair.1) None) pair
 
 -- a word that begins with a dash gives no value to a key
-dash-none : (text bs : List ℕ) → is_plain text ≡ true → value_in text (45 ∷ bs) ≡ None
+dash-none : (text bs : List ℕ) → is_plain text ≡ true → value_of_key_in_word text (45 ∷ bs) ≡ None
 dash-none text bs plain = search rules
 
 -- the text of a key does not begin with a dash
@@ -149,29 +149,30 @@ text-plain (k ∷ ks) key text h e = by (λ apart f. text-plain ks key text apar
     by others false s f = others rest f
 
 -- the value that a word gives to a key is the value that the word gives to the key's text
-word-value : (form : Form) (key : OptionKey) (o : Option (List ℕ)) → text_of key (option_keys form) ≡ o
+word-value : (form : CommandWithOptions) (key : OptionKey) (o : Option (List ℕ))
+    → text_of key (option_keys_of_command form) ≡ o
     → (word : List ℕ)
     → value_for key (setting_in form word) ≡ slot_value o word
 word-value form key None e [] = refl
 word-value form key (Some text) e [] = refl
 word-value form key o e (b ∷ bs) = by (b == 45) refl
   where
-    none : (o : Option (List ℕ)) → text_of key (option_keys form) ≡ o → b ≡ 45 → None ≡ slot_value o (b ∷ bs)
+    none : (o : Option (List ℕ)) → text_of key (option_keys_of_command form) ≡ o → b ≡ 45 → None ≡ slot_value o (b ∷ bs)
     none None e d = refl
-    none (Some text) e d = sym (ap (λ x. value_in text (x ∷ bs)) d ∙ dash-none text bs (text-plain (option_keys form) key text (keys-apart form) e))
+    none (Some text) e d = sym (ap (λ x. value_of_key_in_word text (x ∷ bs)) d ∙ dash-none text bs (text-plain (option_keys_of_command form) key text (keys-apart form) e))
 
-    pair : (o : Option (List ℕ)) → text_of key (option_keys form) ≡ o → (p : Option (List ℕ × List ℕ))
-        → pair_of (b ∷ bs) ≡ p
+    pair : (o : Option (List ℕ)) → text_of key (option_keys_of_command form) ≡ o → (p : Option (List ℕ × List ℕ))
+        → texts_around_equals_sign (b ∷ bs) ≡ p
         → value_for key (setting_of form p) ≡ slot_value o (b ∷ bs)
     pair None e None q = refl
     pair (Some text) e None q = sym (ap (first_value text) q)
-    pair None e (Some p) q = pair-value (option_keys form) key p.0 p.1 (keys-apart form) ∙ ap (λ o. pair_value o p.0 p.1) e
-    pair (Some text) e (Some p) q = pair-value (option_keys form) key p.0 p.1 (keys-apart form) ∙ ap (λ o. pair_value o p.0 p.1) e ∙ sym (ap (first_value text) q)
+    pair None e (Some p) q = pair-value (option_keys_of_command form) key p.0 p.1 (keys-apart form) ∙ ap (λ o. pair_value o p.0 p.1) e
+    pair (Some text) e (Some p) q = pair-value (option_keys_of_command form) key p.0 p.1 (keys-apart form) ∙ ap (λ o. pair_value o p.0 p.1) e ∙ sym (ap (first_value text) q)
 
     by : (dash : Bool) → (b == 45) ≡ dash
-        → value_for key (cond dash None (setting_of form (pair_of (b ∷ bs)))) ≡ slot_value o (b ∷ bs)
+        → value_for key (cond dash None (setting_of form (texts_around_equals_sign (b ∷ bs)))) ≡ slot_value o (b ∷ bs)
     by true d = none o e (eqb-true b 45 d)
-    by false d = pair o e (pair_of (b ∷ bs)) refl
+    by false d = pair o e (texts_around_equals_sign (b ∷ bs)) refl
 
 -- ---- all words
 
@@ -190,33 +191,34 @@ filter_map-none (x ∷ xs) = filter_map-none xs
 -- the values that words give to a key's text, if the key has a text
 abbrev pub slot_values : Option (List ℕ) → List (List ℕ) → List (List ℕ)
 slot_values None words = []
-slot_values (Some text) words = values_of text words
+slot_values (Some text) words = values_of_key_in_words text words
 
 -- the values that words give to a key of a command
-abbrev pub slots_of : Form → OptionKey → List (List ℕ) → List (List ℕ)
-slots_of form key words = slot_values (text_of key (option_keys form)) words
+abbrev pub slots_of : CommandWithOptions → OptionKey → List (List ℕ) → List (List ℕ)
+slots_of form key words = slot_values (text_of key (option_keys_of_command form)) words
 
-slots : (form : Form) (key : OptionKey) (words : List (List ℕ))
+slots : (form : CommandWithOptions) (key : OptionKey) (words : List (List ℕ))
     → key_values form key words ≡ slots_of form key words
-slots form key words = by (text_of key (option_keys form)) refl
+slots form key words = by (text_of key (option_keys_of_command form)) refl
   where
-    by : (o : Option (List ℕ)) → text_of key (option_keys form) ≡ o → key_values form key words ≡ slot_values o words
+    by : (o : Option (List ℕ)) → text_of key (option_keys_of_command form) ≡ o
+        → key_values form key words ≡ slot_values o words
     by None e = filter_map-same (λ word. value_for key (setting_in form word)) nothing (word-value form key None e) words ∙ filter_map-none words
-    by (Some text) e = filter_map-same (λ word. value_for key (setting_in form word)) (value_in text) (word-value form key (Some text) e) words
+    by (Some text) e = filter_map-same (λ word. value_for key (setting_in form word)) (value_of_key_in_word text) (word-value form key (Some text) e) words
 
-each-option : (form : Form) (words : List (List ℕ)) → All (IsWord form) words
-    → All (IsOption (flags_of form) (option_texts form)) words
+each-option : (form : CommandWithOptions) (words : List (List ℕ)) → All (IsWord form) words
+    → All (IsOptionWord (flag_letters_of_command form) (option_texts form)) words
 each-option form words each i d within = search rules
 
-each-word : (form : Form) (words : List (List ℕ))
-    → All (IsOption (flags_of form) (option_texts form)) words → All (IsWord form) words
+each-word : (form : CommandWithOptions) (words : List (List ℕ))
+    → All (IsOptionWord (flag_letters_of_command form) (option_texts form)) words → All (IsWord form) words
 each-word form words each i d within = grind (arith, common_steps)
 
 -- ---- values
 
 to-optional : {X : Type 0} (read : List ℕ → Result X OptionFault) (Spells : List ℕ → X → Type 0)
     → ((value : List ℕ) (x : X) → read value ≡ Ok x → Spells value x)
-    → (values : List (List ℕ)) (new : Option X) → Extends read values None new → IsOptional Spells values new
+    → (values : List (List ℕ)) (new : Option X) → Extends read values None new → SpellsOptionalValue Spells values new
 to-optional read Spells spells [] None e = refl
 to-optional read Spells spells [] (Some x) e = cc
 to-optional read Spells spells (value ∷ []) None e = absurd e
@@ -225,100 +227,111 @@ to-optional read Spells spells (value ∷ other ∷ values) new e = absurd e
 
 from-optional : {X : Type 0} (read : List ℕ → Result X OptionFault) (Spells : List ℕ → X → Type 0)
     → ((value : List ℕ) (x : X) → Spells value x → read value ≡ Ok x)
-    → (values : List (List ℕ)) (new : Option X) → IsOptional Spells values new → Extends read values None new
+    → (values : List (List ℕ)) (new : Option X) → SpellsOptionalValue Spells values new → Extends read values None new
 from-optional read Spells reads values None e = subst (λ vs. Extends read vs None None) (sym e) refl
 from-optional read Spells reads values (Some x) (value, is, spells) = subst (λ vs. Extends read vs None (Some x)) (sym is) (reads value x spells)
 
 text-spelled : (test : List ℕ → Bool) (fault : OptionFault) (value text : List ℕ)
     → ◌≡◌ {A = Result (List ℕ) OptionFault} (cond (test value) (Ok value) (Err fault)) (Ok text)
-    → SpellsText test value text
+    → SpellsItselfIfValid test value text
 text-spelled test fault value text e = search rules
 
-spelled-text : (test : List ℕ → Bool) (fault : OptionFault) (value text : List ℕ) → SpellsText test value text
+spelled-text : (test : List ℕ → Bool) (fault : OptionFault) (value text : List ℕ) → SpellsItselfIfValid test value text
     → ◌≡◌ {A = Result (List ℕ) OptionFault} (cond (test value) (Ok value) (Err fault)) (Ok text)
 spelled-text test fault value text (same, good) = rw good (ap Ok same)
 
-names-spelled : (value : List ℕ) (names : List (List ℕ)) → names_of (parts_of value) ≡ Ok names
-    → SpellsNames value names
+names-spelled : (value : List ℕ) (names : List (List ℕ)) → map_names_in_option_value (parts_between_commas value)
+    ≡ Ok names
+    → SpellsMapNames value names
 names-spelled value names e = search rules
 
-spelled-names : (value : List ℕ) (names : List (List ℕ)) → SpellsNames value names
-    → names_of (parts_of value) ≡ Ok names
+spelled-names : (value : List ℕ) (names : List (List ℕ)) → SpellsMapNames value names
+    → map_names_in_option_value (parts_between_commas value) ≡ Ok names
 spelled-names value names (same, good, few) = rw (same, le-ltb 16 (length names) few, good) refl
 
-separator-spelled : (value : List ℕ) (b : ℕ) → separated value ≡ Ok b → separator_in value ≡ Some b
+separator-spelled : (value : List ℕ) (b : ℕ) → separated value ≡ Ok b → separator_in_option value ≡ Some b
 separator-spelled value b e = search rules
 
 -- the value read for a key is the value that its words spell
-to-slots : {X : Type 0} (form : Form) (key : OptionKey) (words : List (List ℕ)) (read : List ℕ → Result X OptionFault)
+to-slots : {X : Type 0} (form : CommandWithOptions) (key : OptionKey) (words : List (List ℕ)) (read : List ℕ
+    → Result X OptionFault)
     (Spells : List ℕ → X → Type 0) → ((value : List ℕ) (x : X) → read value ≡ Ok x → Spells value x) → (new : Option X)
     → Extends read (key_values form key words) None new
-    → IsOptional Spells (slots_of form key words) new
+    → SpellsOptionalValue Spells (slots_of form key words) new
 to-slots form key words read Spells spells new e = search (rules, slots, to-optional)
 
 -- the value that the words of a key spell is the value read for it
-from-slots : {X : Type 0} (form : Form) (key : OptionKey) (words : List (List ℕ)) (read : List ℕ → Result X OptionFault)
+from-slots : {X : Type 0} (form : CommandWithOptions) (key : OptionKey) (words : List (List ℕ)) (read : List ℕ
+    → Result X OptionFault)
     (Spells : List ℕ → X → Type 0) → ((value : List ℕ) (x : X) → Spells value x → read value ≡ Ok x) → (new : Option X)
-    → IsOptional Spells (slots_of form key words) new
+    → SpellsOptionalValue Spells (slots_of form key words) new
     → Extends read (key_values form key words) None new
 from-slots form key words read Spells reads new e = search (rules, from-optional, slots)
 
 abbrev IsSeparator : List ℕ → ℕ → Type 0
-IsSeparator value b = separator_in value ≡ Some b
+IsSeparator value b = separator_in_option value ≡ Some b
 
 abbrev IsKept : List ℕ → List ℕ → Type 0
 IsKept value text = value ≡ text
 
 -- the options that words spell together
-pub record AreOptions (form : Form) (words : List (List ℕ)) (given : Given) : Type 0 where
-  pub each : All (IsOption (flags_of form) (option_texts form)) words
-  pub flags : with_letters no_flags (flat_map letters_in words) ≡ given.flags
-  pub input : IsOptional (SpellsText is_name) (slots_of form Input words) given.input
-  pub inputs : IsOptional SpellsNames (slots_of form Inputs words) given.inputs
-  pub output : IsOptional (SpellsText is_name) (slots_of form Output words) given.output
-  pub separator : IsOptional (λ value b. separator_in value ≡ Some b) (slots_of form Separator words) given.separator
-  pub null_text : IsOptional (SpellsText is_null_text) (slots_of form NullText words) given.null_text
-  pub table_null_text : IsOptional (SpellsText is_table_null_text) (slots_of form TableNullText words) given.table_null_text
-  pub after : IsOptional (λ value text. value ≡ text) (slots_of form After words) given.after
+pub record AreOptions (form : CommandWithOptions) (words : List (List ℕ)) (given : GivenOptions) : Type 0 where
+  pub each : All (IsOptionWord (flag_letters_of_command form) (option_texts form)) words
+  pub flags : flags_with_letters empty_flags (flat_map letters_after_dash words) ≡ given.flags
+  pub input : SpellsOptionalValue (SpellsItselfIfValid is_name) (slots_of form Input words) given.input
+  pub inputs : SpellsOptionalValue SpellsMapNames (slots_of form Inputs words) given.inputs
+  pub output : SpellsOptionalValue (SpellsItselfIfValid is_name) (slots_of form Output words) given.output
+  pub separator : SpellsOptionalValue (λ value b. separator_in_option value
+      ≡ Some b) (slots_of form Separator words) given.separator
+  pub null_text : SpellsOptionalValue (SpellsItselfIfValid is_grid_null_text)
+      (slots_of form NullText words) given.null_text
+  pub table_null_text : SpellsOptionalValue (SpellsItselfIfValid is_table_null_text) (slots_of form TableNullText words) given.table_null_text
+  pub after : SpellsOptionalValue (λ value text. value ≡ text) (slots_of form After words) given.after
 
 -- the options read from the words one after another are those that the words spell together
-pub options-sound : (form : Form) (words : List (List ℕ)) (given : Given) → options_of form words ≡ Ok given
+pub options-sound : (form : CommandWithOptions) (words : List (List ℕ)) (given : GivenOptions)
+    → options_in_words form words ≡ Ok given
     → AreOptions form words given
 options-sound form words given e =
     let s = words-read form words given e in
     let name = text-spelled is_name BadName in
-    let null = text-spelled is_null_text BadOption in
+    let null = text-spelled is_grid_null_text BadOption in
     let table_null = text-spelled is_table_null_text BadOption in
     record {
       each = each-option form words s.0;
       flags = s.1.flags;
-      input = to-slots form Input words option_name (SpellsText is_name) name _ s.1.input;
-      inputs = to-slots form Inputs words listed SpellsNames names-spelled _ s.1.inputs;
-      output = to-slots form Output words option_name (SpellsText is_name) name _ s.1.output;
+      input = to-slots form Input words map_name_in_option (SpellsItselfIfValid is_name) name _ s.1.input;
+      inputs = to-slots form Inputs words listed SpellsMapNames names-spelled _ s.1.inputs;
+      output = to-slots form Output words map_name_in_option (SpellsItselfIfValid is_name) name _ s.1.output;
       separator = to-slots form Separator words separated IsSeparator separator-spelled _ s.1.separator;
-      null_text = to-slots form NullText words null_text_of (SpellsText is_null_text) null _ s.1.null_text;
+      null_text = to-slots form NullText words grid_null_text_in_option
+          (SpellsItselfIfValid is_grid_null_text) null _ s.1.null_text;
       table_null_text =
-          to-slots form TableNullText words table_null_text_of (SpellsText is_table_null_text) table_null _
+          to-slots form TableNullText words table_null_text_in_option
+          (SpellsItselfIfValid is_table_null_text) table_null _
           s.1.table_null_text;
       after = to-slots form After words kept IsKept (λ value text f. cc) _ s.1.after;
     }
 
-pub options-complete : (form : Form) (words : List (List ℕ)) (given : Given) → AreOptions form words given
-    → options_of form words ≡ Ok given
+pub options-complete : (form : CommandWithOptions) (words : List (List ℕ)) (given : GivenOptions)
+    → AreOptions form words given
+    → options_in_words form words ≡ Ok given
 options-complete form words given are =
     let name = spelled-text is_name BadName in
-    let null = spelled-text is_null_text BadOption in
+    let null = spelled-text is_grid_null_text BadOption in
     let table_null = spelled-text is_table_null_text BadOption in
-    let more : More form words no_options given = record {
+    let more : More form words empty_options given = record {
       flags = are.flags;
-      input = from-slots form Input words option_name (SpellsText is_name) name _ are.input;
-      inputs = from-slots form Inputs words listed SpellsNames spelled-names _ are.inputs;
-      output = from-slots form Output words option_name (SpellsText is_name) name _ are.output;
+      input = from-slots form Input words map_name_in_option (SpellsItselfIfValid is_name) name _ are.input;
+      inputs = from-slots form Inputs words listed SpellsMapNames spelled-names _ are.inputs;
+      output = from-slots form Output words map_name_in_option (SpellsItselfIfValid is_name) name _ are.output;
       separator = from-slots form Separator words separated IsSeparator (λ value b e. ap (λ o. ok_or o BadOption) e) _
           are.separator;
-      null_text = from-slots form NullText words null_text_of (SpellsText is_null_text) null _ are.null_text;
+      null_text = from-slots form NullText words grid_null_text_in_option
+          (SpellsItselfIfValid is_grid_null_text) null _ are.null_text;
       table_null_text =
-          from-slots form TableNullText words table_null_text_of (SpellsText is_table_null_text) table_null _
+          from-slots form TableNullText words table_null_text_in_option
+          (SpellsItselfIfValid is_table_null_text) table_null _
           are.table_null_text;
       after = from-slots form After words kept IsKept (λ value text e. ap Ok e) _ are.after;
     } in

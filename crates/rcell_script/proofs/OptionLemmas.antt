@@ -7,14 +7,14 @@ use Rattle.std.proofs.Math.Bool.{or_assoc, or-false}
 use Rattle.std.proofs.lemmas.List.Elements.{All-nil, All-cons}
 use Rattle.std.proofs.lemmas.List.Folds.{list_any-append}
 use Rattle.cell_core_values.specs.Answers.{◌>>=◌}
-use Rattle.cell_core_values.specs.Words.{parts_of, pair_of}
-use Rattle.cell_core_values.specs.Letters.{is_one_of}
-use Rattle.rcell_script.specs.Options.{letters_in, are_flags, separator_in}
-use Rattle.rcell_script.specs.OptionReading.{Given, flags_of, option_key_of, option_name, names_of, null_text_of, table_null_text_of, no_options, with_letters, with_flags, given_once, with_value, with_option, with_pair, with_word, with_words, options_of}
+use Rattle.cell_core_values.specs.Words.{parts_between_commas, texts_around_equals_sign}
+use Rattle.cell_core_values.specs.Letters.{is_byte_in_text}
+use Rattle.rcell_script.specs.Options.{letters_after_dash, are_flag_letters, separator_in_option}
+use Rattle.rcell_script.specs.OptionReading.{GivenOptions, flag_letters_of_command, option_key_by_name, map_name_in_option, map_names_in_option_value, grid_null_text_in_option, table_null_text_in_option, empty_options, flags_with_letters, options_with_dash_flags, result_unless_key_given_twice, options_with_key_value, options_with_known_key_value, options_with_key_value_pair, options_with_word, options_with_words, options_in_words}
 use Rattle.rcell_script.specs.declared.option_fault.OptionFault.{OptionFault}
 use Rattle.rcell_script.specs.declared.option_fault.OptionFault.TheVariants.{BadOption}
 use Rattle.rcell_script.specs.declared.options.Flags.{Flags}
-use Rattle.rcell_script.specs.declared.options.Form.{Form}
+use Rattle.rcell_script.specs.declared.options.CommandWithOptions.{CommandWithOptions}
 use Rattle.rcell_script.specs.declared.options.OptionKey.{OptionKey}
 use Rattle.rcell_script.specs.declared.options.OptionKey.TheVariants.{Input, Inputs, Output, Separator, NullText, TableNullText, After}
 
@@ -36,17 +36,18 @@ value_for key None = None
 value_for key (Some setting) = cond (tag key == tag setting.0) (Some setting.1) None
 
 -- the key of the command and the value after the equals sign, in a word that does not begin with a dash
-abbrev pub setting_in : Form → List ℕ → Option (OptionKey × List ℕ)
+abbrev pub setting_in : CommandWithOptions → List ℕ → Option (OptionKey × List ℕ)
 setting_in form [] = None
-setting_in form (b ∷ bs) = cond (b == 45) None (option_and_then (λ pair. option_map (λ key. (key, pair.1)) (option_key_of form pair.0)) (pair_of (b ∷ bs)))
+setting_in form (b ∷ bs) = cond (b == 45) None (option_and_then (λ pair. option_map (λ key. (key, pair.1)) (option_key_by_name form pair.0)) (texts_around_equals_sign (b ∷ bs)))
 
 -- the values that words give to a key of a command
-abbrev pub key_values : Form → OptionKey → List (List ℕ) → List (List ℕ)
+abbrev pub key_values : CommandWithOptions → OptionKey → List (List ℕ) → List (List ℕ)
 key_values form key words = filter_map (λ word. value_for key (setting_in form word)) words
 
 -- a word is flags of the command, or a key of the command with a value
-abbrev pub IsWord : Form → List ℕ → Type 0
-IsWord form word = (are_flags (flags_of form) (letters_in word) ≡ true) ⊎ (is_some (setting_in form word) ≡ true)
+abbrev pub IsWord : CommandWithOptions → List ℕ → Type 0
+IsWord form word = (are_flag_letters (flag_letters_of_command form) (letters_after_dash word)
+    ≡ true) ⊎ (is_some (setting_in form word) ≡ true)
 
 -- ---- flags
 
@@ -58,25 +59,25 @@ of_flags-same : (labels labels' counts counts' cells cells' no_null no_null' no_
 of_flags-same labels labels' counts counts' cells cells' no_null no_null' no_all_null no_all_null' corners corners' a b c d e f = rw (a, b, c, d, e, f) refl
 
 -- no letters change no flags
-with_letters-none : (flags : Flags) → with_letters flags [] ≡ flags
-with_letters-none flags =
+flags_with_letters-none : (flags : Flags) → flags_with_letters flags [] ≡ flags
+flags_with_letters-none flags =
     of_flags-same _ _ _ _ _ _ _ _ _ _ _ _ (or-false flags.labels) (or-false flags.counts) (or-false flags.cells) (or-false flags.no_null) (or-false flags.no_all_null) (or-false flags.corners)
 
 one_flag : (given : Bool) (a b : List ℕ) (flag : ℕ)
-    → (given || is_one_of (a ++ b) flag) ≡ ((given || is_one_of a flag) || is_one_of b flag)
-one_flag given a b flag = ap (λ t. given || t) (list_any-append (λ letter. letter == flag) a b) ∙ sym (or_assoc given (is_one_of a flag) (is_one_of b flag))
+    → (given || is_byte_in_text (a ++ b) flag) ≡ ((given || is_byte_in_text a flag) || is_byte_in_text b flag)
+one_flag given a b flag = ap (λ t. given || t) (list_any-append (λ letter. letter == flag) a b) ∙ sym (or_assoc given (is_byte_in_text a flag) (is_byte_in_text b flag))
 
 -- letters followed by further letters set the flags of both
-with_letters-append : (flags : Flags) (a b : List ℕ)
-    → with_letters flags (a ++ b) ≡ with_letters (with_letters flags a) b
-with_letters-append flags a b =
+flags_with_letters-append : (flags : Flags) (a b : List ℕ)
+    → flags_with_letters flags (a ++ b) ≡ flags_with_letters (flags_with_letters flags a) b
+flags_with_letters-append flags a b =
     of_flags-same _ _ _ _ _ _ _ _ _ _ _ _ (one_flag flags.labels a b _) (one_flag flags.counts a b _) (one_flag flags.cells a b _) (one_flag flags.no_null a b _) (one_flag flags.no_all_null a b _) (one_flag flags.corners a b _)
 
 abbrev pub listed : List ℕ → Result (List (List ℕ)) OptionFault
-listed value = names_of (parts_of value)
+listed value = map_names_in_option_value (parts_between_commas value)
 
 abbrev pub separated : List ℕ → Result ℕ OptionFault
-separated value = ok_or (separator_in value) BadOption
+separated value = ok_or (separator_in_option value) BadOption
 
 abbrev pub kept : List ℕ → Result (List ℕ) OptionFault
 kept value = Ok value
@@ -122,8 +123,8 @@ first read value [] (Some x) new e = absurd e
 first read value (other ∷ values) old new e = absurd e
 
 -- a value that is accepted is added to the options
-taken : {X : Type 0} (read : List ℕ → Result X OptionFault) (value : List ℕ) (old : Option X) (with : X → Given) (mid : Given) (P : Given → Type 0)
-    → given_once old (read value >>= (λ x. Ok (with x))) ≡ Ok mid → ((x : X) → Steps read (Some value) old (Some x) → P (with x)) → P mid
+taken : {X : Type 0} (read : List ℕ → Result X OptionFault) (value : List ℕ) (old : Option X) (with : X → GivenOptions) (mid : GivenOptions) (P : GivenOptions → Type 0)
+    → result_unless_key_given_twice old (read value >>= (λ x. Ok (with x))) ≡ Ok mid → ((x : X) → Steps read (Some value) old (Some x) → P (with x)) → P mid
 taken read value (Some x) with mid P e adds = cc
 taken read value None with mid P e adds = by (read value) refl e
   where
@@ -131,116 +132,126 @@ taken read value None with mid P e adds = by (read value) refl e
     by (Err kind) is f = cc
     by (Ok x) is f = let same : with x ≡ mid = cc in subst P same (adds x is)
 
-take-value : {X : Type 0} (read : List ℕ → Result X OptionFault) (value : List ℕ) (old : Option X) (with : X → Given) (x : X) → old ≡ None → read value ≡ Ok x
-    → given_once old (read value >>= (λ x. Ok (with x))) ≡ Ok (with x)
+take-value : {X : Type 0} (read : List ℕ → Result X OptionFault) (value : List ℕ) (old : Option X) (with : X → GivenOptions) (x : X) → old ≡ None → read value ≡ Ok x
+    → result_unless_key_given_twice old (read value >>= (λ x. Ok (with x))) ≡ Ok (with x)
 take-value read value old with x none is = rw (none, is) refl
 
 -- ---- one word
 
 -- the key and the value of a pair, if the command has the key
-abbrev setting_of : Form → Option (List ℕ × List ℕ) → Option (OptionKey × List ℕ)
-setting_of form pair = option_and_then (λ p. option_map (λ key. (key, p.1)) (option_key_of form p.0)) pair
+abbrev setting_of : CommandWithOptions → Option (List ℕ × List ℕ) → Option (OptionKey × List ℕ)
+setting_of form pair = option_and_then (λ p. option_map (λ key. (key, p.1)) (option_key_by_name form p.0)) pair
 
 -- the options that a word adds by its letters and its setting
-record Adds (letters : List ℕ) (setting : Option (OptionKey × List ℕ)) (old mid : Given) : Type 0 where
-  flags : with_letters old.flags letters ≡ mid.flags
-  input : Steps option_name (value_for Input setting) old.input mid.input
+record Adds (letters : List ℕ) (setting : Option (OptionKey × List ℕ)) (old mid : GivenOptions) : Type 0 where
+  flags : flags_with_letters old.flags letters ≡ mid.flags
+  input : Steps map_name_in_option (value_for Input setting) old.input mid.input
   inputs : Steps listed (value_for Inputs setting) old.inputs mid.inputs
-  output : Steps option_name (value_for Output setting) old.output mid.output
+  output : Steps map_name_in_option (value_for Output setting) old.output mid.output
   separator : Steps separated (value_for Separator setting) old.separator mid.separator
-  null_text : Steps null_text_of (value_for NullText setting) old.null_text mid.null_text
-  table_null_text : Steps table_null_text_of (value_for TableNullText setting) old.table_null_text mid.table_null_text
+  null_text : Steps grid_null_text_in_option (value_for NullText setting) old.null_text mid.null_text
+  table_null_text : Steps table_null_text_in_option (value_for TableNullText setting) old.table_null_text
+      mid.table_null_text
   after : Steps kept (value_for After setting) old.after mid.after
 
-value-sound : (given mid : Given) (key : OptionKey) (value : List ℕ) → with_value given key value ≡ Ok mid
+value-sound : (given mid : GivenOptions) (key : OptionKey) (value : List ℕ)
+    → options_with_key_value given key value ≡ Ok mid
     → Adds [] (Some (key, value)) given mid
 value-sound given mid Input value e =
-    taken option_name value given.input (λ x. record given { input = Some x }) mid (Adds [] (Some (Input, value)) given) e (λ x is. search (rules, with_letters-none))
+    taken map_name_in_option value given.input (λ x. record given { input = Some x }) mid (Adds [] (Some (Input, value)) given) e (λ x is. search (rules, flags_with_letters-none))
 value-sound given mid Inputs value e =
-    taken listed value given.inputs (λ x. record given { inputs = Some x }) mid (Adds [] (Some (Inputs, value)) given) e (λ x is. search (rules, with_letters-none))
+    taken listed value given.inputs (λ x. record given { inputs = Some x }) mid (Adds [] (Some (Inputs, value)) given) e (λ x is. search (rules, flags_with_letters-none))
 value-sound given mid Output value e =
-    taken option_name value given.output (λ x. record given { output = Some x }) mid (Adds [] (Some (Output, value)) given) e (λ x is. search (rules, with_letters-none))
+    taken map_name_in_option value given.output (λ x. record given { output = Some x }) mid (Adds [] (Some (Output, value)) given) e (λ x is. search (rules, flags_with_letters-none))
 value-sound given mid Separator value e =
-    taken separated value given.separator (λ x. record given { separator = Some x }) mid (Adds [] (Some (Separator, value)) given) e (λ x is. search (rules, with_letters-none))
+    taken separated value given.separator (λ x. record given { separator = Some x }) mid (Adds [] (Some (Separator, value)) given) e (λ x is. search (rules, flags_with_letters-none))
 value-sound given mid NullText value e =
-    taken null_text_of value given.null_text (λ x. record given { null_text = Some x }) mid (Adds [] (Some (NullText, value)) given) e (λ x is. search (rules, with_letters-none))
+    taken grid_null_text_in_option value given.null_text (λ x. record given { null_text = Some x }) mid (Adds [] (Some (NullText, value)) given) e (λ x is. search (rules, flags_with_letters-none))
 value-sound given mid TableNullText value e =
-    taken table_null_text_of value given.table_null_text (λ x. record given { table_null_text = Some x }) mid (Adds [] (Some (TableNullText, value)) given) e (λ x is. search (rules, with_letters-none))
+    taken table_null_text_in_option value given.table_null_text (λ x. record given { table_null_text = Some x }) mid (Adds [] (Some (TableNullText, value)) given) e (λ x is. search (rules, flags_with_letters-none))
 value-sound given mid After value e =
-    taken kept value given.after (λ x. record given { after = Some x }) mid (Adds [] (Some (After, value)) given) e (λ x is. search (rules, with_letters-none))
+    taken kept value given.after (λ x. record given { after = Some x }) mid (Adds [] (Some (After, value)) given) e (λ x is. search (rules, flags_with_letters-none))
 
 -- a word that is read, with the options before and after it
-abbrev IsRead : Form → List ℕ → Given → Given → Type 0
-IsRead form word given mid = IsWord form word × Adds (letters_in word) (setting_in form word) given mid
+abbrev IsRead : CommandWithOptions → List ℕ → GivenOptions → GivenOptions → Type 0
+IsRead form word given mid = IsWord form word × Adds (letters_after_dash word) (setting_in form word) given mid
 
-word-pair : (form : Form) (given mid : Given) (pair : Option (List ℕ × List ℕ)) → with_pair form given pair ≡ Ok mid
+word-pair : (form : CommandWithOptions) (given mid : GivenOptions) (pair : Option (List ℕ × List ℕ))
+    → options_with_key_value_pair form given pair ≡ Ok mid
     → (setting : OptionKey × List ℕ) × (setting_of form pair ≡ Some setting) × Adds [] (Some setting) given mid
 word-pair form given mid None e = cc
-word-pair form given mid (Some p) e = by (option_key_of form p.0) refl e
+word-pair form given mid (Some p) e = by (option_key_by_name form p.0) refl e
   where
-    by : (key : Option OptionKey) → option_key_of form p.0 ≡ key → with_option given key p.1 ≡ Ok mid
+    by : (key : Option OptionKey) → option_key_by_name form p.0 ≡ key
+        → options_with_known_key_value given key p.1 ≡ Ok mid
         → (setting : OptionKey × List ℕ) × (setting_of form (Some p) ≡ Some setting) × Adds [] (Some setting) given mid
     by None k f = cc
     by (Some key) k f = ((key, p.1), ap (option_map (λ key. (key, p.1))) k, value-sound given mid key p.1 f)
 
 -- a word that is read, given whether its first byte is a dash
-abbrev IsReadBy : Form → List ℕ → Given → Given → Bool → Option (OptionKey × List ℕ) → Type 0
-IsReadBy form bs given mid dash setting = ((are_flags (flags_of form) (cond dash bs []) ≡ true) ⊎ (is_some (cond dash None setting) ≡ true)) × Adds (cond dash bs []) (cond dash None setting) given mid
+abbrev IsReadBy : CommandWithOptions → List ℕ → GivenOptions → GivenOptions → Bool → Option (OptionKey × List ℕ)
+    → Type 0
+IsReadBy form bs given mid dash setting = ((are_flag_letters (flag_letters_of_command form) (cond dash bs []) ≡ true) ⊎ (is_some (cond dash None setting) ≡ true)) × Adds (cond dash bs []) (cond dash None setting) given mid
 
-word-sound : (form : Form) (given mid : Given) (word : List ℕ) → with_word form given word ≡ Ok mid
+word-sound : (form : CommandWithOptions) (given mid : GivenOptions) (word : List ℕ)
+    → options_with_word form given word ≡ Ok mid
     → IsRead form word given mid
 word-sound form given mid [] e = cc
 word-sound form given mid (b ∷ bs) e = by (b == 45) refl e
   where
     by : (dash : Bool) → (b == 45) ≡ dash
-        → cond dash (with_flags form given bs) (with_pair form given (pair_of (b ∷ bs))) ≡ Ok mid
-        → IsReadBy form bs given mid (b == 45) (setting_of form (pair_of (b ∷ bs)))
+        → cond dash (options_with_dash_flags form given bs) (options_with_key_value_pair form given
+        (texts_around_equals_sign (b ∷ bs))) ≡ Ok mid
+        → IsReadBy form bs given mid (b == 45) (setting_of form (texts_around_equals_sign (b ∷ bs)))
     by true d f = search rules
     by false d f =
-        let s = word-pair form given mid (pair_of (b ∷ bs)) f in
-        subst (λ dash. IsReadBy form bs given mid dash (setting_of form (pair_of (b ∷ bs)))) (sym d)
+        let s = word-pair form given mid (texts_around_equals_sign (b ∷ bs)) f in
+        subst (λ dash. IsReadBy form bs given mid dash (setting_of form (texts_around_equals_sign (b ∷ bs)))) (sym d)
         (subst (λ (o : Option (OptionKey × List ℕ)). IsReadBy form bs given mid false o) (sym s.1) (inr refl, s.2))
 
 -- ---- all words
 
 -- the options after some letters and some values of keys
-pub record Whole (letters : List ℕ) (values : OptionKey → List (List ℕ)) (old new : Given) : Type 0 where
-  pub flags : with_letters old.flags letters ≡ new.flags
-  pub input : Extends option_name (values Input) old.input new.input
+pub record Whole (letters : List ℕ) (values : OptionKey → List (List ℕ)) (old new : GivenOptions) : Type 0 where
+  pub flags : flags_with_letters old.flags letters ≡ new.flags
+  pub input : Extends map_name_in_option (values Input) old.input new.input
   pub inputs : Extends listed (values Inputs) old.inputs new.inputs
-  pub output : Extends option_name (values Output) old.output new.output
+  pub output : Extends map_name_in_option (values Output) old.output new.output
   pub separator : Extends separated (values Separator) old.separator new.separator
-  pub null_text : Extends null_text_of (values NullText) old.null_text new.null_text
-  pub table_null_text : Extends table_null_text_of (values TableNullText) old.table_null_text new.table_null_text
+  pub null_text : Extends grid_null_text_in_option (values NullText) old.null_text new.null_text
+  pub table_null_text : Extends table_null_text_in_option (values TableNullText) old.table_null_text new.table_null_text
   pub after : Extends kept (values After) old.after new.after
 
 -- the options after some words
-abbrev pub More : Form → List (List ℕ) → Given → Given → Type 0
-More form words old new = Whole (flat_map letters_in words) (λ key. key_values form key words) old new
+abbrev pub More : CommandWithOptions → List (List ℕ) → GivenOptions → GivenOptions → Type 0
+More form words old new = Whole (flat_map letters_after_dash words) (λ key. key_values form key words) old new
 
-one-more : (form : Form) (word : List ℕ) (words : List (List ℕ)) (old mid new : Given)
-    → Adds (letters_in word) (setting_in form word) old mid → More form words mid new → More form (word ∷ words) old new
+one-more : (form : CommandWithOptions) (word : List ℕ) (words : List (List ℕ)) (old mid new : GivenOptions)
+    → Adds (letters_after_dash word) (setting_in form word) old mid → More form words mid new
+    → More form (word ∷ words) old new
 one-more form word words old mid new adds more = record {
-  flags = with_letters-append old.flags (letters_in word) (flat_map letters_in words) ∙ ap (λ fs. with_letters fs (flat_map letters_in words)) adds.flags ∙ more.flags;
-  input = joined option_name (value_for Input (setting_in form word)) (key_values form Input words) old.input mid.input new.input adds.input more.input;
+  flags = flags_with_letters-append old.flags (letters_after_dash word) (flat_map letters_after_dash words) ∙ ap (λ fs. flags_with_letters fs (flat_map letters_after_dash words)) adds.flags ∙ more.flags;
+  input = joined map_name_in_option (value_for Input (setting_in form word)) (key_values form Input words) old.input mid.input new.input adds.input more.input;
   inputs = joined listed (value_for Inputs (setting_in form word)) (key_values form Inputs words) old.inputs mid.inputs new.inputs adds.inputs more.inputs;
-  output = joined option_name (value_for Output (setting_in form word)) (key_values form Output words) old.output mid.output new.output adds.output more.output;
+  output = joined map_name_in_option (value_for Output (setting_in form word)) (key_values form Output words) old.output mid.output new.output adds.output more.output;
   separator = joined separated (value_for Separator (setting_in form word)) (key_values form Separator words) old.separator mid.separator new.separator adds.separator more.separator;
-  null_text = joined null_text_of (value_for NullText (setting_in form word)) (key_values form NullText words) old.null_text mid.null_text new.null_text adds.null_text more.null_text;
-  table_null_text = joined table_null_text_of (value_for TableNullText (setting_in form word)) (key_values form TableNullText words) old.table_null_text mid.table_null_text new.table_null_text adds.table_null_text more.table_null_text;
+  null_text = joined grid_null_text_in_option (value_for NullText (setting_in form word)) (key_values form NullText words) old.null_text mid.null_text new.null_text adds.null_text more.null_text;
+  table_null_text = joined table_null_text_in_option (value_for TableNullText (setting_in form word)) (key_values form TableNullText words) old.table_null_text mid.table_null_text new.table_null_text adds.table_null_text more.table_null_text;
   after = joined kept (value_for After (setting_in form word)) (key_values form After words) old.after mid.after new.after adds.after more.after;
 }
 
-words-sound : (form : Form) (words : List (List ℕ)) (old new : Given) → with_words form old words ≡ Ok new
+words-sound : (form : CommandWithOptions) (words : List (List ℕ)) (old new : GivenOptions)
+    → options_with_words form old words ≡ Ok new
     → All (IsWord form) words × More form words old new
 words-sound form [] old new e =
     let same : old ≡ new = cc in
-    (All-nil (IsWord form), subst (λ g. More form [] old g) same (record { flags = with_letters-none old.flags; input = refl; inputs = refl; output = refl; separator = refl; null_text = refl; table_null_text = refl; after = refl }))
-words-sound form (word ∷ words) old new e = by (λ mid f. words-sound form words mid new f) (with_word form old word) refl e
+    (All-nil (IsWord form), subst (λ g. More form [] old g) same (record { flags = flags_with_letters-none old.flags; input = refl; inputs = refl; output = refl; separator = refl; null_text = refl; table_null_text = refl; after = refl }))
+words-sound form (word ∷ words) old new e = by (λ mid f. words-sound form words mid new f) (options_with_word form old word) refl e
   where
-    by : ((mid : Given) → with_words form mid words ≡ Ok new → All (IsWord form) words × More form words mid new)
-        → (read : Result Given OptionFault) → with_word form old word ≡ read
-        → (read >>= (λ more. with_words form more words)) ≡ Ok new
+    by : ((mid : GivenOptions) → options_with_words form mid words ≡ Ok new → All (IsWord form) words
+        × More form words mid new)
+        → (read : Result GivenOptions OptionFault) → options_with_word form old word ≡ read
+        → (read >>= (λ more. options_with_words form more words)) ≡ Ok new
         → All (IsWord form) (word ∷ words) × More form (word ∷ words) old new
     by others (Err kind) r f = cc
     by others (Ok mid) r f =
@@ -249,96 +260,101 @@ words-sound form (word ∷ words) old new e = by (λ mid f. words-sound form wor
         (All-cons (IsWord form) word words is.0 rest.0, one-more form word words old mid new is.1 rest.1)
 
 -- a value for a key, followed by the options of the words after it
-given-first : {X : Type 0} (read : List ℕ → Result X OptionFault) (value : List ℕ) (values : List (List ℕ)) (old new : Option X) (with : X → Given) (P : Given → Type 0)
+given-first : {X : Type 0} (read : List ℕ → Result X OptionFault) (value : List ℕ) (values : List (List ℕ)) (old new : Option X) (with : X → GivenOptions) (P : GivenOptions → Type 0)
     → Extends read (value ∷ values) old new → ((x : X) → Extends read values (Some x) new → P (with x))
-    → (mid : Given) × (given_once old (read value >>= (λ x. Ok (with x))) ≡ Ok mid) × P mid
+    → (mid : GivenOptions) × (result_unless_key_given_twice old (read value >>= (λ x. Ok (with x))) ≡ Ok mid) × P mid
 given-first read value values old new with P e rest =
     let v = first read value values old new e in
     (with v.given, take-value read value old with v.given v.none v.is, rest v.given v.rest)
 
-value-complete : (letters : List ℕ) (values : OptionKey → List (List ℕ)) (old new : Given) (key : OptionKey)
+value-complete : (letters : List ℕ) (values : OptionKey → List (List ℕ)) (old new : GivenOptions) (key : OptionKey)
     (value : List ℕ)
     → Whole letters (λ other. cons_option (value_for other (Some (key, value))) (values other)) old new
-    → (mid : Given) × (with_value old key value ≡ Ok mid) × Whole letters values mid new
+    → (mid : GivenOptions) × (options_with_key_value old key value ≡ Ok mid) × Whole letters values mid new
 value-complete letters values old new Input value whole =
-    given-first option_name value (values Input) old.input new.input (λ x. record old { input = Some x }) (λ mid. Whole letters values mid new) whole.input (λ x rest. search rules)
+    given-first map_name_in_option value (values Input) old.input new.input (λ x. record old { input = Some x }) (λ mid. Whole letters values mid new) whole.input (λ x rest. search rules)
 value-complete letters values old new Inputs value whole =
     given-first listed value (values Inputs) old.inputs new.inputs (λ x. record old { inputs = Some x }) (λ mid. Whole letters values mid new) whole.inputs (λ x rest. search rules)
 value-complete letters values old new Output value whole =
-    given-first option_name value (values Output) old.output new.output (λ x. record old { output = Some x }) (λ mid. Whole letters values mid new) whole.output (λ x rest. search rules)
+    given-first map_name_in_option value (values Output) old.output new.output (λ x. record old { output = Some x }) (λ mid. Whole letters values mid new) whole.output (λ x rest. search rules)
 value-complete letters values old new Separator value whole =
     given-first separated value (values Separator) old.separator new.separator (λ x. record old { separator = Some x }) (λ mid. Whole letters values mid new) whole.separator (λ x rest. search rules)
 value-complete letters values old new NullText value whole =
-    given-first null_text_of value (values NullText) old.null_text new.null_text (λ x. record old { null_text = Some x }) (λ mid. Whole letters values mid new) whole.null_text (λ x rest. search rules)
+    given-first grid_null_text_in_option value (values NullText) old.null_text new.null_text (λ x. record old { null_text = Some x }) (λ mid. Whole letters values mid new) whole.null_text (λ x rest. search rules)
 value-complete letters values old new TableNullText value whole =
-    given-first table_null_text_of value (values TableNullText) old.table_null_text new.table_null_text (λ x. record old { table_null_text = Some x }) (λ mid. Whole letters values mid new) whole.table_null_text (λ x rest. search rules)
+    given-first table_null_text_in_option value (values TableNullText) old.table_null_text new.table_null_text (λ x. record old { table_null_text = Some x }) (λ mid. Whole letters values mid new) whole.table_null_text (λ x rest. search rules)
 value-complete letters values old new After value whole =
     given-first kept value (values After) old.after new.after (λ x. record old { after = Some x }) (λ mid. Whole letters values mid new) whole.after (λ x rest. search rules)
 
 abbrev setting_with : Option OptionKey → List ℕ → Option (OptionKey × List ℕ)
 setting_with key value = option_map (λ key. (key, value)) key
 
-pair-complete : (form : Form) (letters : List ℕ) (values : OptionKey → List (List ℕ)) (old new : Given) (pair : Option (List ℕ × List ℕ)) → is_some (setting_of form pair) ≡ true
+pair-complete : (form : CommandWithOptions) (letters : List ℕ) (values : OptionKey → List (List ℕ)) (old new : GivenOptions) (pair : Option (List ℕ × List ℕ)) → is_some (setting_of form pair) ≡ true
     → Whole letters (λ other. cons_option (value_for other (setting_of form pair)) (values other)) old new
-    → (mid : Given) × (with_pair form old pair ≡ Ok mid) × Whole letters values mid new
+    → (mid : GivenOptions) × (options_with_key_value_pair form old pair ≡ Ok mid) × Whole letters values mid new
 pair-complete form letters values old new None some whole = cc
-pair-complete form letters values old new (Some p) some whole = by (option_key_of form p.0) refl some whole
+pair-complete form letters values old new (Some p) some whole = by (option_key_by_name form p.0) refl some whole
   where
-    by : (key : Option OptionKey) → option_key_of form p.0 ≡ key → is_some (setting_with key p.1) ≡ true
+    by : (key : Option OptionKey) → option_key_by_name form p.0 ≡ key → is_some (setting_with key p.1) ≡ true
         → Whole letters (λ other. cons_option (value_for other (setting_with key p.1)) (values other)) old new
-        → (mid : Given) × (with_option old (option_key_of form p.0) p.1 ≡ Ok mid) × Whole letters values mid new
+        → (mid : GivenOptions) × (options_with_known_key_value old (option_key_by_name form p.0) p.1 ≡ Ok mid)
+        × Whole letters values mid new
     by None k some whole = cc
     by (Some key) k some whole = search (rules, value-complete)
 
-flags-complete : (form : Form) (word letters : List ℕ) (values : OptionKey → List (List ℕ)) (old new : Given)
-    → are_flags (flags_of form) word ≡ true → Whole (word ++ letters) values old new
-    → (mid : Given) × (with_flags form old word ≡ Ok mid) × Whole letters values mid new
+flags-complete : (form : CommandWithOptions) (word letters : List ℕ) (values : OptionKey
+    → List (List ℕ)) (old new : GivenOptions)
+    → are_flag_letters (flag_letters_of_command form) word ≡ true → Whole (word ++ letters) values old new
+    → (mid : GivenOptions) × (options_with_dash_flags form old word ≡ Ok mid) × Whole letters values mid new
 flags-complete form word letters values old new good whole =
-    (record old { flags = with_letters old.flags word }, rw good refl, record { flags = sym (with_letters-append old.flags word letters) ∙ whole.flags; input = whole.input; inputs = whole.inputs; output = whole.output; separator = whole.separator; null_text = whole.null_text; table_null_text = whole.table_null_text; after = whole.after })
+    (record old { flags = flags_with_letters old.flags word }, rw good refl, record { flags = sym (flags_with_letters-append old.flags word letters) ∙ whole.flags; input = whole.input; inputs = whole.inputs; output = whole.output; separator = whole.separator; null_text = whole.null_text; table_null_text = whole.table_null_text; after = whole.after })
 
-abbrev setting_by : Form → List ℕ → Bool → Option (OptionKey × List ℕ)
-setting_by form word dash = cond dash None (setting_of form (pair_of word))
+abbrev setting_by : CommandWithOptions → List ℕ → Bool → Option (OptionKey × List ℕ)
+setting_by form word dash = cond dash None (setting_of form (texts_around_equals_sign word))
 
-word-complete : (form : Form) (letters : List ℕ) (values : OptionKey → List (List ℕ)) (old new : Given) (word : List ℕ)
+word-complete : (form : CommandWithOptions) (letters : List ℕ) (values : OptionKey
+    → List (List ℕ)) (old new : GivenOptions) (word : List ℕ)
     → IsWord form word
-    → Whole (letters_in word ++ letters) (λ key. cons_option (value_for key (setting_in form word)) (values key)) old new → (mid : Given) × (with_word form old word ≡ Ok mid) × Whole letters values mid new
+    → Whole (letters_after_dash word ++ letters) (λ key. cons_option (value_for key (setting_in form word)) (values key)) old new → (mid : GivenOptions) × (options_with_word form old word ≡ Ok mid) × Whole letters values mid new
 word-complete form letters values old new [] (inl good) whole = cc
 word-complete form letters values old new [] (inr some) whole = cc
 word-complete form letters values old new (b ∷ bs) is whole = by (b == 45) refl is whole
   where
     by : (dash : Bool) → (b == 45) ≡ dash
-        → (are_flags (flags_of form) (cond dash bs []) ≡ true) ⊎ (is_some (setting_by form (b ∷ bs) dash) ≡ true)
-        → Whole (cond dash bs [] ++ letters) (λ key. cons_option (value_for key (setting_by form (b ∷ bs) dash)) (values key)) old new → (mid : Given) × (with_word form old (b ∷ bs) ≡ Ok mid) × Whole letters values mid new
+        → (are_flag_letters (flag_letters_of_command form) (cond dash bs [])
+        ≡ true) ⊎ (is_some (setting_by form (b ∷ bs) dash) ≡ true)
+        → Whole (cond dash bs [] ++ letters) (λ key. cons_option (value_for key (setting_by form (b ∷ bs) dash)) (values key)) old new → (mid : GivenOptions) × (options_with_word form old (b ∷ bs) ≡ Ok mid) × Whole letters values mid new
     by true d (inl good) whole = search (rules, flags-complete)
     by true d (inr some) whole = cc
     by false d (inl good) whole = cc
     by false d (inr some) whole = search (rules, pair-complete)
 
 -- options, made of their parts
-abbrev of_fields : Flags → Option (List ℕ) → Option (List (List ℕ)) → Option (List ℕ) → Option ℕ → Option (List ℕ) → Option (List ℕ) → Option (List ℕ) → Given
+abbrev of_fields : Flags → Option (List ℕ) → Option (List (List ℕ)) → Option (List ℕ) → Option ℕ → Option (List ℕ) → Option (List ℕ) → Option (List ℕ) → GivenOptions
 of_fields flags input inputs output separator null_text table_null_text after = record { flags = flags; input = input; inputs = inputs; output = output; separator = separator; null_text = null_text; table_null_text = table_null_text; after = after }
 
-same-options : (old new : Given) → Whole [] (λ key. []) old new → old ≡ new
+same-options : (old new : GivenOptions) → Whole [] (λ key. []) old new → old ≡ new
 same-options old new more =
-    let flags = sym (with_letters-none old.flags) ∙ more.flags in
+    let flags = sym (flags_with_letters-none old.flags) ∙ more.flags in
     let same : of_fields old.flags old.input old.inputs old.output old.separator old.null_text old.table_null_text old.after
     ≡ of_fields new.flags new.input new.inputs new.output new.separator new.null_text new.table_null_text new.after = cc in
     same
 
-words-complete : (form : Form) (words : List (List ℕ)) (old new : Given) → All (IsWord form) words
-    → More form words old new → with_words form old words ≡ Ok new
+words-complete : (form : CommandWithOptions) (words : List (List ℕ)) (old new : GivenOptions) → All (IsWord form) words
+    → More form words old new → options_with_words form old words ≡ Ok new
 words-complete form [] old new each more = ap Ok (same-options old new more)
 words-complete form (word ∷ words) old new each more =
     let first_is : IsWord form word = each 0 word (omega arith) in
-    let m = word-complete form (flat_map letters_in words) (λ key. key_values form key words) old new word first_is more in
+    let m = word-complete form (flat_map letters_after_dash words) (λ key. key_values form key words) old new word first_is more in
     let rest = words-complete form words m.0 new (λ i d within. each (suc i) d (omega (arith, within))) m.2 in
-    ap (λ r. r >>= (λ mid. with_words form mid words)) m.1 ∙ rest
+    ap (λ r. r >>= (λ mid. options_with_words form mid words)) m.1 ∙ rest
 
 -- words that are read without an error give their options
-pub words-read : (form : Form) (words : List (List ℕ)) (given : Given) → options_of form words ≡ Ok given
-    → All (IsWord form) words × More form words no_options given
-words-read form words given e = words-sound form words no_options given e
+pub words-read : (form : CommandWithOptions) (words : List (List ℕ)) (given : GivenOptions)
+    → options_in_words form words ≡ Ok given
+    → All (IsWord form) words × More form words empty_options given
+words-read form words given e = words-sound form words empty_options given e
 
-pub read-words : (form : Form) (words : List (List ℕ)) (given : Given) → All (IsWord form) words
-    → More form words no_options given → options_of form words ≡ Ok given
-read-words form words given each more = words-complete form words no_options given each more
+pub read-words : (form : CommandWithOptions) (words : List (List ℕ)) (given : GivenOptions) → All (IsWord form) words
+    → More form words empty_options given → options_in_words form words ≡ Ok given
+read-words form words given each more = words-complete form words empty_options given each more

@@ -3,7 +3,7 @@ use Rattle.std.proofs.Common.{◌≡◌, ℕ, zero, suc, ◌+◌, Bool, true, fa
 use Rattle.std.specs.List.{position_from}
 use Rattle.std.proofs.lemmas.List.{take_more}
 use Rattle.std.proofs.lemmas.Option.{slice_get_within, get_or_from_slice_get}
-use Rattle.cell_core_values.specs.Name.{place_of}
+use Rattle.cell_core_values.specs.Name.{place_of_name}
 
 -- a name is not among those before its first place
 position_from-before : {K : Type 0} (t : K → Bool) (i : ℕ) (xs : List K) (p : ℕ) → position_from t i xs ≡ Some (i + p) → position_from t i (take p xs) ≡ None
@@ -15,7 +15,7 @@ position_from-before {K} t i (x ∷ xs) (suc p) e = by (t x) (λ f. position_fro
     by true more e = let q : i ≡ i + suc p = cc in absurd (omega (arith, q))
     by false more e = let q : i + suc p ≡ i + 1 + p = omega arith in more (e ∙ ap Some q)
 
-pub place_of-before : (name : List ℕ) (known : List (List ℕ)) (p : ℕ) → place_of name known ≡ Some p → place_of name (take p known) ≡ None
+pub place_of-before : (name : List ℕ) (known : List (List ℕ)) (p : ℕ) → place_of_name name known ≡ Some p → place_of_name name (take p known) ≡ None
 place_of-before name known p e = let q : p ≡ 0 + p = omega arith in position_from-before _ 0 known p (e ∙ ap Some q)
 
 -- taking one more element appends that element

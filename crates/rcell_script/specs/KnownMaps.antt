@@ -4,18 +4,18 @@ use Rattle.rcell_script.specs.declared.command.Command.{Command}
 use Rattle.rcell_script.specs.declared.command.Command.TheVariants.{Mapcalc, Reclass, Clump, Stats, OutAscii}
 
 -- the name of the map that a command makes, if it makes one
-abbrev pub made_by : Command → Option (List ℕ)
-made_by (Mapcalc target bound) = Some target
-made_by (Reclass place target rules) = Some target
-made_by (Clump place target joining) = Some target
-made_by (Stats places options) = None
-made_by (OutAscii place null_text) = None
+abbrev pub made_map_name : Command → Option (List ℕ)
+made_map_name (Mapcalc target bound) = Some target
+made_map_name (Reclass place target rules) = Some target
+made_map_name (Clump place target joining) = Some target
+made_map_name (Stats places options) = None
+made_map_name (OutAscii place null_text) = None
 
 -- adds the name of the new map, if there is one
-abbrev pub with_made : List (List ℕ) → Option (List ℕ) → List (List ℕ)
-with_made known None = known
-with_made known (Some target) = known ++ target ∷ []
+abbrev pub names_with_made_map_name : List (List ℕ) → Option (List ℕ) → List (List ℕ)
+names_with_made_map_name known None = known
+names_with_made_map_name known (Some target) = known ++ target ∷ []
 
 -- a command's new map is known after the command
-abbrev pub known_after : List (List ℕ) → Command → List (List ℕ)
-known_after known command = with_made known (made_by command)
+abbrev pub known_names_after_command : List (List ℕ) → Command → List (List ℕ)
+known_names_after_command known command = names_with_made_map_name known (made_map_name command)

@@ -11,35 +11,35 @@ use Rattle.rcell_script.specs.declared.script_fault.ScriptKind.TheVariants.{BadO
 use Rattle.rcell_script.specs.declared.script_fault.ScriptFault.{ScriptFault}
 
 -- the script error for an error of options
-abbrev pub kind_of : OptionFault → ScriptKind
-kind_of option.BadOption = BadOption
-kind_of option.MissingOption = MissingOption
-kind_of option.UnknownMap = UnknownMap
-kind_of option.MapExists = MapExists
-kind_of option.BadName = BadName
-kind_of option.Memory = Memory
+abbrev pub script_kind_of_option_fault : OptionFault → ScriptKind
+script_kind_of_option_fault option.BadOption = BadOption
+script_kind_of_option_fault option.MissingOption = MissingOption
+script_kind_of_option_fault option.UnknownMap = UnknownMap
+script_kind_of_option_fault option.MapExists = MapExists
+script_kind_of_option_fault option.BadName = BadName
+script_kind_of_option_fault option.Memory = Memory
 
 -- converts an error of options to an error of a script
-abbrev pub in_script : {A : Type 0} → Result A OptionFault → Result A ScriptKind
-in_script (Ok x) = Ok x
-in_script (Err fault) = Err (kind_of fault)
+abbrev pub option_result_as_script_result : {A : Type 0} → Result A OptionFault → Result A ScriptKind
+option_result_as_script_result (Ok x) = Ok x
+option_result_as_script_result (Err fault) = Err (script_kind_of_option_fault fault)
 
 -- the script error for an error of a combination
-abbrev pub of_combo : ComboFault → ScriptKind
-of_combo combo.Memory = Memory
-of_combo fault = Combo fault
+abbrev pub script_kind_of_combo_fault : ComboFault → ScriptKind
+script_kind_of_combo_fault combo.Memory = Memory
+script_kind_of_combo_fault fault = Combo fault
 
 -- the script error for an error of a rule
-abbrev pub of_rule : RuleFault → ScriptKind
-of_rule rule.Memory = Memory
-of_rule fault = Rule fault
+abbrev pub script_kind_of_rule_fault : RuleFault → ScriptKind
+script_kind_of_rule_fault rule.Memory = Memory
+script_kind_of_rule_fault fault = Rule fault
 
 -- the result is a reading, unless memory ran out
-abbrev pub Reads : {A : Type 0} → (Result A ScriptKind → Type 0) → Result A ScriptKind → Type 0
-Reads IsReading (Ok x) = IsReading (Ok x)
-Reads IsReading (Err kind) = kind ≢ Memory → IsReading (Err kind)
+abbrev pub HoldsUnlessOutOfMemory : {A : Type 0} → (Result A ScriptKind → Type 0) → Result A ScriptKind → Type 0
+HoldsUnlessOutOfMemory IsReading (Ok x) = IsReading (Ok x)
+HoldsUnlessOutOfMemory IsReading (Err kind) = kind ≢ Memory → IsReading (Err kind)
 
--- `Reads`, for errors with a line
-abbrev pub ReadsLine : {A : Type 0} → (Result A ScriptFault → Type 0) → Result A ScriptFault → Type 0
-ReadsLine IsReading (Ok x) = IsReading (Ok x)
-ReadsLine IsReading (Err fault) = fault.kind ≢ Memory → IsReading (Err fault)
+-- `HoldsUnlessOutOfMemory`, for errors with a line
+abbrev pub HoldsUnlessOutOfMemoryAtLine : {A : Type 0} → (Result A ScriptFault → Type 0) → Result A ScriptFault → Type 0
+HoldsUnlessOutOfMemoryAtLine IsReading (Ok x) = IsReading (Ok x)
+HoldsUnlessOutOfMemoryAtLine IsReading (Err fault) = fault.kind ≢ Memory → IsReading (Err fault)

@@ -1,10 +1,10 @@
 //! The commands of a script.
 
-pub use crate::maps::Places;
+pub use crate::maps::MapPlaces;
 use crate::null_text::{NullText, TableNullText};
 use cell_calc_language::bound::Bound;
 use cell_cats::rules::Rules;
-use cell_cats_areas::clump::Joining;
+use cell_clumps::clump::Joining;
 use cell_core::name::Name;
 use cell_stats_combinations::combination::Combo;
 use cell_stats_combinations::skip::Skip;
@@ -50,7 +50,7 @@ pub enum Command {
     },
     /// `r.stats`: prints the combinations that occur in the maps at these places.
     Stats {
-        places: Places,
+        places: MapPlaces,
         options: StatsOptions,
     },
     /// `r.out.ascii`: prints the map at this place as grid text.

@@ -1,30 +1,30 @@
 //! Reads the command in a line.
 
 ghost use Rattle.std.specs.Prelude.{◌≡◌, IfOk};
-ghost use Rattle.rcell_script.specs.OptionReading.{texts};
-ghost use Rattle.rcell_script.specs.Commands.{head_named, head_of_words, is_mapcalc, IsHead};
-ghost use Rattle.rcell_script.specs.FittingCommands.{FitsHead};
-ghost use Rattle.rcell_script.specs.ScriptFaults.{Reads};
-ghost use Rattle.rcell_script.specs.Skipped.{is_comment};
-ghost use Rattle.rcell_script.specs.parts.Giving.{GivesScript};
+ghost use Rattle.rcell_script.specs.OptionReading.{values_of_borrowed_texts};
+ghost use Rattle.rcell_script.specs.Commands.{meaning_by_command_name, meaning_of_line_words, is_mapcalc_line, IsLineMeaning};
+ghost use Rattle.rcell_script.specs.FittingCommands.{LineFitsKnownMaps};
+ghost use Rattle.rcell_script.specs.ScriptFaults.{HoldsUnlessOutOfMemory};
+ghost use Rattle.rcell_script.specs.Skipped.{starts_comment};
+ghost use Rattle.rcell_script.specs.parts.Giving.{IsScriptReadingUnlessMemory};
 
 use crate::command::Command;
-use crate::r_clump::clump_of;
-use crate::r_mapcalc::mapcalc_of;
-use crate::r_out_ascii::out_ascii_of;
-use crate::r_reclass::reclass_of;
-use crate::r_stats::stats_of;
+use crate::r_clump::clump_command_of_words;
+use crate::r_mapcalc::mapcalc_command;
+use crate::r_out_ascii::out_ascii_command_of_words;
+use crate::r_reclass::reclass_input_and_output;
+use crate::r_stats::stats_command_of_words;
 use crate::script_fault::ScriptKind;
 use cell_core::name::{Name, Names};
-use cell_core_values::words::words_of;
+use cell_core_values::words::words_of_line;
 use std::alloc::Global;
 
 /// Maximum length of a line in bytes.
-pub const MOST_LINE: usize = 65535;
+pub const MOST_LINE_BYTES: usize = 65535;
 
 /// The meaning of a line that is not among the rules of an r.reclass.
 #[derive(Drop)]
-pub enum Head {
+pub enum ScriptLineMeaning {
     /// A blank line or a comment.
     Skipped,
     /// A command that needs no further lines.
@@ -34,8 +34,8 @@ pub enum Head {
 }
 
 // Returns whether a word starts a comment.
-fn is_comment(word: &[u8]) -> bool
-    ensures { result ≡ is_comment word.now }
+fn starts_comment(word: &[u8]) -> bool
+    ensures { result ≡ starts_comment word.now }
 {
     match word {
         [] => false,
@@ -45,46 +45,52 @@ fn is_comment(word: &[u8]) -> bool
 
 // Returns the meaning of a line, given its command name and the words after it.
 #[tactic(auto, using(crate::proofs::FaultLemmas::reported))]
-fn head_named(
+fn meaning_by_command_name(
     alloc: Global,
     known: &Names,
     name: &[u8],
     words: &[&[u8]],
-) -> Result<Head, ScriptKind>
-    ensures head { GivesScript result (head_named known.now name.now (texts words.now)) }
-    ensures fits { IfOk result (FitsHead known.now) }
+) -> Result<ScriptLineMeaning, ScriptKind>
+    ensures head { IsScriptReadingUnlessMemory result (meaning_by_command_name known.now name.now
+        (values_of_borrowed_texts words.now)) }
+    ensures fits { IfOk result (LineFitsKnownMaps known.now) }
 {
     if name == b"r.stats".as_slice() {
-        Ok(Head::Whole(stats_of(alloc, known, words)?))
+        Ok(ScriptLineMeaning::Whole(stats_command_of_words(alloc, known, words)?))
     } else if name == b"r.out.ascii".as_slice() {
-        Ok(Head::Whole(out_ascii_of(alloc, known, words)?))
+        Ok(ScriptLineMeaning::Whole(out_ascii_command_of_words(alloc, known, words)?))
     } else if name == b"r.clump".as_slice() {
-        Ok(Head::Whole(clump_of(alloc, known, words)?))
+        Ok(ScriptLineMeaning::Whole(clump_command_of_words(alloc, known, words)?))
     } else if name == b"r.reclass".as_slice() {
-        let (place, target) = reclass_of(alloc, known, words)?;
-        Ok(Head::Opened { place, target })
+        let (place, target) = reclass_input_and_output(alloc, known, words)?;
+        Ok(ScriptLineMeaning::Opened { place, target })
     } else {
         Err(ScriptKind::UnknownCommand)
     }
 }
 
 // Returns the meaning of a line, given its words.
-fn head_of_words(alloc: Global, known: &Names, words: &[&[u8]]) -> Result<Head, ScriptKind>
-    ensures head { GivesScript result (head_of_words known.now (texts words.now)) }
-    ensures fits { IfOk result (FitsHead known.now) }
+fn meaning_of_line_words(
+    alloc: Global,
+    known: &Names,
+    words: &[&[u8]],
+) -> Result<ScriptLineMeaning, ScriptKind>
+    ensures head { IsScriptReadingUnlessMemory result (meaning_of_line_words known.now
+        (values_of_borrowed_texts words.now)) }
+    ensures fits { IfOk result (LineFitsKnownMaps known.now) }
 {
     let Some((name, others)) = words.split_first() else {
-        return Ok(Head::Skipped);
+        return Ok(ScriptLineMeaning::Skipped);
     };
-    if is_comment(*name) {
-        return Ok(Head::Skipped);
+    if starts_comment(*name) {
+        return Ok(ScriptLineMeaning::Skipped);
     }
-    head_named(alloc, known, *name, others)
+    meaning_by_command_name(alloc, known, *name, others)
 }
 
 // Returns whether the first word is r.mapcalc.
-fn is_mapcalc(words: &[&[u8]]) -> bool
-    ensures { result ≡ is_mapcalc (texts words.now) }
+fn is_mapcalc_line(words: &[&[u8]]) -> bool
+    ensures { result ≡ is_mapcalc_line (values_of_borrowed_texts words.now) }
 {
     match words {
         [] => false,
@@ -98,16 +104,20 @@ fn is_mapcalc(words: &[&[u8]]) -> bool
 ///
 /// Returns the first error that applies: [`ScriptKind::LongLine`], [`ScriptKind::UnknownCommand`], or the error of the
 /// command. Returns [`ScriptKind::Memory`] if memory runs out.
-pub fn head_of(alloc: Global, known: &Names, line: &[u8]) -> Result<Head, ScriptKind>
-    ensures head { Reads (IsHead known.now line.now) result }
-    ensures fits { IfOk result (FitsHead known.now) }
+pub fn meaning_of_line(
+    alloc: Global,
+    known: &Names,
+    line: &[u8],
+) -> Result<ScriptLineMeaning, ScriptKind>
+    ensures head { HoldsUnlessOutOfMemory (IsLineMeaning known.now line.now) result }
+    ensures fits { IfOk result (LineFitsKnownMaps known.now) }
 {
-    if line.len() > MOST_LINE {
+    if line.len() > MOST_LINE_BYTES {
         return Err(ScriptKind::LongLine);
     }
-    let words = words_of(alloc, line)?;
-    if is_mapcalc(&words) {
-        return mapcalc_of(alloc, known, line);
+    let words = words_of_line(alloc, line)?;
+    if is_mapcalc_line(&words) {
+        return mapcalc_command(alloc, known, line);
     }
-    head_of_words(alloc, known, &words)
+    meaning_of_line_words(alloc, known, &words)
 }

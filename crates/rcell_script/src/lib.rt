@@ -7,12 +7,12 @@
 //! - specs/Scripts.antt: which texts are scripts; specs/ScriptsRead.antt: how scripts are read
 //! - `law`: a text denotes at most one list of statements, and then has no error
 //! - private: `lines`; `line_reading`: the statements read so far, and an r.reclass whose rules follow
-//! - `heads`: `head_of` reads a line, given the known names. Returns a `Head` or a `ScriptKind`
+//! - `heads`: `head_of` reads a line, given the known names. Returns a `ScriptLineMeaning` or a `ScriptKind`
 //! - `command`: `Command`, what a statement does, with the indices of its maps on the shelf
 //! - `script_fault`: `ScriptKind`, an error; `ScriptFault`, an error and its line
 //! - one module per command: private `r_reclass`, `r_clump`, `r_stats`, `r_out_ascii`; `r_mapcalc`, whose
-//!   `assignment_text` returns a line with blanks in place of the command name
-//! - `options`: `options_of` reads words as `Options`; `maps`: the maps that options name; `null_text`: the null texts
+//!   `assignment_with_blanked_command` returns a line with blanks in place of the command name
+//! - `options`: `options_in_words` reads words as `Options`; `maps`: the maps that options name; `null_text`: the null texts
 //!   of grids and tables; `option_fault`: `OptionFault`
 //! - specs/CommandSpelling.antt: which line spells which command; specs/Options.antt: which options words spell; one
 //!   file per command
@@ -21,11 +21,11 @@
 //!
 //! ```
 //! let script = parse_script(alloc, text, &one_grid(alloc)?)?;
-//! let [grid, classes, areas, table] = script.statements() else {
+//! let [grid, classes, clumps, table] = script.statements() else {
 //!     return Err("another number of statements".into());
 //! };
 //! assert_same!(rt;
-//!     (grid.line, classes.line, areas.line, table.line),
+//!     (grid.line, classes.line, clumps.line, table.line),
 //!     (2, 4, 8, 9)
 //! );
 //! ```

@@ -2,16 +2,16 @@
 
 ghost use Rattle.std.specs.Prelude.{◌≡◌, ◌≢◌, ◌<◌, ℕ, List, IfOk, IfErr, OnOk, Ok, Some};
 ghost use Rattle.std.specs.Option.{option_map};
-ghost use Rattle.cell_core_values.specs.Answers.{Answers};
-ghost use Rattle.rcell_script.specs.KnownMaps.{known_after, made_by};
-ghost use Rattle.rcell_script.specs.ScriptsRead.{start, with_statement, after_head, after_rule, rule_line, IsNext, at_end};
-ghost use Rattle.rcell_script.specs.FittingCommands.{FitsCommand, FitsHead};
-ghost use Rattle.rcell_script.specs.ScriptFaults.{ReadsLine};
-ghost use Rattle.rcell_script.specs.ReadScripts.{ReportsMemoryAtZero};
-ghost use Rattle.rcell_script.specs.parts.Sound.{IsSound, FitsBlock};
+ghost use Rattle.cell_core_values.specs.Answers.{EqualsUnlessOutOfMemory};
+ghost use Rattle.rcell_script.specs.KnownMaps.{known_names_after_command, made_map_name};
+ghost use Rattle.rcell_script.specs.ScriptsRead.{state_before_first_line, state_with_statement, state_after_line_meaning, state_after_rule_line, kind_and_rules_after_rule_line, IsStateAfterLine, statements_after_last_line};
+ghost use Rattle.rcell_script.specs.FittingCommands.{CommandFitsKnownMaps, LineFitsKnownMaps};
+ghost use Rattle.rcell_script.specs.ScriptFaults.{HoldsUnlessOutOfMemoryAtLine};
+ghost use Rattle.rcell_script.specs.ReadScripts.{ReportsMemoryAtLineZero};
+ghost use Rattle.rcell_script.specs.parts.Sound.{ReadingStateFitsKnownMaps, UnfinishedReclassFitsKnownMaps};
 
 use crate::command::Command;
-use crate::heads::{Head, MOST_LINE, head_of};
+use crate::heads::{MOST_LINE_BYTES, ScriptLineMeaning, meaning_of_line};
 use crate::script_fault::{ScriptFault, ScriptKind};
 use crate::statement::{Script, Statement};
 use cell_cats::rules::{LineKind, Rules};
@@ -21,7 +21,7 @@ use std::alloc::Global;
 
 /// An r.reclass whose rules are being read.
 #[derive(Drop)]
-pub(crate) struct OpenReclass {
+pub(crate) struct UnfinishedReclass {
     line: u64,
     place: usize,
     target: Name,
@@ -30,32 +30,32 @@ pub(crate) struct OpenReclass {
 
 /// The state of the reader: the known names, the statements, and the r.reclass whose rules are being read, if any.
 #[derive(Drop)]
-pub(crate) struct Progress {
+pub(crate) struct ScriptReadingState {
     known: Names,
     statements: Script,
-    pending: Option<OpenReclass>,
+    pending: Option<UnfinishedReclass>,
 }
 
 /// The error if memory runs out.
-pub(crate) const NO_MEMORY: ScriptFault = ScriptFault {
+pub(crate) const OUT_OF_MEMORY_FAULT: ScriptFault = ScriptFault {
     kind: ScriptKind::Memory,
     line: 0,
 };
 
 // Builds the error for a line. If memory ran out, the line is 0.
-fn fault_at(line: u64, kind: ScriptKind) -> ScriptFault
+fn script_fault_at_line(line: u64, kind: ScriptKind) -> ScriptFault
     ensures other { kind ≢ ScriptKind.Memory → result ≡ record { kind = kind; line = line } }
     ensures kind { result.kind ≡ kind }
     ensures memory { kind ≡ ScriptKind.Memory → result.line ≡ 0 }
 {
     match kind {
-        ScriptKind::Memory => NO_MEMORY,
+        ScriptKind::Memory => OUT_OF_MEMORY_FAULT,
         _ => ScriptFault { kind, line },
     }
 }
 
 // Copies names.
-fn names_copy(alloc: Global, names: &Names) -> Result<Names, Memory>
+fn copied_known_names(alloc: Global, names: &Names) -> Result<Names, Memory>
     ensures { IfOk result (λ copy. copy ≡ names.now) }
 {
     let mut copy = Names::new(alloc);
@@ -67,8 +67,8 @@ fn names_copy(alloc: Global, names: &Names) -> Result<Names, Memory>
 }
 
 // Returns the name of the map that a command makes, if any.
-fn made_by(command: &Command) -> Option<&Name>
-    ensures { option_map (λ name. name.now) result ≡ made_by command.now }
+fn made_map_name(command: &Command) -> Option<&Name>
+    ensures { option_map (λ name. name.now) result ≡ made_map_name command.now }
 {
     match command {
         Command::Mapcalc { target, .. } => Some(target),
@@ -79,38 +79,38 @@ fn made_by(command: &Command) -> Option<&Name>
 }
 
 // Adds the name of the map that a command makes, if any, to the known names.
-fn add_made(alloc: Global, known: &mut Names, command: &Command) -> Result<(), Memory>
-    requires { FitsCommand known.old command.now }
-    ensures { OnOk result (known.new ≡ known_after known.old command.now) }
+fn add_made_map_name(alloc: Global, known: &mut Names, command: &Command) -> Result<(), Memory>
+    requires { CommandFitsKnownMaps known.old command.now }
+    ensures { OnOk result (known.new ≡ known_names_after_command known.old command.now) }
 {
-    if let Some(name) = made_by(command) {
+    if let Some(name) = made_map_name(command) {
         known.push(name.copy(alloc)?)?;
     }
     Ok(())
 }
 
 // Reads a line among the rules of an r.reclass.
-fn add_rule(rules: &mut Rules, line: &[u8]) -> Result<LineKind, ScriptKind>
-    ensures { Answers ScriptKind.Memory (λ kind. (kind, rules.new)) result
-        (rule_line rules.old line.now) }
+fn add_rule_line(rules: &mut Rules, line: &[u8]) -> Result<LineKind, ScriptKind>
+    ensures { EqualsUnlessOutOfMemory ScriptKind.Memory (λ kind. (kind, rules.new)) result
+        (kind_and_rules_after_rule_line rules.old line.now) }
 {
-    if line.len() > MOST_LINE {
+    if line.len() > MOST_LINE_BYTES {
         return Err(ScriptKind::LongLine);
     }
     Ok(rules.add_line(line)?)
 }
 
-impl Progress {
+impl ScriptReadingState {
     /// Creates a reader that has read nothing and knows these names.
     ///
     /// # Errors
     ///
     /// Returns [`Memory`] if memory runs out.
-    pub(crate) fn new(alloc: Global, known: &Names) -> Result<Progress, Memory>
-        ensures { IfOk result (λ read. read ≡ start known.now) }
+    pub(crate) fn new(alloc: Global, known: &Names) -> Result<ScriptReadingState, Memory>
+        ensures { IfOk result (λ read. read ≡ state_before_first_line known.now) }
     {
-        let known = names_copy(alloc, known)?;
-        Ok(Progress {
+        let known = copied_known_names(alloc, known)?;
+        Ok(ScriptReadingState {
             known,
             statements: Script::new(alloc),
             pending: None,
@@ -118,31 +118,36 @@ impl Progress {
     }
 
     // Adds a statement.
-    fn with_statement(
+    fn state_with_statement(
         mut self,
         alloc: Global,
         line: u64,
         command: Command,
-    ) -> Result<Progress, Memory>
-        requires { FitsCommand self.known command }
-        ensures { IfOk result (λ read. read ≡ with_statement line command self) }
+    ) -> Result<ScriptReadingState, Memory>
+        requires { CommandFitsKnownMaps self.known command }
+        ensures { IfOk result (λ read. read ≡ state_with_statement line command self) }
     {
-        add_made(alloc, &mut self.known, &command)?;
+        add_made_map_name(alloc, &mut self.known, &command)?;
         self.statements.push(Statement { line, command })?;
         self.pending = None;
         Ok(self)
     }
 
     // Continues after a line outside the rules of an r.reclass.
-    fn with_head(self, alloc: Global, line: u64, head: Head) -> Result<Progress, Memory>
-        requires { FitsHead self.known head }
-        ensures { IfOk result (λ read. after_head line self (Ok head) ≡ Ok read) }
+    fn with_head(
+        self,
+        alloc: Global,
+        line: u64,
+        head: ScriptLineMeaning,
+    ) -> Result<ScriptReadingState, Memory>
+        requires { LineFitsKnownMaps self.known head }
+        ensures { IfOk result (λ read. state_after_line_meaning line self (Ok head) ≡ Ok read) }
     {
         match head {
-            Head::Skipped => Ok(self),
-            Head::Whole(command) => self.with_statement(alloc, line, command),
-            Head::Opened { place, target } => Ok(Progress {
-                pending: Some(OpenReclass {
+            ScriptLineMeaning::Skipped => Ok(self),
+            ScriptLineMeaning::Whole(command) => self.state_with_statement(alloc, line, command),
+            ScriptLineMeaning::Opened { place, target } => Ok(ScriptReadingState {
+                pending: Some(UnfinishedReclass {
                     line,
                     place,
                     target,
@@ -158,36 +163,37 @@ impl Progress {
         self,
         alloc: Global,
         line: u64,
-        mut block: OpenReclass,
+        mut block: UnfinishedReclass,
         text: &[u8],
-    ) -> Result<Progress, ScriptFault>
-        requires { FitsBlock self.known (Some block) }
-        ensures next { ReadsLine
-            (λ next. after_rule line self block (rule_line block.rules text.now) ≡ next) result }
-        ensures memory { IfErr result ReportsMemoryAtZero }
+    ) -> Result<ScriptReadingState, ScriptFault>
+        requires { UnfinishedReclassFitsKnownMaps self.known (Some block) }
+        ensures next { HoldsUnlessOutOfMemoryAtLine
+            (λ next. state_after_rule_line line self block
+            (kind_and_rules_after_rule_line block.rules text.now) ≡ next) result }
+        ensures memory { IfErr result ReportsMemoryAtLineZero }
     {
-        match add_rule(&mut block.rules, text) {
+        match add_rule_line(&mut block.rules, text) {
             Ok(LineKind::End) => {
                 let command = Command::Reclass {
                     place: block.place,
                     target: block.target,
                     rules: block.rules,
                 };
-                match self.with_statement(alloc, block.line, command) {
+                match self.state_with_statement(alloc, block.line, command) {
                     Ok(read) => Ok(read),
-                    Err(_) => Err(NO_MEMORY),
+                    Err(_) => Err(OUT_OF_MEMORY_FAULT),
                 }
             }
-            Ok(_) => Ok(Progress {
+            Ok(_) => Ok(ScriptReadingState {
                 pending: Some(block),
                 ..self
             }),
-            Err(kind) => Err(fault_at(line, kind)),
+            Err(kind) => Err(script_fault_at_line(line, kind)),
         }
     }
 }
 
-impl Progress {
+impl ScriptReadingState {
     /// Reads one more line.
     ///
     /// # Errors
@@ -198,20 +204,21 @@ impl Progress {
         alloc: Global,
         line: u64,
         text: &[u8],
-    ) -> Result<Progress, ScriptFault>
+    ) -> Result<ScriptReadingState, ScriptFault>
         requires line { 0 < line }
-        requires fits { FitsBlock self.known self.pending }
-        ensures next { ReadsLine (IsNext line self text.now) result }
-        ensures sound { IfOk result (λ read. (first : List (List ℕ)) → IsSound first self
-            → IsSound first read) }
-        ensures memory { IfErr result ReportsMemoryAtZero }
+        requires fits { UnfinishedReclassFitsKnownMaps self.known self.pending }
+        ensures next { HoldsUnlessOutOfMemoryAtLine (IsStateAfterLine line self text.now) result }
+        ensures sound { IfOk result (λ read. (first : List (List ℕ))
+            → ReadingStateFitsKnownMaps first self
+            → ReadingStateFitsKnownMaps first read) }
+        ensures memory { IfErr result ReportsMemoryAtLineZero }
     {
-        let Progress {
+        let ScriptReadingState {
             known,
             statements,
             pending,
         } = self;
-        let read = Progress {
+        let read = ScriptReadingState {
             known,
             statements,
             pending: None,
@@ -219,13 +226,13 @@ impl Progress {
         if let Some(block) = pending {
             return read.with_rule(alloc, line, block, text);
         }
-        let head = match head_of(alloc, &read.known, text) {
+        let head = match meaning_of_line(alloc, &read.known, text) {
             Ok(head) => head,
-            Err(kind) => return Err(fault_at(line, kind)),
+            Err(kind) => return Err(script_fault_at_line(line, kind)),
         };
         match read.with_head(alloc, line, head) {
             Ok(read) => Ok(read),
-            Err(_) => Err(NO_MEMORY),
+            Err(_) => Err(OUT_OF_MEMORY_FAULT),
         }
     }
 
@@ -235,9 +242,9 @@ impl Progress {
     ///
     /// Returns [`ScriptKind::MissingEnd`] with the line of an r.reclass whose rules have no `end`.
     pub(crate) fn into_script(self) -> Result<Script, ScriptFault>
-        ensures { result ≡ at_end self }
+        ensures { result ≡ statements_after_last_line self }
     {
-        let Progress {
+        let ScriptReadingState {
             known: _,
             statements,
             pending,

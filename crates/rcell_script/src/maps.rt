@@ -2,10 +2,10 @@
 
 ghost use Rattle.std.specs.Prelude.{◌≡◌, ◌<◌, ◌≤◌, IfOk, None, All, length};
 ghost use Rattle.std.specs.Option.{ok_or};
-ghost use Rattle.cell_core_values.specs.Name.{place_of};
-ghost use Rattle.rcell_script.specs.OptionReading.{GivesOption, is_torn};
-ghost use Rattle.rcell_script.specs.Maps.{from_to, input_place, input_places};
-ghost use Rattle.rcell_script.specs.InputPlaces.{places_of};
+ghost use Rattle.cell_core_values.specs.Name.{place_of_name};
+ghost use Rattle.rcell_script.specs.OptionReading.{IsOptionReadingUnlessMemory, has_conflicting_options};
+ghost use Rattle.rcell_script.specs.Maps.{input_place_and_output_name, input_map_place, input_map_places};
+ghost use Rattle.rcell_script.specs.InputPlaces.{places_of_map_names};
 
 use crate::option_fault::OptionFault;
 use crate::options::Options;
@@ -15,11 +15,11 @@ use std::marker::Model;
 
 /// Indexes of maps on a shelf, in order. An index may occur twice.
 #[derive(Drop)]
-pub struct Places {
+pub struct MapPlaces {
     places: Vec<usize>,
 }
 
-impl Model for Places {
+impl Model for MapPlaces {
     ghost use Rattle.std.specs.Prelude.{List, ℕ};
 
     ghost Value = { List ℕ };
@@ -27,7 +27,7 @@ impl Model for Places {
     ghost view = { λ p. p.places.items };
 }
 
-impl Places {
+impl MapPlaces {
     /// Returns the indices as a slice.
     pub fn as_slice(&self) -> &[usize]
         ensures { result.now ≡ self.now }
@@ -42,12 +42,15 @@ impl Places {
 ///
 /// Returns the first error that applies: [`OptionFault::MissingOption`], [`OptionFault::UnknownMap`], or
 /// [`OptionFault::MapExists`].
-pub fn from_to(known: &Names, options: Options) -> Result<(usize, Name), OptionFault>
-    ensures value { result ≡ from_to known.now options }
+pub fn input_place_and_output_name(
+    known: &Names,
+    options: Options,
+) -> Result<(usize, Name), OptionFault>
+    ensures value { result ≡ input_place_and_output_name known.now options }
     ensures within { IfOk result (λ maps. maps.0 < length known.now) }
-    ensures new { IfOk result (λ maps. place_of maps.1 known.now ≡ None) }
+    ensures new { IfOk result (λ maps. place_of_name maps.1 known.now ≡ None) }
 {
-    let (input, output) = options.into_names();
+    let (input, output) = options.into_input_and_output_names();
     let (Some(input), Some(output)) = (input, output) else {
         return Err(OptionFault::MissingOption);
     };
@@ -65,8 +68,8 @@ pub fn from_to(known: &Names, options: Options) -> Result<(usize, Name), OptionF
 /// # Errors
 ///
 /// Returns the first error that applies: [`OptionFault::MissingOption`] or [`OptionFault::UnknownMap`].
-pub fn input_place(known: &Names, options: &Options) -> Result<usize, OptionFault>
-    ensures value { result ≡ input_place known.now options.now }
+pub fn input_map_place(known: &Names, options: &Options) -> Result<usize, OptionFault>
+    ensures value { result ≡ input_map_place known.now options.now }
     ensures within { IfOk result (λ place. place < length known.now) }
 {
     let Some(input) = &options.input else {
@@ -79,9 +82,13 @@ pub fn input_place(known: &Names, options: &Options) -> Result<usize, OptionFaul
 }
 
 // Returns the indices of names among the known names.
-fn map_places(alloc: Global, known: &Names, names: &[Name]) -> Result<Places, OptionFault>
-    ensures places { GivesOption result
-        (ok_or (places_of known.now names.now) OptionFault.UnknownMap) }
+fn known_places_of_map_names(
+    alloc: Global,
+    known: &Names,
+    names: &[Name],
+) -> Result<MapPlaces, OptionFault>
+    ensures places { IsOptionReadingUnlessMemory result
+        (ok_or (places_of_map_names known.now names.now) OptionFault.UnknownMap) }
     ensures within { IfOk result (λ places. All (λ place. place < length known.now) places) }
     ensures count { IfOk result (λ places. length places ≡ length names.now) }
 {
@@ -92,12 +99,12 @@ fn map_places(alloc: Global, known: &Names, names: &[Name]) -> Result<Places, Op
             None => return Err(OptionFault::UnknownMap),
         }
     }
-    Ok(Places { places })
+    Ok(MapPlaces { places })
 }
 
 // Returns whether the options ask for a line per cell, together with options that exclude this.
-fn is_torn(options: &Options) -> bool
-    ensures { result ≡ is_torn options.now }
+fn has_conflicting_options(options: &Options) -> bool
+    ensures { result ≡ has_conflicting_options options.now }
 {
     options.flags.cells && (options.flags.counts || options.after.is_some())
 }
@@ -108,8 +115,12 @@ fn is_torn(options: &Options) -> bool
 ///
 /// Returns the first error that applies: [`OptionFault::MissingOption`], [`OptionFault::BadOption`] if flags exclude
 /// each other, or [`OptionFault::UnknownMap`]. Returns [`OptionFault::Memory`] if memory runs out.
-pub fn input_places(alloc: Global, known: &Names, options: &Options) -> Result<Places, OptionFault>
-    ensures places { GivesOption result (input_places known.now options.now) }
+pub fn input_map_places(
+    alloc: Global,
+    known: &Names,
+    options: &Options,
+) -> Result<MapPlaces, OptionFault>
+    ensures places { IsOptionReadingUnlessMemory result (input_map_places known.now options.now) }
     ensures within { IfOk result (λ places. All (λ place. place < length known.now) places) }
     ensures some { IfOk result (λ places. 1 ≤ length places) }
     ensures most { IfOk result (λ places. length places ≤ 16) }
@@ -117,8 +128,8 @@ pub fn input_places(alloc: Global, known: &Names, options: &Options) -> Result<P
     let Some(inputs) = &options.inputs else {
         return Err(OptionFault::MissingOption);
     };
-    if is_torn(options) {
+    if has_conflicting_options(options) {
         return Err(OptionFault::BadOption);
     }
-    map_places(alloc, known, inputs.names())
+    known_places_of_map_names(alloc, known, inputs.names())
 }

@@ -24,9 +24,9 @@ pub enum OptionFault {
 
 impl From<NameFault> for OptionFault {
     ghost use Rattle.std.specs.Prelude.{◌≡◌};
-    ghost use Rattle.rcell_script.specs.parts.Faults.{of_name};
+    ghost use Rattle.rcell_script.specs.parts.Faults.{option_fault_of_name_fault};
 
-    ghost from_gives = { λ fault option. option ≡ of_name fault };
+    ghost from_gives = { λ fault option. option ≡ option_fault_of_name_fault fault };
 
     fn from(fault: NameFault) -> OptionFault {
         match fault {

@@ -3,28 +3,28 @@
 ghost use Rattle.std.specs.Prelude.{◌≡◌, ◌≤◌, ◌||◌, IfOk, length, unwrap_or};
 ghost use Rattle.std.specs.List.{list_all};
 ghost use Rattle.std.specs.Option.{option_map};
-ghost use Rattle.cell_ascii_meaning.specs.Header.{usual_null};
-ghost use Rattle.cell_core_values.specs.Answers.{Answers};
-ghost use Rattle.cell_core_values.specs.Words.{parts_of};
-ghost use Rattle.cell_core_values.specs.Letters.{is_one_of};
-ghost use Rattle.rcell_script.specs.OptionReading.{GivesOption, texts, flags_of, option_key_of, option_name, names_from, names_of, no_options, with_letters, with_flags, with_value, with_pair, with_word, with_words, options_of};
+ghost use Rattle.cell_ascii_meaning.specs.Header.{usual_null_text};
+ghost use Rattle.cell_core_values.specs.Answers.{EqualsUnlessOutOfMemory};
+ghost use Rattle.cell_core_values.specs.Words.{parts_between_commas};
+ghost use Rattle.cell_core_values.specs.Letters.{is_byte_in_text};
+ghost use Rattle.rcell_script.specs.OptionReading.{IsOptionReadingUnlessMemory, values_of_borrowed_texts, flag_letters_of_command, option_key_by_name, map_name_in_option, texts_if_all_are_map_names, map_names_in_option_value, empty_options, flags_with_letters, options_with_dash_flags, options_with_key_value, options_with_key_value_pair, options_with_word, options_with_words, options_in_words};
 ghost use Rattle.rcell_script.specs.parts.Keys.{is_given};
-ghost use Rattle.rcell_script.specs.Options.{are_flags, printed_byte, separator_in};
+ghost use Rattle.rcell_script.specs.Options.{are_flag_letters, only_byte_if_printable, separator_in_option};
 
 use crate::null_text::{NullText, TableNullText};
 use crate::option_fault::OptionFault;
 use cell_core::memory::Memory;
 use cell_core::name::Name;
-use cell_core_values::words::{pair_of, parts_of};
+use cell_core_values::words::{parts_between_commas, texts_around_equals_sign};
 use std::alloc::Global;
 use std::marker::Model;
 
 /// Maximum number of maps in one r.stats.
-const MOST_INPUTS: usize = 16;
+const MOST_STATS_MAPS: usize = 16;
 
 /// A command with options.
 #[derive(Clone, Copy)]
-pub enum Form {
+pub enum CommandWithOptions {
     Reclass,
     Clump,
     Stats,
@@ -101,8 +101,8 @@ pub struct Flags {
 }
 
 // Returns whether a flag was given before, or is among these letters.
-fn or_given(given: bool, letters: &[u8], flag: u8) -> bool
-    ensures { result ≡ (given || is_one_of letters.now flag) }
+fn is_flag_given(given: bool, letters: &[u8], flag: u8) -> bool
+    ensures { result ≡ (given || is_byte_in_text letters.now flag) }
 {
     given || letters.contains(&flag)
 }
@@ -110,15 +110,15 @@ fn or_given(given: bool, letters: &[u8], flag: u8) -> bool
 impl Flags {
     // Adds the flags with these letters. A flag may be repeated.
     fn with(self, letters: &[u8]) -> Flags
-        ensures { result ≡ with_letters self letters.now }
+        ensures { result ≡ flags_with_letters self letters.now }
     {
         Flags {
-            labels: or_given(self.labels, letters, b'l'),
-            counts: or_given(self.counts, letters, b'c'),
-            cells: or_given(self.cells, letters, b'1'),
-            no_null: or_given(self.no_null, letters, b'n'),
-            no_all_null: or_given(self.no_all_null, letters, b'N'),
-            corners: or_given(self.corners, letters, b'd'),
+            labels: is_flag_given(self.labels, letters, b'l'),
+            counts: is_flag_given(self.counts, letters, b'c'),
+            cells: is_flag_given(self.cells, letters, b'1'),
+            no_null: is_flag_given(self.no_null, letters, b'n'),
+            no_all_null: is_flag_given(self.no_all_null, letters, b'N'),
+            corners: is_flag_given(self.corners, letters, b'd'),
         }
     }
 }
@@ -138,38 +138,40 @@ pub struct Options {
 
 impl Model for Options {
     ghost use Rattle.std.specs.Option.{option_map};
-    ghost use Rattle.rcell_script.specs.OptionReading.{Given};
+    ghost use Rattle.rcell_script.specs.OptionReading.{GivenOptions};
 
-    ghost Value = { Given };
+    ghost Value = { GivenOptions };
 
     ghost view = { λ o. record { flags = o.flags; input = o.input; inputs = o.inputs; output = o.output; separator = o.separator; null_text = o.null_text; table_null_text = o.table_null_text; after = option_map (λ text. text.items) o.after } };
 }
 
-fn is_flag(form: Form, letter: u8) -> bool
-    ensures { result ≡ is_one_of (flags_of form) letter }
+fn is_flag_of_command(form: CommandWithOptions, letter: u8) -> bool
+    ensures { result ≡ is_byte_in_text (flag_letters_of_command form) letter }
 {
     match form {
-        Form::Clump => letter == b'd',
-        Form::Stats => matches!(letter, b'c' | b'l' | b'n' | b'N' | b'1'),
+        CommandWithOptions::Clump => letter == b'd',
+        CommandWithOptions::Stats => matches!(letter, b'c' | b'l' | b'n' | b'N' | b'1'),
         _ => false,
     }
 }
 
-fn are_all_flags(form: Form, letters: &[u8]) -> bool
-    ensures { result ≡ list_all (is_one_of (flags_of form)) letters.now }
+fn are_all_flags_of_command(form: CommandWithOptions, letters: &[u8]) -> bool
+    ensures { result ≡ list_all (is_byte_in_text (flag_letters_of_command form)) letters.now }
 {
-    letters.iter().all(|letter| is_flag(form, *letter))
+    letters
+        .iter()
+        .all(|letter| is_flag_of_command(form, *letter))
 }
 
 // Returns whether there is at least one letter, and each is a flag of the command.
-fn are_flags(form: Form, letters: &[u8]) -> bool
-    ensures { result ≡ are_flags (flags_of form) letters.now }
+fn are_flag_letters(form: CommandWithOptions, letters: &[u8]) -> bool
+    ensures { result ≡ are_flag_letters (flag_letters_of_command form) letters.now }
 {
-    !letters.is_empty() && are_all_flags(form, letters)
+    !letters.is_empty() && are_all_flags_of_command(form, letters)
 }
 
-fn maker_key(text: &[u8]) -> Option<OptionKey>
-    ensures { result ≡ option_key_of Form.Reclass text.now }
+fn input_or_output_option_key(text: &[u8]) -> Option<OptionKey>
+    ensures { result ≡ option_key_by_name CommandWithOptions.Reclass text.now }
 {
     if text == b"input".as_slice() {
         Some(OptionKey::Input)
@@ -180,8 +182,8 @@ fn maker_key(text: &[u8]) -> Option<OptionKey>
     }
 }
 
-fn stats_key(text: &[u8]) -> Option<OptionKey>
-    ensures { result ≡ option_key_of Form.Stats text.now }
+fn stats_option_key(text: &[u8]) -> Option<OptionKey>
+    ensures { result ≡ option_key_by_name CommandWithOptions.Stats text.now }
 {
     if text == b"input".as_slice() {
         Some(OptionKey::Inputs)
@@ -196,8 +198,8 @@ fn stats_key(text: &[u8]) -> Option<OptionKey>
     }
 }
 
-fn out_ascii_key(text: &[u8]) -> Option<OptionKey>
-    ensures { result ≡ option_key_of Form.OutAscii text.now }
+fn out_ascii_option_key(text: &[u8]) -> Option<OptionKey>
+    ensures { result ≡ option_key_by_name CommandWithOptions.OutAscii text.now }
 {
     if text == b"input".as_slice() {
         Some(OptionKey::Input)
@@ -209,52 +211,53 @@ fn out_ascii_key(text: &[u8]) -> Option<OptionKey>
 }
 
 // Returns the command's key with this name.
-fn option_key_of(form: Form, text: &[u8]) -> Option<OptionKey>
-    ensures { result ≡ option_key_of form text.now }
+fn option_key_by_name(form: CommandWithOptions, text: &[u8]) -> Option<OptionKey>
+    ensures { result ≡ option_key_by_name form text.now }
 {
     match form {
-        Form::Reclass => maker_key(text),
-        Form::Clump => maker_key(text),
-        Form::Stats => stats_key(text),
-        Form::OutAscii => out_ascii_key(text),
+        CommandWithOptions::Reclass => input_or_output_option_key(text),
+        CommandWithOptions::Clump => input_or_output_option_key(text),
+        CommandWithOptions::Stats => stats_option_key(text),
+        CommandWithOptions::OutAscii => out_ascii_option_key(text),
     }
 }
 
 // Reads the name of one map.
-fn option_name(alloc: Global, value: &[u8]) -> Result<Name, OptionFault>
-    ensures { GivesOption result (option_name value.now) }
+fn map_name_in_option(alloc: Global, value: &[u8]) -> Result<Name, OptionFault>
+    ensures { IsOptionReadingUnlessMemory result (map_name_in_option value.now) }
 {
     let name = Name::read(alloc, value)?;
     Ok(name)
 }
 
 // Reads several names.
-fn names_from(alloc: Global, parts: &[&[u8]]) -> Result<Vec<Name>, OptionFault>
-    ensures names { Answers OptionFault.Memory (λ names. names.items) result
-        (names_from (texts parts.now)) }
+fn texts_if_all_are_map_names(alloc: Global, parts: &[&[u8]]) -> Result<Vec<Name>, OptionFault>
+    ensures names { EqualsUnlessOutOfMemory OptionFault.Memory (λ names. names.items) result
+        (texts_if_all_are_map_names (values_of_borrowed_texts parts.now)) }
     ensures count { IfOk result (λ names. length names.items ≡ length parts.now) }
 {
     let mut names = Vec::new(alloc);
     for part in parts {
-        names.push(option_name(alloc, *part)?)?;
+        names.push(map_name_in_option(alloc, *part)?)?;
     }
     Ok(names)
 }
 
 // Reads the names of maps, separated by commas.
-fn option_names(alloc: Global, value: &[u8]) -> Result<Inputs, OptionFault>
-    ensures { GivesOption result (names_of (parts_of value.now)) }
+fn map_names_in_option(alloc: Global, value: &[u8]) -> Result<Inputs, OptionFault>
+    ensures { IsOptionReadingUnlessMemory result
+        (map_names_in_option_value (parts_between_commas value.now)) }
 {
-    let parts = parts_of(alloc, value)?;
-    if parts.len() > MOST_INPUTS {
+    let parts = parts_between_commas(alloc, value)?;
+    if parts.len() > MOST_STATS_MAPS {
         return Err(OptionFault::BadOption);
     }
-    let names = names_from(alloc, &parts)?;
+    let names = texts_if_all_are_map_names(alloc, &parts)?;
     Ok(Inputs::of(names))
 }
 
-fn printed_byte(value: &[u8]) -> Option<u8>
-    ensures { result ≡ printed_byte value.now }
+fn only_byte_if_printable(value: &[u8]) -> Option<u8>
+    ensures { result ≡ only_byte_if_printable value.now }
 {
     match value {
         [b] if b'!' <= *b && *b <= b'~' => Some(*b),
@@ -263,8 +266,8 @@ fn printed_byte(value: &[u8]) -> Option<u8>
 }
 
 // Returns the separator byte that a value spells.
-fn separator_in(value: &[u8]) -> Option<u8>
-    ensures { result ≡ separator_in value.now }
+fn separator_in_option(value: &[u8]) -> Option<u8>
+    ensures { result ≡ separator_in_option value.now }
 {
     if value == b"pipe".as_slice() {
         Some(b'|')
@@ -275,14 +278,14 @@ fn separator_in(value: &[u8]) -> Option<u8>
     } else if value == b"tab".as_slice() {
         Some(b'\t')
     } else {
-        printed_byte(value)
+        only_byte_if_printable(value)
     }
 }
 
 impl Options {
     // Creates options with nothing set.
     fn new() -> Options
-        ensures { result ≡ no_options }
+        ensures { result ≡ empty_options }
     {
         Options {
             flags: Flags {
@@ -332,8 +335,8 @@ impl Options {
     /// # Errors
     ///
     /// Returns [`Memory`] if memory for the default runs out.
-    pub fn into_null_text(self, alloc: Global) -> Result<NullText, Memory>
-        ensures { IfOk result (λ text. text ≡ unwrap_or self.null_text usual_null) }
+    pub fn into_grid_null_text(self, alloc: Global) -> Result<NullText, Memory>
+        ensures { IfOk result (λ text. text ≡ unwrap_or self.null_text usual_null_text) }
     {
         let Options { null_text, .. } = self;
         match null_text {
@@ -348,7 +351,7 @@ impl Options {
     ///
     /// Returns [`Memory`] if memory for the default runs out.
     pub fn into_table_null_text(self, alloc: Global) -> Result<TableNullText, Memory>
-        ensures { IfOk result (λ text. text ≡ unwrap_or self.table_null_text usual_null) }
+        ensures { IfOk result (λ text. text ≡ unwrap_or self.table_null_text usual_null_text) }
     {
         let Options {
             table_null_text,
@@ -361,7 +364,7 @@ impl Options {
     }
 
     /// Returns the names of the input map and the output map, if given.
-    pub(crate) fn into_names(self) -> (Option<Name>, Option<Name>)
+    pub(crate) fn into_input_and_output_names(self) -> (Option<Name>, Option<Name>)
         ensures { result ≡ (self.input, self.output) }
     {
         (self.input, self.output)
@@ -382,11 +385,11 @@ impl Options {
     }
 
     // Adds flags.
-    fn add_flags(&mut self, form: Form, letters: &[u8]) -> Result<(), OptionFault>
-        ensures { Answers OptionFault.Memory (λ _. self.new) result
-            (with_flags form self.old letters.now) }
+    fn add_flags(&mut self, form: CommandWithOptions, letters: &[u8]) -> Result<(), OptionFault>
+        ensures { EqualsUnlessOutOfMemory OptionFault.Memory (λ _. self.new) result
+            (options_with_dash_flags form self.old letters.now) }
     {
-        if !are_flags(form, letters) {
+        if !are_flag_letters(form, letters) {
             return Err(OptionFault::BadOption);
         }
         self.flags = self.flags.with(letters);
@@ -394,18 +397,23 @@ impl Options {
     }
 
     // Sets the value of a key. A key may be given only once.
-    fn set_value(&mut self, alloc: Global, key: OptionKey, value: &[u8]) -> Result<(), OptionFault>
-        ensures { Answers OptionFault.Memory (λ _. self.new) result
-            (with_value self.old key value.now) }
+    fn set_key_value(
+        &mut self,
+        alloc: Global,
+        key: OptionKey,
+        value: &[u8],
+    ) -> Result<(), OptionFault>
+        ensures { EqualsUnlessOutOfMemory OptionFault.Memory (λ _. self.new) result
+            (options_with_key_value self.old key value.now) }
     {
         if self.is_given(key) {
             return Err(OptionFault::BadOption);
         }
         match key {
-            OptionKey::Input => self.input = Some(option_name(alloc, value)?),
-            OptionKey::Inputs => self.inputs = Some(option_names(alloc, value)?),
-            OptionKey::Output => self.output = Some(option_name(alloc, value)?),
-            OptionKey::Separator => self.separator = Some(separator_in(value).ok_or(
+            OptionKey::Input => self.input = Some(map_name_in_option(alloc, value)?),
+            OptionKey::Inputs => self.inputs = Some(map_names_in_option(alloc, value)?),
+            OptionKey::Output => self.output = Some(map_name_in_option(alloc, value)?),
+            OptionKey::Separator => self.separator = Some(separator_in_option(value).ok_or(
                 OptionFault::BadOption,
             )?),
             OptionKey::NullText => self.null_text = Some(NullText::read(alloc, value)?),
@@ -418,9 +426,14 @@ impl Options {
     }
 
     // Adds the option in one more word.
-    fn add_word(&mut self, alloc: Global, form: Form, word: &[u8]) -> Result<(), OptionFault>
-        ensures { Answers OptionFault.Memory (λ _. self.new) result
-            (with_word form self.old word.now) }
+    fn add_option_word(
+        &mut self,
+        alloc: Global,
+        form: CommandWithOptions,
+        word: &[u8],
+    ) -> Result<(), OptionFault>
+        ensures { EqualsUnlessOutOfMemory OptionFault.Memory (λ _. self.new) result
+            (options_with_word form self.old word.now) }
     {
         let Some((first, letters)) = word.split_first() else {
             return Err(OptionFault::BadOption);
@@ -428,11 +441,11 @@ impl Options {
         if *first == b'-' {
             return self.add_flags(form, letters);
         }
-        let Some((key, value)) = pair_of(word) else {
+        let Some((key, value)) = texts_around_equals_sign(word) else {
             return Err(OptionFault::BadOption);
         };
-        match option_key_of(form, key) {
-            Some(key) => self.set_value(alloc, key, value),
+        match option_key_by_name(form, key) {
+            Some(key) => self.set_key_value(alloc, key, value),
             None => Err(OptionFault::BadOption),
         }
     }
@@ -443,12 +456,17 @@ impl Options {
 /// # Errors
 ///
 /// Returns the error in the first word that has one, or [`OptionFault::Memory`] if memory runs out.
-pub fn options_of(alloc: Global, form: Form, words: &[&[u8]]) -> Result<Options, OptionFault>
-    ensures { GivesOption result (options_of form (texts words.now)) }
+pub fn options_in_words(
+    alloc: Global,
+    form: CommandWithOptions,
+    words: &[&[u8]],
+) -> Result<Options, OptionFault>
+    ensures { IsOptionReadingUnlessMemory result
+        (options_in_words form (values_of_borrowed_texts words.now)) }
 {
     let mut options = Options::new();
     for word in words {
-        options.add_word(alloc, form, *word)?;
+        options.add_option_word(alloc, form, *word)?;
     }
     Ok(options)
 }

@@ -1,21 +1,21 @@
 //! Reads the words of r.clump.
 
 ghost use Rattle.std.specs.Prelude.{◌≡◌, IfOk};
-ghost use Rattle.rcell_script.specs.OptionReading.{GivesOption, texts};
-ghost use Rattle.rcell_script.specs.RClump.{joining_of};
-ghost use Rattle.rcell_script.specs.Commands.{clump_of};
-ghost use Rattle.rcell_script.specs.FittingCommands.{FitsCommand};
+ghost use Rattle.rcell_script.specs.OptionReading.{IsOptionReadingUnlessMemory, values_of_borrowed_texts};
+ghost use Rattle.rcell_script.specs.RClump.{joining_of_corner_flag};
+ghost use Rattle.rcell_script.specs.Commands.{clump_command_of_words};
+ghost use Rattle.rcell_script.specs.FittingCommands.{CommandFitsKnownMaps};
 
 use crate::command::Command;
-use crate::maps::from_to;
+use crate::maps::input_place_and_output_name;
 use crate::option_fault::OptionFault;
-use crate::options::{Form, options_of};
-use cell_cats_areas::clump::Joining;
+use crate::options::{CommandWithOptions, options_in_words};
+use cell_clumps::clump::Joining;
 use cell_core::name::Names;
 use std::alloc::Global;
 
-fn joining_of(corners: bool) -> Joining
-    ensures { result ≡ joining_of corners }
+fn joining_of_corner_flag(corners: bool) -> Joining
+    ensures { result ≡ joining_of_corner_flag corners }
 {
     if corners {
         Joining::EdgesAndCorners
@@ -30,17 +30,18 @@ fn joining_of(corners: bool) -> Joining
 ///
 /// Returns the first error that applies: the error in the first word that has one, [`OptionFault::MissingOption`],
 /// [`OptionFault::UnknownMap`], or [`OptionFault::MapExists`]. Returns [`OptionFault::Memory`] if memory runs out.
-pub(crate) fn clump_of(
+pub(crate) fn clump_command_of_words(
     alloc: Global,
     known: &Names,
     words: &[&[u8]],
 ) -> Result<Command, OptionFault>
-    ensures command { GivesOption result (clump_of known.now (texts words.now)) }
-    ensures fits { IfOk result (FitsCommand known.now) }
+    ensures command { IsOptionReadingUnlessMemory result (clump_command_of_words known.now
+        (values_of_borrowed_texts words.now)) }
+    ensures fits { IfOk result (CommandFitsKnownMaps known.now) }
 {
-    let options = options_of(alloc, Form::Clump, words)?;
-    let joining = joining_of(options.flags().corners);
-    let (place, target) = from_to(known, options)?;
+    let options = options_in_words(alloc, CommandWithOptions::Clump, words)?;
+    let joining = joining_of_corner_flag(options.flags().corners);
+    let (place, target) = input_place_and_output_name(known, options)?;
     Ok(Command::Clump {
         place,
         target,

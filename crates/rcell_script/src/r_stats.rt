@@ -2,15 +2,15 @@
 
 ghost use Rattle.std.specs.Prelude.{◌≡◌, ◌≤◌, IfOk, IfSome, length};
 ghost use Rattle.std.specs.Option.{option_map};
-ghost use Rattle.rcell_script.specs.OptionReading.{texts};
-ghost use Rattle.rcell_script.specs.RStats.{skip_of};
-ghost use Rattle.rcell_script.specs.Commands.{after_of, printed_with, stats_of};
-ghost use Rattle.rcell_script.specs.FittingCommands.{FitsCommand};
-ghost use Rattle.rcell_script.specs.parts.Giving.{GivesScript};
+ghost use Rattle.rcell_script.specs.OptionReading.{values_of_borrowed_texts};
+ghost use Rattle.rcell_script.specs.RStats.{skip_of_null_flags};
+ghost use Rattle.rcell_script.specs.Commands.{combination_in_after_option, stats_options_of_given_options, stats_command_of_words};
+ghost use Rattle.rcell_script.specs.FittingCommands.{CommandFitsKnownMaps};
+ghost use Rattle.rcell_script.specs.parts.Giving.{IsScriptReadingUnlessMemory};
 
 use crate::command::{Command, StatsOptions};
-use crate::maps::input_places;
-use crate::options::{Form, Options, options_of};
+use crate::maps::input_map_places;
+use crate::options::{CommandWithOptions, Options, options_in_words};
 use crate::script_fault::ScriptKind;
 use cell_core::memory::Memory;
 use cell_core::name::Names;
@@ -19,8 +19,8 @@ use cell_stats_combinations::skip::Skip;
 use std::alloc::Global;
 
 // Returns which combinations are left out. `-n` leaves out everything that `-N` leaves out, so it overrides `-N`.
-fn skip_of(no_null: bool, no_all_null: bool) -> Skip
-    ensures { result ≡ skip_of no_null no_all_null }
+fn skip_of_null_flags(no_null: bool, no_all_null: bool) -> Skip
+    ensures { result ≡ skip_of_null_flags no_null no_all_null }
 {
     if no_null {
         Skip::AnyNull
@@ -32,14 +32,14 @@ fn skip_of(no_null: bool, no_all_null: bool) -> Skip
 }
 
 // Returns the combination after which a table continues, if one is given.
-fn after_in_text(
+fn combination_to_resume_after(
     alloc: Global,
     width: usize,
     given: Option<&[u8]>,
 ) -> Result<Option<Combo>, ScriptKind>
     requires { (1 ≤ width) × (width ≤ 16) }
-    ensures after { GivesScript result
-        (after_of width (option_map (λ text. text.now) given.entry)) }
+    ensures after { IsScriptReadingUnlessMemory result
+        (combination_in_after_option width (option_map (λ text. text.now) given.entry)) }
     ensures width { IfOk result (λ after. IfSome after (λ combo. length combo ≡ width)) }
 {
     match given {
@@ -49,18 +49,18 @@ fn after_in_text(
 }
 
 // Returns the options that determine the printed table.
-fn printed_with(
+fn stats_options_of_given_options(
     alloc: Global,
     options: Options,
     after: Option<Combo>,
 ) -> Result<StatsOptions, Memory>
-    ensures { IfOk result (λ printed. printed ≡ printed_with options after) }
+    ensures { IfOk result (λ printed. printed ≡ stats_options_of_given_options options after) }
 {
     let flags = options.flags();
     let separator = options.separator().unwrap_or(b' ');
     let null_text = options.into_table_null_text(alloc)?;
     Ok(StatsOptions {
-        skip: skip_of(flags.no_null, flags.no_all_null),
+        skip: skip_of_null_flags(flags.no_null, flags.no_all_null),
         labels: flags.labels,
         counts: flags.counts,
         cells: flags.cells,
@@ -78,13 +78,18 @@ fn printed_with(
 /// [`ScriptKind::BadOption`] if flags exclude each other, [`ScriptKind::UnknownMap`], or [`ScriptKind::Combo`]. Returns
 /// [`ScriptKind::Memory`] if memory runs out.
 #[tactic(auto, using(crate::proofs::FaultLemmas::reported))]
-pub(crate) fn stats_of(alloc: Global, known: &Names, words: &[&[u8]]) -> Result<Command, ScriptKind>
-    ensures command { GivesScript result (stats_of known.now (texts words.now)) }
-    ensures fits { IfOk result (FitsCommand known.now) }
+pub(crate) fn stats_command_of_words(
+    alloc: Global,
+    known: &Names,
+    words: &[&[u8]],
+) -> Result<Command, ScriptKind>
+    ensures command { IsScriptReadingUnlessMemory result (stats_command_of_words known.now
+        (values_of_borrowed_texts words.now)) }
+    ensures fits { IfOk result (CommandFitsKnownMaps known.now) }
 {
-    let options = options_of(alloc, Form::Stats, words)?;
-    let places = input_places(alloc, known, &options)?;
-    let after = after_in_text(alloc, places.as_slice().len(), options.after_text())?;
-    let options = printed_with(alloc, options, after)?;
+    let options = options_in_words(alloc, CommandWithOptions::Stats, words)?;
+    let places = input_map_places(alloc, known, &options)?;
+    let after = combination_to_resume_after(alloc, places.as_slice().len(), options.after_text())?;
+    let options = stats_options_of_given_options(alloc, options, after)?;
     Ok(Command::Stats { places, options })
 }

@@ -1,7 +1,7 @@
 //! Errors of scripts.
 
 ghost use Rattle.std.specs.Prelude.{◌≡◌};
-ghost use Rattle.rcell_script.specs.ScriptTexts.{calc_words, rule_words, combo_words, kind_words, kind_column};
+ghost use Rattle.rcell_script.specs.ScriptTexts.{calc_error_words, rule_error_words, combination_error_words, script_error_words, script_error_column};
 
 use crate::option_fault::OptionFault;
 use cell_calc_language::calc_fault::{CalcFault, CalcKind};
@@ -44,7 +44,7 @@ pub enum ScriptKind {
 impl ScriptKind {
     // Returns the text of an error, without the column.
     fn words(self) -> &'static str
-        ensures { result.now ≡ kind_words self }
+        ensures { result.now ≡ script_error_words self }
     {
         match self {
             ScriptKind::UnknownCommand => "unknown command",
@@ -52,9 +52,9 @@ impl ScriptKind {
             ScriptKind::MissingOption => "missing option",
             ScriptKind::UnknownMap => "unknown map",
             ScriptKind::MapExists => "map exists",
-            ScriptKind::Calc(fault) => calc_words(fault.kind),
-            ScriptKind::Rule(fault) => rule_words(fault),
-            ScriptKind::Combo(fault) => combo_words(fault),
+            ScriptKind::Calc(fault) => calc_error_words(fault.kind),
+            ScriptKind::Rule(fault) => rule_error_words(fault),
+            ScriptKind::Combo(fault) => combination_error_words(fault),
             ScriptKind::MissingEnd => "missing end",
             ScriptKind::LongLine => "line too long",
             ScriptKind::BadName => "bad name",
@@ -64,7 +64,7 @@ impl ScriptKind {
 
     // Returns the column of an error in an expression.
     fn column(self) -> Option<u32>
-        ensures { result ≡ kind_column self }
+        ensures { result ≡ script_error_column self }
     {
         match self {
             ScriptKind::Calc(fault) => Some(fault.column),
@@ -75,9 +75,9 @@ impl ScriptKind {
 
 impl fmt::Display for ScriptKind {
     ghost use Rattle.std.specs.Prelude.{Some};
-    ghost use Rattle.rcell_script.specs.ScriptTexts.{kind_text};
+    ghost use Rattle.rcell_script.specs.ScriptTexts.{script_error_text};
 
-    ghost output = { λ kind. Some (kind_text kind) };
+    ghost output = { λ kind. Some (script_error_text kind) };
 
     fn fmt<W: fmt::Write>(&self, f: &mut fmt::Formatter<W>) -> fmt::Result {
         let words = self.words();
@@ -92,9 +92,9 @@ impl Error for ScriptKind {}
 
 impl From<OptionFault> for ScriptKind {
     ghost use Rattle.std.specs.Prelude.{◌≡◌};
-    ghost use Rattle.rcell_script.specs.ScriptFaults.{kind_of};
+    ghost use Rattle.rcell_script.specs.ScriptFaults.{script_kind_of_option_fault};
 
-    ghost from_gives = { λ fault kind. kind ≡ kind_of fault };
+    ghost from_gives = { λ fault kind. kind ≡ script_kind_of_option_fault fault };
 
     fn from(fault: OptionFault) -> ScriptKind {
         match fault {
@@ -109,9 +109,9 @@ impl From<OptionFault> for ScriptKind {
 }
 
 impl From<CalcFault> for ScriptKind {
-    ghost use Rattle.rcell_script.specs.parts.CalcFaults.{IsOfCalc};
+    ghost use Rattle.rcell_script.specs.parts.CalcFaults.{IsScriptKindOfCalcFault};
 
-    ghost from_gives = { IsOfCalc };
+    ghost from_gives = { IsScriptKindOfCalcFault };
 
     fn from(fault: CalcFault) -> ScriptKind {
         match fault.kind {
@@ -123,9 +123,9 @@ impl From<CalcFault> for ScriptKind {
 
 impl From<ComboFault> for ScriptKind {
     ghost use Rattle.std.specs.Prelude.{◌≡◌};
-    ghost use Rattle.rcell_script.specs.ScriptFaults.{of_combo};
+    ghost use Rattle.rcell_script.specs.ScriptFaults.{script_kind_of_combo_fault};
 
-    ghost from_gives = { λ fault kind. kind ≡ of_combo fault };
+    ghost from_gives = { λ fault kind. kind ≡ script_kind_of_combo_fault fault };
 
     fn from(fault: ComboFault) -> ScriptKind {
         match fault {
@@ -137,9 +137,9 @@ impl From<ComboFault> for ScriptKind {
 
 impl From<RuleFault> for ScriptKind {
     ghost use Rattle.std.specs.Prelude.{◌≡◌};
-    ghost use Rattle.rcell_script.specs.ScriptFaults.{of_rule};
+    ghost use Rattle.rcell_script.specs.ScriptFaults.{script_kind_of_rule_fault};
 
-    ghost from_gives = { λ fault kind. kind ≡ of_rule fault };
+    ghost from_gives = { λ fault kind. kind ≡ script_kind_of_rule_fault fault };
 
     fn from(fault: RuleFault) -> ScriptKind {
         match fault {
@@ -160,8 +160,8 @@ impl From<Memory> for ScriptKind {
     }
 }
 
-fn calc_words(kind: CalcKind) -> &'static str
-    ensures { result.now ≡ calc_words kind }
+fn calc_error_words(kind: CalcKind) -> &'static str
+    ensures { result.now ≡ calc_error_words kind }
 {
     match kind {
         CalcKind::BadByte => "bad byte",
@@ -178,8 +178,8 @@ fn calc_words(kind: CalcKind) -> &'static str
     }
 }
 
-fn rule_words(fault: RuleFault) -> &'static str
-    ensures { result.now ≡ rule_words fault }
+fn rule_error_words(fault: RuleFault) -> &'static str
+    ensures { result.now ≡ rule_error_words fault }
 {
     match fault {
         RuleFault::BadRule => "bad rule",
@@ -188,8 +188,8 @@ fn rule_words(fault: RuleFault) -> &'static str
     }
 }
 
-fn combo_words(fault: ComboFault) -> &'static str
-    ensures { result.now ≡ combo_words fault }
+fn combination_error_words(fault: ComboFault) -> &'static str
+    ensures { result.now ≡ combination_error_words fault }
 {
     match fault {
         ComboFault::BadCombo => "bad combination",

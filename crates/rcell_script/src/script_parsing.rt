@@ -2,11 +2,11 @@
 
 ghost use Rattle.std.specs.Prelude.{◌≡◌, ◌≢◌, ◌<◌, All, IfOk, IfErr};
 ghost use Rattle.rcell_script.specs.Scripts.{IsScript};
-ghost use Rattle.rcell_script.specs.ReadScripts.{IsScriptFault, ReportsMemoryAtZero};
-ghost use Rattle.rcell_script.specs.FittingScripts.{Fits};
+ghost use Rattle.rcell_script.specs.ReadScripts.{IsScriptFault, ReportsMemoryAtLineZero};
+ghost use Rattle.rcell_script.specs.FittingScripts.{StatementsFitKnownMaps};
 
-use crate::line_reading::{NO_MEMORY, Progress};
-use crate::lines::lines_of;
+use crate::line_reading::{OUT_OF_MEMORY_FAULT, ScriptReadingState};
+use crate::lines::lines_of_script;
 use crate::script_fault::{ScriptFault, ScriptKind};
 use crate::statement::Script;
 use cell_core::name::Names;
@@ -24,17 +24,17 @@ use std::alloc::Global;
 /// - [`ScriptKind::Memory`] with line 0 if memory runs out
 pub fn parse_script(alloc: Global, text: &[u8], known: &Names) -> Result<Script, ScriptFault>
     ensures ok { IfOk result (IsScript known.now text.now) }
-    ensures fits { IfOk result (Fits known.now) }
+    ensures fits { IfOk result (StatementsFitKnownMaps known.now) }
     ensures numbered { IfOk result (All (λ s. 0 < s.line)) }
     ensures err { IfErr result (λ fault. fault.kind ≢ ScriptKind.Memory
         → IsScriptFault known.now text.now fault) }
-    ensures memory { IfErr result ReportsMemoryAtZero }
+    ensures memory { IfErr result ReportsMemoryAtLineZero }
 {
-    let Ok(lines) = lines_of(alloc, text) else {
-        return Err(NO_MEMORY);
+    let Ok(lines) = lines_of_script(alloc, text) else {
+        return Err(OUT_OF_MEMORY_FAULT);
     };
-    let Ok(start) = Progress::new(alloc, known) else {
-        return Err(NO_MEMORY);
+    let Ok(start) = ScriptReadingState::new(alloc, known) else {
+        return Err(OUT_OF_MEMORY_FAULT);
     };
     let mut read = start;
     for (i, line) in lines.iter().enumerate() {

@@ -2,7 +2,7 @@
 
 ghost use Rattle.std.specs.Prelude.{◌≡◌, OnOk, OnErr, ◌++◌, [], ◌∷◌};
 
-pub use crate::command::{Command, Places, StatsOptions};
+pub use crate::command::{Command, MapPlaces, StatsOptions};
 use cell_core::memory::Memory;
 use std::alloc::Global;
 use std::marker::Model;

@@ -6,7 +6,7 @@ use crate::runs::FIVE_COMMANDS;
 use cell_ascii::grid_fault::{GridFault, GridKind};
 use cell_core::device::DeviceFault;
 use cell_core::name::Name;
-use cell_core::sink::{Flushes, MemorySink, Sink};
+use cell_core::sink::{FlushCount, MemorySink, Sink};
 use cell_core::source::ReadSource;
 use cell_core_test_maps::assert_same;
 use rcell::{Outcome, RunFault, run};
@@ -111,7 +111,7 @@ struct Counting {
     flush_fails: bool,
     refused: bool,
     unflushed: bool,
-    flushes: Flushes,
+    flushes: FlushCount,
 }
 
 impl Counting {
@@ -121,7 +121,7 @@ impl Counting {
             flush_fails,
             refused: false,
             unflushed: false,
-            flushes: Flushes::Never,
+            flushes: FlushCount::Never,
         }
     }
 }
@@ -349,19 +349,19 @@ fn a_script_may_have_a_mebibyte(rt: HostRuntime) -> Result<(), Fail> {
 #[test]
 fn is_flushed_once_unless_refused_or_failed(rt: HostRuntime) -> Result<(), Fail> {
     for &(script, room, flush_fails, status, written, flushes) in &[
-        (SCRIPT, 200, false, 0, ALL_BYTES, Flushes::Once),
-        (SCRIPT, 200, true, 4, ALL_BYTES, Flushes::Once),
+        (SCRIPT, 200, false, 0, ALL_BYTES, FlushCount::Once),
+        (SCRIPT, 200, true, 4, ALL_BYTES, FlushCount::Once),
         (
             b"# nothing is asked for\n".as_slice(),
             0,
             false,
             0,
             0,
-            Flushes::Once,
+            FlushCount::Once,
         ),
-        (b"# nothing is asked for\n", 0, true, 4, 0, Flushes::Once),
-        (SCRIPT, 9, false, 4, 0, Flushes::Never),
-        (SCRIPT, 9, true, 4, 0, Flushes::Never),
+        (b"# nothing is asked for\n", 0, true, 4, 0, FlushCount::Once),
+        (SCRIPT, 9, false, 4, 0, FlushCount::Never),
+        (SCRIPT, 9, true, 4, 0, FlushCount::Never),
     ] {
         let mut out = Counting::new(room, flush_fails);
         let script = Unknown::new(script, Then::Ends);
@@ -461,7 +461,7 @@ fn expect_no_call<'a, R: Abort + AllocGlobal>(rt: &R, refusal: Refusal<'a>) -> R
         let script = Unknown::new(refusal.script, refusal.script_then);
         let outcome = run_grids(rt.alloc(), script, refusal.grids, refusal.then, &mut out)?;
         assert_same!(rt; (outcome.status, outcome.written), (refusal.status, 0));
-        assert_same!(rt; (out.room, out.refused, out.flushes), (200, false, Flushes::Never));
+        assert_same!(rt; (out.room, out.refused, out.flushes), (200, false, FlushCount::Never));
     }
     Ok(())
 }
@@ -485,7 +485,7 @@ fn what_is_refused_is_not_flushed(rt: HostRuntime) -> Result<(), Fail> {
     Ok(())
 }
 
-fn counted<R: AllocGlobal>(rt: &R, flush_fails: bool) -> Result<(Outcome, Flushes), Fail> {
+fn counted<R: AllocGlobal>(rt: &R, flush_fails: bool) -> Result<(Outcome, FlushCount), Fail> {
     let mut out = Counting::new(200, flush_fails);
     let script = whole_script();
     let grid = whole_grid();
@@ -506,15 +506,15 @@ fn written_before(line: u64) -> u64 {
 
 // Checks a run that runs out of memory. It reports the bytes of the previous statements. Like a finished run, it
 // flushes its sink once if memory ran out in a statement; if memory ran out earlier, it never does.
-fn expect_out_of_memory<R: Abort>(rt: &R, outcome: Outcome, flushes: Flushes) {
+fn expect_out_of_memory<R: Abort>(rt: &R, outcome: Outcome, flushes: FlushCount) {
     let line = match outcome.fault {
         Some(RunFault::Memory { line }) => line,
         _ => 0,
     };
     let wanted = if line > 0 {
-        Flushes::Once
+        FlushCount::Once
     } else {
-        Flushes::Never
+        FlushCount::Never
     };
     assert_same!(rt;
         (outcome.status, outcome.written, flushes),
@@ -526,13 +526,13 @@ fn expect_out_of_memory<R: Abort>(rt: &R, outcome: Outcome, flushes: Flushes) {
 fn a_run_out_of_memory_is_flushed_and_made_again(rt: HostRuntime) -> Result<(), Fail> {
     let (outcome, flushes) = counted(&rt, false)?;
     if outcome.status == 0 {
-        assert_same!(rt; flushes, Flushes::Once);
+        assert_same!(rt; flushes, FlushCount::Once);
         return Ok(());
     }
     expect_out_of_memory(&rt, outcome, flushes);
     let _ = eprintln!(rt; "made again");
     let (again, flushes) = counted(&rt, false)?;
-    assert_same!(rt; (again.status, flushes), (0, Flushes::Once));
+    assert_same!(rt; (again.status, flushes), (0, FlushCount::Once));
     Ok(())
 }
 
@@ -541,12 +541,12 @@ fn a_run_out_of_memory_is_flushed_and_made_again(rt: HostRuntime) -> Result<(), 
 fn a_run_out_of_memory_stays_so_and_is_made_again(rt: HostRuntime) -> Result<(), Fail> {
     let (outcome, flushes) = counted(&rt, true)?;
     if outcome.status == 4 {
-        assert_same!(rt; (outcome.written, flushes), (ALL_BYTES, Flushes::Once));
+        assert_same!(rt; (outcome.written, flushes), (ALL_BYTES, FlushCount::Once));
         return Ok(());
     }
     expect_out_of_memory(&rt, outcome, flushes);
     let _ = eprintln!(rt; "made again");
     let (again, flushes) = counted(&rt, true)?;
-    assert_same!(rt; (again.status, again.written, flushes), (4, ALL_BYTES, Flushes::Once));
+    assert_same!(rt; (again.status, again.written, flushes), (4, ALL_BYTES, FlushCount::Once));
     Ok(())
 }

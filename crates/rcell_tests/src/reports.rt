@@ -7,25 +7,25 @@ use cell_core::name::Name;
 use cell_core::region::RegionFault;
 use cell_core_test_maps::assert_same;
 use cell_stats::combination_text::ComboFault;
-use rcell::outcome::{Outcome, RunFault, status_of};
-use rcell::report::fault_line;
+use rcell::outcome::{Outcome, RunFault, exit_status_of_fault};
+use rcell::report::fault_report_line;
 use rcell::{ScriptFault, ScriptKind};
 use std::alloc::{AllocGlobal, Global};
 use std::process::Abort;
 use std::test::Fail;
 
-// Returns the line for an error of a run over the grids `g` and `land.use`.
+// Returns the line for an error of a run over the grids `g` and `land_grid.use`.
 fn line_of(alloc: Global, fault: RunFault) -> Result<String, Fail> {
     let mut names = Vec::new(alloc);
     for name in [b"g".as_slice(), b"land.use"] {
         names.push(Name::read(alloc, name)?)?;
     }
     let outcome = Outcome {
-        status: status_of(fault),
+        status: exit_status_of_fault(fault),
         written: u64::MAX,
         fault: Some(fault),
     };
-    match fault_line(&outcome, &names) {
+    match fault_report_line(&outcome, &names) {
         Some(line) => Ok(line.to_string(alloc)?),
         None => Err("no line".into()),
     }

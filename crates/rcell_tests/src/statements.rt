@@ -1,7 +1,7 @@
 //! Tests which statements a script has.
 
 use crate::faults::one_grid;
-use cell_cats_areas::clump::Joining;
+use cell_clumps::clump::Joining;
 use cell_core::cell::Cell;
 use cell_core_test_maps::assert_same;
 use cell_stats_combinations::combination::Combo;
@@ -37,7 +37,7 @@ fn expect_classes<R: Abort>(rt: &R, command: &Command) -> Result<(), Fail> {
 }
 
 // `r.clump -d input=r output=c`
-fn expect_areas<R: Abort>(rt: &R, command: &Command) -> Result<(), Fail> {
+fn expect_clumps<R: Abort>(rt: &R, command: &Command) -> Result<(), Fail> {
     let Command::Clump {
         place,
         target,
@@ -91,15 +91,15 @@ fn reads_statements(rt: HostRuntime) -> Result<(), Fail> {
     let text =
         b"# all\nr.out.ascii null_value=-1 input=g\n\nr.reclass output=r input=g\n1 thru 3 = 7 low\n# 9 = 9\n end\nr.clump -d input=r output=c\nr.stats -cl -nN input=c,g separator=pipe null_value=a:b after=1,*\n";
     let script = parse_script(alloc, text, &one_grid(alloc)?)?;
-    let [grid, classes, areas, table] = script.statements() else {
+    let [grid, classes, clumps, table] = script.statements() else {
         return Err("another number of statements".into());
     };
     assert_same!(rt;
-        (grid.line, classes.line, areas.line, table.line),
+        (grid.line, classes.line, clumps.line, table.line),
         (2, 4, 8, 9)
     );
     expect_grid_text(&rt, &grid.command)?;
     expect_classes(&rt, &classes.command)?;
-    expect_areas(&rt, &areas.command)?;
+    expect_clumps(&rt, &clumps.command)?;
     expect_table(&rt, &table.command)
 }

@@ -1,13 +1,14 @@
 -- The clumps of the worked map: their first cells, and a path to each of their cells.
 use Rattle.std.proofs.Common.{◌≡◌, ◌<◌, ℕ, zero, suc, List, [], ◌∷◌, length, refl, arith}
 use Rattle.std.specs.Prelude.{slice_index_or}
-use Rattle.cell_core.specs.Grid.{Grid, CellValue, IsFilled, no_labels}
-use Rattle.cell_cats_areas.specs.Areas.{Position}
-use Rattle.cell_cats_areas.specs.declared.clump.Joining.{Joining}
-use Rattle.cell_cats_areas.specs.declared.clump.Joining.TheVariants.{Edges, EdgesAndCorners}
-use Rattle.cell_cats_areas.specs.parts.CellPlaces.{position as at}
-use Rattle.cell_cats_areas.proofs.LawLemmas.{clumping_is_one}
-use Rattle.rcell_worked.specs.WorkedNumbers.{IsOnlyClumping, Labels, square, field_rows, edge_rows, corner_rows}
+use Rattle.cell_core.specs.Grid.{Grid, CellValue, RowsFillRegion, empty_category_labels}
+use Rattle.cell_clumps.specs.Clumps.{Position}
+use Rattle.cell_clumps.specs.declared.clump.Joining.{Joining}
+use Rattle.cell_clumps.specs.declared.clump.Joining.TheVariants.{Edges, EdgesAndCorners}
+use Rattle.cell_clumps.specs.parts.CellPlaces.{position as at}
+use Rattle.cell_clumps.proofs.LawLemmas.{clump_map_is_unique}
+use Rattle.rcell_worked.specs.WorkedNumbers.{IsOnlyClumpMapOf, CategoryLabels, four_by_four_map, four_by_four_rows}
+use Rattle.rcell_worked.specs.WorkedNumbers.{clump_numbers_by_edges, clump_numbers_by_corners}
 use Rattle.rcell_worked.proofs.NumberingLemmas.{Passes, clumped}
 
 -- for each row, the paths to its cells
@@ -39,9 +40,9 @@ corner_paths =
     ∷ (at 1 1 ∷ at 1 2 ∷ at 2 3 ∷ at 3 2 ∷ []) ∷ (at 1 1 ∷ at 1 2 ∷ at 2 3 ∷ at 3 3 ∷ []) ∷ []) ∷ []
 
 -- a map of four rows with four cells each has its rows and columns
-filled : (labels : Labels) (a b c d : List CellValue)
+filled : (labels : CategoryLabels) (a b c d : List CellValue)
     → length a ≡ 4 → length b ≡ 4 → length c ≡ 4 → length d ≡ 4
-    → IsFilled (square labels (a ∷ b ∷ c ∷ d ∷ [])).region (a ∷ b ∷ c ∷ d ∷ [])
+    → RowsFillRegion (four_by_four_map labels (a ∷ b ∷ c ∷ d ∷ [])).region (a ∷ b ∷ c ∷ d ∷ [])
 filled labels a b c d a_wide b_wide c_wide d_wide = record { count = refl; width = wide }
   where
     wide : (k : ℕ) (other : List CellValue) → k < 4
@@ -52,11 +53,12 @@ filled labels a b c d a_wide b_wide c_wide d_wide = record { count = refl; width
     wide (suc (suc (suc zero))) other within = d_wide
     wide (suc (suc (suc (suc k)))) other within = absurd (omega (arith, within))
 
-edges_pass : (labels : Labels) → Passes Edges (square labels field_rows) (square no_labels edge_rows) edge_firsts
+edges_pass : (labels : CategoryLabels) → Passes Edges (four_by_four_map labels four_by_four_rows)
+    (four_by_four_map empty_category_labels clump_numbers_by_edges) edge_firsts
     (path_in edge_paths)
 edges_pass labels = record {
   given = filled labels _ _ _ _ refl refl refl refl;
-  filled = filled no_labels _ _ _ _ refl refl refl refl;
+  filled = filled empty_category_labels _ _ _ _ refl refl refl refl;
   region = refl;
   labels = refl;
   cells = refl;
@@ -65,11 +67,12 @@ edges_pass labels = record {
   nulls = refl;
 }
 
-corners_pass : (labels : Labels) → Passes EdgesAndCorners (square labels field_rows) (square no_labels corner_rows)
+corners_pass : (labels : CategoryLabels) → Passes EdgesAndCorners (four_by_four_map labels four_by_four_rows)
+    (four_by_four_map empty_category_labels clump_numbers_by_corners)
     corner_firsts (path_in corner_paths)
 corners_pass labels = record {
   given = filled labels _ _ _ _ refl refl refl refl;
-  filled = filled no_labels _ _ _ _ refl refl refl refl;
+  filled = filled empty_category_labels _ _ _ _ refl refl refl refl;
   region = refl;
   labels = refl;
   cells = refl;
@@ -79,20 +82,24 @@ corners_pass labels = record {
 }
 
 only : (j : Joining) (m numbers : Grid) (firsts : List Position) (path : Position → List Position)
-    → Passes j m numbers firsts path → IsOnlyClumping j m numbers
+    → Passes j m numbers firsts path → IsOnlyClumpMapOf j m numbers
 only j m numbers firsts path passes =
     let clumping = clumped j m numbers firsts path passes in
     record {
       filled = passes.filled;
       clumping = clumping;
-      only = λ other full is. clumping_is_one j m other numbers full passes.filled is clumping;
+      only = λ other full is. clump_map_is_unique j m other numbers full passes.filled is clumping;
     }
 
-pub by_edges : (labels : Labels) → IsOnlyClumping Edges (square labels field_rows) (square no_labels edge_rows)
-by_edges labels = only Edges (square labels field_rows) (square no_labels edge_rows) edge_firsts (path_in edge_paths)
+pub by_edges : (labels : CategoryLabels) → IsOnlyClumpMapOf Edges (four_by_four_map labels four_by_four_rows)
+    (four_by_four_map empty_category_labels clump_numbers_by_edges)
+by_edges labels = only Edges (four_by_four_map labels four_by_four_rows)
+    (four_by_four_map empty_category_labels clump_numbers_by_edges) edge_firsts (path_in edge_paths)
     (edges_pass labels)
 
-pub by_corners : (labels : Labels)
-    → IsOnlyClumping EdgesAndCorners (square labels field_rows) (square no_labels corner_rows)
-by_corners labels = only EdgesAndCorners (square labels field_rows) (square no_labels corner_rows) corner_firsts
+pub by_corners : (labels : CategoryLabels)
+    → IsOnlyClumpMapOf EdgesAndCorners (four_by_four_map labels four_by_four_rows)
+    (four_by_four_map empty_category_labels clump_numbers_by_corners)
+by_corners labels = only EdgesAndCorners (four_by_four_map labels four_by_four_rows)
+    (four_by_four_map empty_category_labels clump_numbers_by_corners) corner_firsts
     (path_in corner_paths) (corners_pass labels)

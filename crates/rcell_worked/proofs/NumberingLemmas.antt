@@ -7,17 +7,17 @@ use Rattle.std.proofs.lemmas.Bool.{and_from, and_parts, cases_lt, eqb-true, ltb-
 use Rattle.std.proofs.lemmas.Bool.Decides.{Decides-and, Decides-or, Decides-eqb, Decides-ltb, Decides-below_and}
 use Rattle.std.proofs.lemmas.List.{get_or_default, get_or-take, length-take-le}
 use Rattle.cell_core_values.specs.Cell.{cell_eq, cell_eq-Decides}
-use Rattle.cell_core.specs.Grid.{Grid, CellValue, IsFilled, no_labels}
-use Rattle.cell_cats_areas.specs.declared.clump.Joining.{Joining}
-use Rattle.cell_cats_areas.specs.declared.clump.Joining.TheVariants.{Edges, EdgesAndCorners}
-use Rattle.cell_cats_areas.specs.Areas.{Position, cell_at_position, IsEarlierCell, AreNeighbours, ShareEdge}
-use Rattle.cell_cats_areas.specs.Areas.{AreAdjacent, AreJoined, IsFirst, HasNumber, IsClumping}
-use Rattle.cell_cats_areas.specs.parts.CellPlaces.{position}
-use Rattle.cell_cats_areas.proofs.LawLemmas.{IsBefore-asym, cases_before}
-use Rattle.cell_cats_areas.proofs.MeetingLemmas.{some_of}
-use Rattle.cell_cats_areas.proofs.PathLemmas.{AreJoined-refl, AreJoined-adjacent, AreJoined-trans, AreJoined-sym}
-use Rattle.cell_cats_areas.proofs.PathLemmas.{AreJoined-first, AreJoined-along}
-use Rattle.cell_cats_areas.proofs.StartLemmas.{inside_map}
+use Rattle.cell_core.specs.Grid.{Grid, CellValue, RowsFillRegion, empty_category_labels}
+use Rattle.cell_clumps.specs.declared.clump.Joining.{Joining}
+use Rattle.cell_clumps.specs.declared.clump.Joining.TheVariants.{Edges, EdgesAndCorners}
+use Rattle.cell_clumps.specs.Clumps.{Position, cell_at_position, IsEarlierCell, DifferByOne, CellsShareEdge}
+use Rattle.cell_clumps.specs.Clumps.{AreAdjacent, AreCellsConnected, IsFirstCellOfClump, HasClumpNumber, IsClumpMapOf}
+use Rattle.cell_clumps.specs.parts.CellPlaces.{position_at_row_and_column}
+use Rattle.cell_clumps.proofs.LawLemmas.{IsBefore-asym, cases_before}
+use Rattle.cell_clumps.proofs.MeetingLemmas.{some_of}
+use Rattle.cell_clumps.proofs.PathLemmas.{AreJoined-refl, AreJoined-adjacent, AreJoined-trans, AreJoined-sym}
+use Rattle.cell_clumps.proofs.PathLemmas.{AreJoined-first, AreJoined-along}
+use Rattle.cell_clumps.proofs.StartLemmas.{inside_map}
 
 -- ---- tests
 
@@ -34,10 +34,10 @@ are_adjacent EdgesAndCorners p q = share_edge p q || (are_neighbours p.row q.row
 abbrev pub is_earlier : Position → Position → Bool
 is_earlier p q = ltb p.row q.row || (eqb p.row q.row && ltb p.col q.col)
 
-neighbours_decided : (i j : ℕ) → Decides (are_neighbours i j) (AreNeighbours i j)
+neighbours_decided : (i j : ℕ) → Decides (are_neighbours i j) (DifferByOne i j)
 neighbours_decided i j = Decides-or (eqb (i + 1) j) (eqb (j + 1) i) (Decides-eqb (i + 1) j) (Decides-eqb (j + 1) i)
 
-edge_decided : (p q : Position) → Decides (share_edge p q) (ShareEdge p q)
+edge_decided : (p q : Position) → Decides (share_edge p q) (CellsShareEdge p q)
 edge_decided p q =
     Decides-or (eqb p.row q.row && are_neighbours p.col q.col) (are_neighbours p.row q.row && eqb p.col q.col)
     (Decides-and (eqb p.row q.row) (are_neighbours p.col q.col) (Decides-eqb p.row q.row)
@@ -71,19 +71,21 @@ abbrev unless_null : Grid → (Position → Bool) → Position → Bool
 unless_null m f p = not (is_some (cell_at_position m p)) || f p
 
 abbrev pub each_cell : Grid → (Position → Bool) → Bool
-each_cell m f = all_below (λ r. all_below (λ c. unless_null m f (position r c)) m.region.cols) m.region.rows
+each_cell m f = all_below (λ r. all_below (λ c. unless_null m f (position_at_row_and_column r c)) m.region.cols)
+    m.region.rows
 
 if_some : (x t : Bool) → (not x || t) ≡ true → x ≡ true → t ≡ true
 if_some true t both some = both
 if_some false t both some = let no : false ≡ true = some in cc
 
-cell_tested : (m : Grid) (f : Position → Bool) → IsFilled m.region m.rows → each_cell m f ≡ true
+cell_tested : (m : Grid) (f : Position → Bool) → RowsFillRegion m.region m.rows → each_cell m f ≡ true
     → (p : Position) (v : ℤ) → cell_at_position m p ≡ Some v → f p ≡ true
 cell_tested m f filled all p v is =
     let inside = inside_map m p v filled is in
-    let row = below_at (λ r. all_below (λ c. unless_null m f (position r c)) m.region.cols) m.region.rows all p.row
+    let row = below_at (λ r. all_below (λ c. unless_null m f (position_at_row_and_column r c)) m.region.cols)
+    m.region.rows all p.row
     inside.0 in
-    let here = below_at (λ c. unless_null m f (position p.row c)) m.region.cols row p.col inside.1 in
+    let here = below_at (λ c. unless_null m f (position_at_row_and_column p.row c)) m.region.cols row p.col inside.1 in
     if_some (is_some (cell_at_position m p)) (f p) here (ap (λ (x : CellValue). is_some x) is)
 
 -- ---- a numbering
@@ -110,7 +112,7 @@ leads j m v p (next ∷ others) q =
 abbrev pub is_numbered : Joining → Grid → Grid → List Position → (Position → List Position) → Position → Bool
 is_numbered j m numbers firsts path p =
     let n = number_in (cell_at_position numbers p) in
-    let first = get_or firsts (n - 1) (position 0 0) in
+    let first = get_or firsts (n - 1) (position_at_row_and_column 0 0) in
     (ltb 0 n && leb n (length firsts))
     && (leads j m (cell_at_position m p) first (path p) p && not (is_earlier p first))
 
@@ -123,17 +125,17 @@ is_kept j m numbers p q =
 -- the test of the first cell of clump k + 1: it is not null, it has this number, and it follows the earlier first cells
 abbrev pub is_next : Grid → Grid → List Position → ℕ → Bool
 is_next m numbers firsts k =
-    let first = get_or firsts k (position 0 0) in
+    let first = get_or firsts k (position_at_row_and_column 0 0) in
     (is_some (cell_at_position m first) && eqb (number_in (cell_at_position numbers first)) (suc k))
-    && all_below (λ i. is_earlier (get_or firsts i (position 0 0)) first) k
+    && all_below (λ i. is_earlier (get_or firsts i (position_at_row_and_column 0 0)) first) k
 
 -- the map of numbers passes the tests
 pub record Passes (j : Joining) (m numbers : Grid) (firsts : List Position) (path : Position → List Position)
     : Type 0 where
-  pub given : IsFilled m.region m.rows
-  pub filled : IsFilled numbers.region numbers.rows
+  pub given : RowsFillRegion m.region m.rows
+  pub filled : RowsFillRegion numbers.region numbers.rows
   pub region : numbers.region ≡ m.region
-  pub labels : numbers.labels ≡ no_labels
+  pub labels : numbers.labels ≡ empty_category_labels
   pub cells : each_cell m (is_numbered j m numbers firsts path) ≡ true
   pub pairs : each_cell m (λ p. each_cell m (is_kept j m numbers p)) ≡ true
   pub nexts : all_below (is_next m numbers firsts) (length firsts) ≡ true
@@ -145,20 +147,20 @@ module _ (j : Joining) (m numbers : Grid) (firsts : List Position) (path : Posit
   number p = number_in (cell_at_position numbers p)
 
   abbrev first_at : ℕ → Position
-  first_at k = get_or firsts k (position 0 0)
+  first_at k = get_or firsts k (position_at_row_and_column 0 0)
 
   abbrev first_of : Position → Position
   first_of p = first_at (number p - 1)
 
   -- ---- consequences of the tests
 
-  record IsNumbered (p : Position) : Type 0 where
+  record AreAllLabelsNumbered (p : Position) : Type 0 where
     some : 0 < number p
     most : number p ≤ length firsts
     led : leads j m (cell_at_position m p) (first_of p) (path p) p ≡ true
     later : IsEarlierCell p (first_of p) → ⊥
 
-  numbered : (p : Position) (v : ℤ) → cell_at_position m p ≡ Some v → IsNumbered p
+  numbered : (p : Position) (v : ℤ) → cell_at_position m p ≡ Some v → AreAllLabelsNumbered p
   numbered p v is =
       let n = number p in
       let led = leads j m (cell_at_position m p) (first_of p) (path p) p in
@@ -221,13 +223,13 @@ module _ (j : Joining) (m numbers : Grid) (firsts : List Position) (path : Posit
       ((and_parts (cell_eq (cell_at_position m p) v) (are_adjacent j p next && leads j m v next others q) led).0)
 
   led_joined : (v : ℤ) (p : Position) (others : List Position) (q : Position) → leads j m (Some v) p others q ≡ true
-      → AreJoined j m p q
+      → AreCellsConnected j m p q
   led_joined v p [] q led =
       let same = and_parts (eqb p.row q.row) (eqb p.col q.col)
       ((and_parts (cell_eq (cell_at_position m p) (Some v)) (eqb p.row q.row && eqb p.col q.col) led).1) in
-      let is : p ≡ q = ap (λ (r : ℕ). position r p.col) (eqb-true p.row q.row same.0)
-      ∙ ap (position q.row) (eqb-true p.col q.col same.1) in
-      subst (AreJoined j m p) is (AreJoined-refl j m p v (led_cell (Some v) p [] q led))
+      let is : p ≡ q = ap (λ (r : ℕ). position_at_row_and_column r p.col) (eqb-true p.row q.row same.0)
+      ∙ ap (position_at_row_and_column q.row) (eqb-true p.col q.col same.1) in
+      subst (AreCellsConnected j m p) is (AreJoined-refl j m p v (led_cell (Some v) p [] q led))
   led_joined v p (next ∷ others) q led =
       let rest = and_parts (are_adjacent j p next) (leads j m (Some v) next others q)
       ((and_parts (cell_eq (cell_at_position m p) (Some v))
@@ -237,23 +239,23 @@ module _ (j : Joining) (m numbers : Grid) (firsts : List Position) (path : Posit
       (led_cell (Some v) p (next ∷ others) q led) (led_cell (Some v) next others q rest.1))
       (led_joined v next others q rest.1)
 
-  first_joined : (p : Position) (v : ℤ) → cell_at_position m p ≡ Some v → AreJoined j m (first_of p) p
+  first_joined : (p : Position) (v : ℤ) → cell_at_position m p ≡ Some v → AreCellsConnected j m (first_of p) p
   first_joined p v is =
       led_joined v (first_of p) (path p) p
       (subst (λ (x : CellValue). leads j m x (first_of p) (path p) p ≡ true) is (numbered p v is).led)
 
-  joined_number : (p q : Position) → AreJoined j m p q → number p ≡ number q
+  joined_number : (p q : Position) → AreCellsConnected j m p q → number p ≡ number q
   joined_number = AreJoined-along j m number kept
 
   number_joined : (p q : Position) (v u : ℤ) → cell_at_position m p ≡ Some v → cell_at_position m q ≡ Some u
-      → number p ≡ number q → AreJoined j m p q
+      → number p ≡ number q → AreCellsConnected j m p q
   number_joined p q v u p_is q_is same =
       AreJoined-trans j m p (first_of p) q (AreJoined-sym j m (first_of p) p (first_joined p v p_is))
-      (subst (λ (n : ℕ). AreJoined j m (first_at (n - 1)) q) (sym same) (first_joined q u q_is))
+      (subst (λ (n : ℕ). AreCellsConnected j m (first_at (n - 1)) q) (sym same) (first_joined q u q_is))
 
   -- ---- first cells
 
-  first_is : (p : Position) (v : ℤ) → cell_at_position m p ≡ Some v → IsFirst j m (first_of p)
+  first_is : (p : Position) (v : ℤ) → cell_at_position m p ≡ Some v → IsFirstCellOfClump j m (first_of p)
   first_is p v is =
       let joined = first_joined p v is in
       let first = AreJoined-first j m (first_of p) p joined in
@@ -267,7 +269,7 @@ module _ (j : Joining) (m numbers : Grid) (firsts : List Position) (path : Posit
             (subst (λ (n : ℕ). IsEarlierCell q (first_at (n - 1))) (sym same) before);
       }
 
-  own : (p : Position) → IsFirst j m p → first_of p ≡ p
+  own : (p : Position) → IsFirstCellOfClump j m p → first_of p ≡ p
   own p first =
       let v = some_of (cell_at_position m p) first.category in
       ⊎_elim (λ e. e)
@@ -275,17 +277,17 @@ module _ (j : Joining) (m numbers : Grid) (firsts : List Position) (path : Posit
       (λ after. absurd ((numbered p v.0 v.1).later after)) apart) (cases_before (first_of p) p)
 
   -- the listed first cell of each number is a first cell
-  next_is : (k : ℕ) → k < length firsts → IsFirst j m (first_at k)
+  next_is : (k : ℕ) → k < length firsts → IsFirstCellOfClump j m (first_at k)
   next_is k lt =
       let next = next_first k lt in
       let v = some_of (cell_at_position m (first_at k)) next.some in
       let same : number (first_at k) - 1 ≡ k = let e = next.number_is in omega (arith, e) in
-      subst (λ (n : ℕ). IsFirst j m (first_at n)) same (first_is (first_at k) v.0 v.1)
+      subst (λ (n : ℕ). IsFirstCellOfClump j m (first_at n)) same (first_is (first_at k) v.0 v.1)
 
   never_before : (p : Position) → IsEarlierCell p p → ⊥
   never_before p before = IsBefore-asym p p before before
 
-  has_number : (p : Position) (v : ℤ) → cell_at_position m p ≡ Some v → HasNumber j m p (number p)
+  has_number : (p : Position) (v : ℤ) → cell_at_position m p ≡ Some v → HasClumpNumber j m p (number p)
   has_number p v is =
       let n = number p in
       let has = numbered p v is in
@@ -293,7 +295,7 @@ module _ (j : Joining) (m numbers : Grid) (firsts : List Position) (path : Posit
       let most = has.most in
       let long = length-take-le n firsts most in
       let at = λ (i : ℕ) (d : Position) (lt : i < n). get_or-take n firsts i d lt
-      ∙ get_or_default firsts i d (position 0 0) (omega (arith, lt, most)) in
+      ∙ get_or_default firsts i d (position_at_row_and_column 0 0) (omega (arith, lt, most)) in
       record {
         first = first_of p;
         is_first = first_is p v is;
@@ -312,7 +314,7 @@ module _ (j : Joining) (m numbers : Grid) (firsts : List Position) (path : Posit
                 let inside = within.1 in
                 let lt : i < n = omega (arith, inside, long) in
                 let here : first_at i ≡ q = sym (at i q lt) ∙ within.2 in (
-                  subst (IsFirst j m) here (next_is i (omega (arith, lt, most))),
+                  subst (IsFirstCellOfClump j m) here (next_is i (omega (arith, lt, most))),
                   λ before. ⊎_elim (λ less. IsBefore-asym (first_at i) (first_of p)
                       ((next_first (n - 1) (omega (arith, some, most))).after i less)
                       (subst (IsEarlierCell (first_of p)) (sym here) before))
@@ -349,7 +351,7 @@ module _ (j : Joining) (m numbers : Grid) (firsts : List Position) (path : Posit
       let some = cell_tested numbers (λ s. is_some (cell_at_position m s)) passes.filled passes.nulls p v is in
       let no : false ≡ true = sym (ap (λ (x : CellValue). is_some x) none) ∙ some in cc
 
-  pub clumped : IsClumping j m numbers
+  pub clumped : IsClumpMapOf j m numbers
   clumped = record {
     region = passes.region;
     labels = passes.labels;

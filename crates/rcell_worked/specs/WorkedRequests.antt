@@ -2,24 +2,24 @@
 use Rattle.std.specs.Prelude.{ℕ, ◌≡◌, List, [], ◌∷◌, ◌++◌, codes}
 use Rattle.cell_core.specs.Shelf.{ShelfValue}
 use Rattle.rcell_script.specs.declared.statement.Statement.{Statement}
-use Rattle.rcell_pipe_request.specs.Questions.{QuestionValue}
+use Rattle.rcell_pipe_request.specs.Questions.{PatchQuestionValue}
 use Rattle.rcell_pipe_frames.specs.Frames.{OutputFrame}
 use Rattle.rcell_pipe_frames.specs.FrameBytes.{response_bytes}
-use Rattle.rcell_pipe_response.specs.RunEnds.{done_end, GivesAll}
-use Rattle.rcell_plan_response.specs.Responses.{AsksForFrames}
-use Rattle.rcell_pipe_law.specs.SentExamples.{docs_request}
-use Rattle.rcell_worked.specs.SentResponses.{frames_request}
-use Rattle.rcell_worked.specs.WorkedRuns.{given}
+use Rattle.rcell_pipe_response.specs.RunEnds.{end_frame_of_successful_run, AreFramesOfStatementsAndQuestions}
+use Rattle.rcell_plan_response.specs.Responses.{BytesAskForFrames}
+use Rattle.rcell_pipe_law.specs.SentExamples.{docs_example_request}
+use Rattle.rcell_worked.specs.SentResponses.{bytes_of_frames_request}
+use Rattle.rcell_worked.specs.WorkedRuns.{source_returning_bytes}
 
 -- the response to a request for frames, as in the theorem of `respond`
-pub record Responds (request response : List ℕ) : Type 0 where
+pub record RespondsToRequest (request response : List ℕ) : Type 0 where
   pub shelf : ShelfValue
   pub statements : List Statement
-  pub questions : List QuestionValue
-  pub asks : AsksForFrames (given request) shelf statements questions
+  pub questions : List PatchQuestionValue
+  pub asks : BytesAskForFrames (source_returning_bytes request) shelf statements questions
   pub frames : List OutputFrame
-  pub gives : GivesAll shelf statements questions frames
-  pub bytes : response_bytes frames done_end ≡ response
+  pub gives : AreFramesOfStatementsAndQuestions shelf statements questions frames
+  pub bytes : response_bytes frames end_frame_of_successful_run ≡ response
 
 abbrev pub table_request : List ℕ
 table_request =
@@ -40,8 +40,8 @@ table_response =
     ++ (0 ∷ 0 ∷ 0 ∷ 0 ∷ 0 ∷ 0 ∷ 0 ∷ 0 ∷ 0 ∷ 0 ∷ 0 ∷ 0 ∷ 0 ∷ 0 ∷ 0 ∷ 0 ∷ [])
     ++ (0 ∷ 0 ∷ 0 ∷ 0 ∷ 0 ∷ 0 ∷ 0 ∷ 0 ∷ 0 ∷ 0 ∷ 0 ∷ 0 ∷ 0 ∷ 0 ∷ 0 ∷ 0 ∷ [])
 
-pub record WorkedRequests : Type 0 where
+pub record RequestExamplesHold : Type 0 where
   -- the bytes that the definitions give for the map and the script
-  pub written : frames_request docs_request ≡ table_request
+  pub written : bytes_of_frames_request docs_example_request ≡ table_request
   -- the response to these bytes
-  pub table : Responds table_request table_response
+  pub table : RespondsToRequest table_request table_response

@@ -6,12 +6,12 @@ use Rattle.cell_calc_grammar.specs.declared.function.Function.{Function}
 use Rattle.cell_calc_grammar.specs.declared.function.Function.TheVariants as function
 
 -- the function is col()
-abbrev pub asks_column : Function → Bool
-asks_column function.Column = true
-asks_column f = false
+abbrev pub is_col_function : Function → Bool
+is_col_function function.Column = true
+is_col_function f = false
 
 -- the value of the step at a cell depends only on the cells there: it reads no neighbours and no column number
-abbrev pub IsInPlace : Step ℕ → Type 0
-IsInPlace (step.Map i down right) = (down ≡ pos 0) × (right ≡ pos 0)
-IsInPlace (step.Call f n) = asks_column f ≡ false
-IsInPlace _ = Unit {0}
+abbrev pub StepDependsOnlyOnOwnCells : Step ℕ → Type 0
+StepDependsOnlyOnOwnCells (step.Map i down right) = (down ≡ pos 0) × (right ≡ pos 0)
+StepDependsOnlyOnOwnCells (step.Call f n) = is_col_function f ≡ false
+StepDependsOnlyOnOwnCells _ = Unit {0}

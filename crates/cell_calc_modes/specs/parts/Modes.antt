@@ -5,7 +5,8 @@ use Rattle.cell_calc_language.specs.CellOperators.{occurrences, is_null}
 
 -- `best` is the smallest of the most frequent categories and `most` its count; `last` is the last category and `run`
 -- its count
-pub record IsLongestRun (cells : List CellValue) (best : ℤ) (most : ℕ) (last : ℤ) (run : ℕ) : Type 0 where
+pub record IsMostFrequentAndLastCategory (cells : List CellValue) (best : ℤ) (most : ℕ) (last : ℤ)
+    (run : ℕ) : Type 0 where
   pub within : (w : ℤ) → occurrences (Some w) cells ≤ most
   pub below : (w : ℤ) → w <ℤ best → occurrences (Some w) cells < most
   pub same : occurrences (Some best) cells ≡ most
@@ -13,12 +14,13 @@ pub record IsLongestRun (cells : List CellValue) (best : ℤ) (most : ℕ) (last
   pub above : (w : ℤ) → last <ℤ w → occurrences (Some w) cells ≡ 0
   pub positive : 0 < most
 
--- like `IsLongestRun`, for cells; `best` and `last` are not null
-abbrev pub HaveLongest : List CellValue → CellValue → ℕ → CellValue → ℕ → Type 0
-HaveLongest cells None most last run = ⊥
-HaveLongest cells (Some best) most None run = ⊥
-HaveLongest cells (Some best) most (Some last) run = IsLongestRun cells best most last run
+-- like `IsMostFrequentAndLastCategory`, for cells; `best` and `last` are not null
+abbrev pub AreMostFrequentAndLastCells : List CellValue → CellValue → ℕ → CellValue → ℕ → Type 0
+AreMostFrequentAndLastCells cells None most last run = ⊥
+AreMostFrequentAndLastCells cells (Some best) most None run = ⊥
+AreMostFrequentAndLastCells cells (Some best) most (Some last) run = IsMostFrequentAndLastCategory cells best most
+    last run
 
 -- the cell, or null if the other is null
-abbrev pub unless_null : CellValue → CellValue → CellValue
-unless_null cell other = if is_null other then None else cell
+abbrev pub cell_unless_other_null : CellValue → CellValue → CellValue
+cell_unless_other_null cell other = if is_null other then None else cell

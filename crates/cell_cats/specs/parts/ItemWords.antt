@@ -3,9 +3,9 @@ use Rattle.std.specs.Prelude.{ℕ, List, map}
 use Rattle.std.specs.Borrow.{Bor}
 
 -- the bytes of borrowed words
-abbrev pub item_texts : List (Bor (List ℕ)) → List (List ℕ)
-item_texts words = map (λ w. w.now) words
+abbrev pub bytes_of_words : List (Bor (List ℕ)) → List (List ℕ)
+bytes_of_words words = map (λ w. w.now) words
 
 -- the bytes of the two ends of borrowed items
-abbrev pub pairs : List (Bor (List ℕ) × Bor (List ℕ)) → List (List ℕ × List ℕ)
-pairs items = map (λ item. (item.0.now, item.1.now)) items
+abbrev pub bytes_of_rule_item_ends : List (Bor (List ℕ) × Bor (List ℕ)) → List (List ℕ × List ℕ)
+bytes_of_rule_item_ends items = map (λ item. (item.0.now, item.1.now)) items

@@ -2,7 +2,7 @@
 
 use cell_core::block::OutputBlock;
 use cell_core::device::DeviceFault;
-use cell_core::sink::{Flushes, MemorySink, Sink, WriteFault};
+use cell_core::sink::{FlushCount, MemorySink, Sink, WriteFault};
 use cell_core_test_maps::assert_same;
 use std::alloc::Global;
 use std::test::Fail;
@@ -25,7 +25,7 @@ fn pushed(
 struct RefusesOnce {
     calls: u32,
     refused: bool,
-    flushes: Flushes,
+    flushes: FlushCount,
 }
 
 impl Sink for RefusesOnce {
@@ -113,7 +113,7 @@ fn puts_nothing_after_a_refused_put(rt: HostRuntime) -> Result<(), Fail> {
     let mut sink = RefusesOnce {
         calls: 0,
         refused: false,
-        flushes: Flushes::Never,
+        flushes: FlushCount::Never,
     };
     let mut block = OutputBlock::new();
     block.push(&mut sink, b"a");

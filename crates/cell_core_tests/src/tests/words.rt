@@ -1,8 +1,12 @@
 //! Tests of blanks, words, parts and pairs.
 
 use cell_core_test_maps::assert_same;
-use cell_core_values::blanks::{after_blanks, around_blank, is_blank, trimmed_text};
-use cell_core_values::words::{list_words_of, pair_of, parts_of, words_of};
+use cell_core_values::blanks::{
+    is_blank, split_at_first_blank, trimmed_text, without_leading_blanks,
+};
+use cell_core_values::words::{
+    parts_between_commas, texts_around_equals_sign, words_between_blanks_or_commas, words_of_line,
+};
 use std::alloc::AllocGlobal;
 use std::process::Abort;
 use std::test::Fail;
@@ -26,7 +30,7 @@ fn takes_blanks_from_both_ends(rt: HostRuntime) -> Result<(), Fail> {
         (b" a\n ", b"a\n ", b"a\n"),
     ];
     for &(text, after, wanted) in &table {
-        assert_same!(rt; after_blanks(text), after, "the text {text:?}");
+        assert_same!(rt; without_leading_blanks(text), after, "the text {text:?}");
         assert_same!(rt; trimmed_text(text), wanted, "the text {text:?}");
     }
     Ok(())
@@ -43,7 +47,10 @@ fn cuts_at_the_first_blank(rt: HostRuntime) -> Result<(), Fail> {
         (b"", b"", b""),
     ];
     for &(text, before, after) in &table {
-        assert!(rt; around_blank(text) == (before, after), "the text {text:?}");
+        assert!(rt;
+            split_at_first_blank(text) == (before, after),
+            "the text {text:?}"
+        );
     }
     Ok(())
 }
@@ -59,7 +66,10 @@ fn cuts_at_the_first_equals_sign(rt: HostRuntime) -> Result<(), Fail> {
         (b"", None),
     ];
     for &(text, wanted) in &table {
-        assert!(rt; pair_of(text) == wanted, "the text {text:?}");
+        assert!(rt;
+            texts_around_equals_sign(text) == wanted,
+            "the text {text:?}"
+        );
     }
     Ok(())
 }
@@ -72,26 +82,46 @@ fn expect<R: Abort + AllocGlobal>(rt: &R, found: &[&[u8]], wanted: &[&[u8]], tex
 fn finds_words_and_parts(rt: HostRuntime) -> Result<(), Fail> {
     let alloc = rt.alloc();
     for text in [b" a,\tb  c\r".as_slice(), b"a, b c"] {
-        expect(&rt, &words_of(alloc, text)?, &[b"a,", b"b", b"c"], text);
-        expect(&rt, &list_words_of(alloc, text)?, &[b"a", b"b", b"c"], text);
+        expect(
+            &rt,
+            &words_of_line(alloc, text)?,
+            &[b"a,", b"b", b"c"],
+            text,
+        );
+        expect(
+            &rt,
+            &words_between_blanks_or_commas(alloc, text)?,
+            &[b"a", b"b", b"c"],
+            text,
+        );
     }
     for text in [b"".as_slice(), b" \t\r "] {
-        expect(&rt, &words_of(alloc, text)?, &[], text);
-        expect(&rt, &list_words_of(alloc, text)?, &[], text);
+        expect(&rt, &words_of_line(alloc, text)?, &[], text);
+        expect(
+            &rt,
+            &words_between_blanks_or_commas(alloc, text)?,
+            &[],
+            text,
+        );
     }
     expect(
         &rt,
-        &list_words_of(alloc, b",1,,2 ,")?,
+        &words_between_blanks_or_commas(alloc, b",1,,2 ,")?,
         &[b"1", b"2"],
         b",1,,2 ,",
     );
     expect(
         &rt,
-        &parts_of(alloc, b",1,,2 ,")?,
+        &parts_between_commas(alloc, b",1,,2 ,")?,
         &[b"", b"1", b"", b"2 ", b""],
         b",1,,2 ,",
     );
-    expect(&rt, &parts_of(alloc, b"")?, &[b""], b"");
-    expect(&rt, &parts_of(alloc, b"1 2")?, &[b"1 2"], b"1 2");
+    expect(&rt, &parts_between_commas(alloc, b"")?, &[b""], b"");
+    expect(
+        &rt,
+        &parts_between_commas(alloc, b"1 2")?,
+        &[b"1 2"],
+        b"1 2",
+    );
     Ok(())
 }

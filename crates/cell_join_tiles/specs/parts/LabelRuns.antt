@@ -1,20 +1,21 @@
 -- The runs of tiles, given their clumps' labels.
 use Rattle.std.specs.Prelude.{ℕ, ◌+◌, List, [], ◌∷◌, ◌++◌, map, Option}
-use Rattle.cell_join_numbers.specs.Stretches.{stretches_in}
-use Rattle.cell_join_numbers.specs.declared.stretch.Stretch.{Stretch}
-use Rattle.cell_join_numbers.specs.declared.numbers.SparseNumbers.{SparseNumbers}
-use Rattle.cell_join_numbers.specs.SparseNumbers.{AreInPlaces, AreNumbersOf}
-use Rattle.cell_join_tiles.specs.declared.run_lines.Line.{Line}
-use Rattle.cell_join_tiles.specs.parts.RunLines.{AreInLines}
+use Rattle.cell_join_numbers.specs.Stretches.{consecutive_clumps_of_tile}
+use Rattle.cell_join_numbers.specs.declared.stretch.ConsecutiveClumps.{ConsecutiveClumps}
+use Rattle.cell_join_numbers.specs.declared.numbers.PairedLabelNumbers.{PairedLabelNumbers}
+use Rattle.cell_join_numbers.specs.SparseNumbers.{AreNumbersAndRootCountsOfLabels, AreNumbersOfLabels}
+use Rattle.cell_join_tiles.specs.declared.run_lines.UnfinishedConsecutiveClumps.{UnfinishedConsecutiveClumps}
+use Rattle.cell_join_tiles.specs.parts.RunLines.{ConsecutiveClumpsAreListed}
 
-abbrev pub IsReady : SparseNumbers → Type 0
-IsReady sparse = AreInPlaces sparse.paired.items sparse.numbers.items sparse.roots.items
+abbrev pub ArePairedLabelsNumbered : PairedLabelNumbers → Type 0
+ArePairedLabelsNumbered sparse = AreNumbersAndRootCountsOfLabels sparse.paired.items sparse.numbers.items
+    sparse.roots.items
 
 -- the numbers of these labels follow the numbers of a line
-abbrev pub RunsGoOn : SparseNumbers → (part : ℕ) → Option Line → (old new : List Stretch) → (labels : List ℕ) → Option Line → Type 0
-RunsGoOn sparse part line old new labels after = (number : ℕ → ℕ) (before : List Stretch) (numbers : List ℕ) → AreNumbersOf number sparse.paired.items sparse.numbers.items sparse.roots.items → AreInLines part before numbers old line → AreInLines part before (numbers ++ map number labels) new after
+abbrev pub AddsConsecutiveClumpsOfLabels : PairedLabelNumbers → (part : ℕ) → Option UnfinishedConsecutiveClumps → (old new : List ConsecutiveClumps) → (labels : List ℕ) → Option UnfinishedConsecutiveClumps → Type 0
+AddsConsecutiveClumpsOfLabels sparse part line old new labels after = (number : ℕ → ℕ) (before : List ConsecutiveClumps) (numbers : List ℕ) → AreNumbersOfLabels number sparse.paired.items sparse.numbers.items sparse.roots.items → ConsecutiveClumpsAreListed part before numbers old line → ConsecutiveClumpsAreListed part before (numbers ++ map number labels) new after
 
 -- the runs of the tiles from index `part` on, whose clumps have these labels
-abbrev pub runs_of_tiles : (ℕ → ℕ) → ℕ → List (List ℕ) → List Stretch
-runs_of_tiles number part [] = []
-runs_of_tiles number part (labels ∷ tiles) = stretches_in part (map number labels) ++ runs_of_tiles number (part + 1) tiles
+abbrev pub consecutive_clumps_by_labels : (ℕ → ℕ) → ℕ → List (List ℕ) → List ConsecutiveClumps
+consecutive_clumps_by_labels number part [] = []
+consecutive_clumps_by_labels number part (labels ∷ tiles) = consecutive_clumps_of_tile part (map number labels) ++ consecutive_clumps_by_labels number (part + 1) tiles

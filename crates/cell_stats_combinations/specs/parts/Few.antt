@@ -5,6 +5,6 @@ use Rattle.cell_stats_combinations.specs.declared.combination.Cells.TheVariants.
 use Rattle.cell_stats_combinations.specs.Combinations.{Combination}
 
 -- the cells of a combination; at most four cells are stored without an allocation
-abbrev pub cells_of_few : Cells → Combination
-cells_of_few (Few cells count) = take (min count 4) cells
-cells_of_few (Many cells) = cells.items
+abbrev pub cells_of_combination : Cells → Combination
+cells_of_combination (Few cells count) = take (min count 4) cells
+cells_of_combination (Many cells) = cells.items

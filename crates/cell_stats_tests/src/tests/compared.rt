@@ -5,7 +5,7 @@ use cell_cats::reclassing::reclass;
 use cell_cats::rules::Rules;
 use cell_core::cell::Cell;
 use cell_core_test_maps::assert_same;
-use cell_core_test_maps::maps::{NULL, categories_of, map_of};
+use cell_core_test_maps::maps::{NULL_CATEGORY, categories_of_map, map_of_categories};
 use std::alloc::{AllocGlobal, Global};
 use std::process::Abort;
 use std::test::Fail;
@@ -27,7 +27,7 @@ const NUMBERS: [i32; 16] = [
     2147483645,
     2147483646,
     2147483647,
-    NULL,
+    NULL_CATEGORY,
 ];
 
 // Each rule has fewer items than this.
@@ -87,19 +87,19 @@ fn rule(alloc: Global, seed: &mut u64) -> Result<String, Fail> {
 
 fn plainly(rules: &Rules, category: i32) -> i32 {
     let cell = Cell::value(category).unwrap_or(Cell::null());
-    rules.apply(cell).get().unwrap_or(NULL)
+    rules.apply(cell).get().unwrap_or(NULL_CATEGORY)
 }
 
 // Checks that every cell of the reclassified map equals the result of checking every rule.
 fn expect_as_plainly<R: Abort + AllocGlobal>(rt: &R, rules: &Rules) -> Result<(), Fail> {
     let alloc = rt.alloc();
-    let map = map_of(alloc, &NUMBERS, 4)?.ok_or("no map")?;
+    let map = map_of_categories(alloc, &NUMBERS, 4)?.ok_or("no map")?;
     let made = reclass(alloc, &map, rules)?;
     let mut wanted = Vec::new(alloc);
     for number in &NUMBERS {
         wanted.push(plainly(rules, *number))?;
     }
-    assert_same!(rt; categories_of(alloc, &made)?.as_slice(), wanted.as_slice());
+    assert_same!(rt; categories_of_map(alloc, &made)?.as_slice(), wanted.as_slice());
     Ok(())
 }
 

@@ -3,7 +3,7 @@
 ghost use Rattle.std.specs.Prelude.{◌<◌};
 
 use cell_core::memory::Memory;
-use cell_core_test_maps::maps::NULL;
+use cell_core_test_maps::maps::NULL_CATEGORY;
 use std::alloc::Global;
 
 // Returns whether two cells of a map with `cols` columns are adjacent, by edges or also by corners.
@@ -68,7 +68,11 @@ pub(crate) fn numbers_by_flood(
 {
     let mut list = Vec::new(alloc);
     for category in categories {
-        list.push(if *category == NULL { NULL } else { 0 })?;
+        list.push(if *category == NULL_CATEGORY {
+            NULL_CATEGORY
+        } else {
+            0
+        })?;
     }
     let numbers = list.as_mut_slice();
     let mut number = 0i32;

@@ -5,15 +5,28 @@ ghost use Rattle.std.specs.Prelude.{◌<◌, ◌≤◌, ◌↔◌, All, IsTrue, 
 use cell_core::map::CellMap;
 use cell_core::name::Name;
 use cell_core::shelf::Shelf;
-use cell_core_test_maps::maps::{NULL, map_of};
+use cell_core_test_maps::maps::{NULL_CATEGORY, map_of_categories};
 use std::alloc::Global;
 use std::test::Fail;
 
 /// A worked map with four columns.
-pub(crate) const G: [i32; 12] = [1, 1, 2, NULL, 1, 2, 2, 2, 3, 3, 1, 1];
+pub(crate) const G: [i32; 12] = [1, 1, 2, NULL_CATEGORY, 1, 2, 2, 2, 3, 3, 1, 1];
 
 /// The map `G`, shifted to the left by one column.
-pub(crate) const X: [i32; 12] = [1, 2, NULL, NULL, 2, 2, 2, NULL, 3, 1, 1, NULL];
+pub(crate) const X: [i32; 12] = [
+    1,
+    2,
+    NULL_CATEGORY,
+    NULL_CATEGORY,
+    2,
+    2,
+    2,
+    NULL_CATEGORY,
+    3,
+    1,
+    1,
+    NULL_CATEGORY,
+];
 
 /// Adds a map to the shelf.
 pub(crate) fn add(alloc: Global, shelf: &mut Shelf, name: &[u8], map: CellMap) -> Result<(), Fail> {
@@ -28,7 +41,7 @@ pub(crate) fn add(alloc: Global, shelf: &mut Shelf, name: &[u8], map: CellMap) -
 pub(crate) fn filled(alloc: Global, categories: &[i32], cols: u32) -> Result<CellMap, Fail>
     requires { 0 < cols }
 {
-    Ok(map_of(alloc, categories, cols)?.ok_or("no map")?)
+    Ok(map_of_categories(alloc, categories, cols)?.ok_or("no map")?)
 }
 
 const NAMES: [&[u8]; 3] = [b"a", b"b", b"c"];

@@ -1,24 +1,60 @@
 //! Tests of the patches of a worked map, whose measures were found by hand.
 
 use super::maps::filled;
-use cell_cats_areas::clump::{Joining, clump_with};
+use cell_clumps::clump::{Joining, clump_with};
 use cell_core_test_maps::assert_same;
-use cell_core_test_maps::maps::NULL;
-use cell_patches::measuring::patches_of;
+use cell_core_test_maps::maps::NULL_CATEGORY;
+use cell_patches::measuring::patch_measures;
 use cell_patches::patch::Patch;
-use cell_patches::zones::zones_of;
+use cell_patches::zones::zones_of_patches;
 use std::alloc::AllocGlobal;
 use std::process::Abort;
 use std::test::Fail;
 
 // Rows of seven columns. By edges, each class has two patches; by edges and corners, only class 3 has two.
 const WORKED: [i32; 42] = [
-    1, 1, 1, 1, 1, 2, 2, //
-    1, 1, 1, 1, 1, NULL, 2, //
-    1, 1, 1, 1, 1, 2, 3, //
-    1, 1, 1, 1, 1, 1, 3, //
-    1, 1, 1, 1, 1, NULL, 1, //
-    NULL, 3, 3, 3, 3, 1, 1, //
+    1,
+    1,
+    1,
+    1,
+    1,
+    2,
+    2, //
+    1,
+    1,
+    1,
+    1,
+    1,
+    NULL_CATEGORY,
+    2, //
+    1,
+    1,
+    1,
+    1,
+    1,
+    2,
+    3, //
+    1,
+    1,
+    1,
+    1,
+    1,
+    1,
+    3, //
+    1,
+    1,
+    1,
+    1,
+    1,
+    NULL_CATEGORY,
+    1, //
+    NULL_CATEGORY,
+    3,
+    3,
+    3,
+    3,
+    1,
+    1, //
 ];
 
 // Builds a patch from its class; its cells, ends, flanks and core; and its first and last rows and columns.
@@ -50,7 +86,7 @@ fn expect_patches<R: Abort + AllocGlobal>(
     }
     let map = filled(rt.alloc(), &WORKED, 7)?;
     let numbers = clump_with(rt.alloc(), &map, joining)?;
-    let patches = patches_of(rt.alloc(), &map, &numbers, joining, depth)?;
+    let patches = patch_measures(rt.alloc(), &map, &numbers, joining, depth)?;
     assert_same!(rt; patches.as_slice(), wanted, "{joining:?} at depth {depth}");
     Ok(())
 }
@@ -87,18 +123,18 @@ fn patches_by_edges_and_corners(rt: HostRuntime) -> Result<(), Fail> {
 
 #[test]
 fn null_is_of_no_patch(rt: HostRuntime) -> Result<(), Fail> {
-    let map = filled(rt.alloc(), &[NULL; 6], 3)?;
+    let map = filled(rt.alloc(), &[NULL_CATEGORY; 6], 3)?;
     let numbers = clump_with(rt.alloc(), &map, Joining::Edges)?;
-    let patches = patches_of(rt.alloc(), &map, &numbers, Joining::Edges, 1)?;
+    let patches = patch_measures(rt.alloc(), &map, &numbers, Joining::Edges, 1)?;
     assert_same!(rt; patches.len(), 0);
     Ok(())
 }
 
 #[test]
 fn sides_to_null_are_counted(rt: HostRuntime) -> Result<(), Fail> {
-    let map = filled(rt.alloc(), &[5, 5, 5, 5, NULL, 5], 3)?;
+    let map = filled(rt.alloc(), &[5, 5, 5, 5, NULL_CATEGORY, 5], 3)?;
     let numbers = clump_with(rt.alloc(), &map, Joining::Edges)?;
-    let patches = patches_of(rt.alloc(), &map, &numbers, Joining::Edges, 1)?;
+    let patches = patch_measures(rt.alloc(), &map, &numbers, Joining::Edges, 1)?;
     let patch = patches.first().ok_or("no patch")?;
     assert_same!(rt; (patch.cells, patch.ends, patch.flanks), (5, 6, 6));
     Ok(())
@@ -108,12 +144,48 @@ fn sides_to_null_are_counted(rt: HostRuntime) -> Result<(), Fail> {
 // and 7 outside all zones; the second 2 in zone 10 and 1 in zone 20; the third 1 in zone 20; the fourth 1 in zone 20
 // and 1 in zone 30; the fifth none; the sixth 4 in zone 30.
 const ZONES: [i32; 42] = [
-    10, 10, 10, 10, 10, 10, 10, //
-    10, 10, 10, 10, NULL, 20, 20, //
-    20, 20, 20, 20, 20, 20, 30, //
-    20, 20, 20, 20, 20, NULL, 20, //
-    NULL, NULL, NULL, NULL, NULL, NULL, NULL, //
-    10, 30, 30, 30, 30, NULL, NULL, //
+    10,
+    10,
+    10,
+    10,
+    10,
+    10,
+    10, //
+    10,
+    10,
+    10,
+    10,
+    NULL_CATEGORY,
+    20,
+    20, //
+    20,
+    20,
+    20,
+    20,
+    20,
+    20,
+    30, //
+    20,
+    20,
+    20,
+    20,
+    20,
+    NULL_CATEGORY,
+    20, //
+    NULL_CATEGORY,
+    NULL_CATEGORY,
+    NULL_CATEGORY,
+    NULL_CATEGORY,
+    NULL_CATEGORY,
+    NULL_CATEGORY,
+    NULL_CATEGORY, //
+    10,
+    30,
+    30,
+    30,
+    30,
+    NULL_CATEGORY,
+    NULL_CATEGORY, //
 ];
 
 #[test]
@@ -125,7 +197,7 @@ fn main_zones_of_patches(rt: HostRuntime) -> Result<(), Fail> {
     if !is_same {
         return Err(Fail::from("zones of another region"));
     }
-    let main = zones_of(rt.alloc(), &numbers, &zones, 7)?;
+    let main = zones_of_patches(rt.alloc(), &numbers, &zones, 7)?;
     let wanted = [Some(20), Some(10), Some(20), Some(20), None, Some(30), None];
     assert_same!(rt; main.as_slice(), wanted.as_slice());
     Ok(())

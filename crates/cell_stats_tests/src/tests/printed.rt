@@ -5,10 +5,10 @@ use cell_core::block::OutputBlock;
 use cell_core::shelf::Shelf;
 use cell_core::sink::{MemorySink, WriteFault};
 use cell_core_test_maps::assert_same;
-use cell_core_test_maps::maps::NULL;
+use cell_core_test_maps::maps::NULL_CATEGORY;
 use cell_stats::combination::Combo;
-use cell_stats::format::Format;
-use cell_stats::printed_cells::{CellWalk, write_cells};
+use cell_stats::format::TableFormat;
+use cell_stats::printed_cells::{CellWalkMemory, write_line_for_each_cell};
 use cell_stats::printing::write_table;
 use cell_stats::skip::Skip;
 use cell_stats::tallying::tally;
@@ -17,7 +17,7 @@ use std::process::Abort;
 use std::test::Fail;
 
 // The clump map of the first worked map.
-const AREAS: [i32; 12] = [1, 1, 2, NULL, 1, 2, 2, 2, 3, 3, 4, 4];
+const AREAS: [i32; 12] = [1, 1, 2, NULL_CATEGORY, 1, 2, 2, 2, 3, 3, 4, 4];
 
 // Returns the text of a table that a sink with this much room accepts, and whether the sink failed.
 fn table_in_room(
@@ -25,7 +25,7 @@ fn table_in_room(
     shelf: &Shelf,
     picks: &[usize],
     skip: Skip,
-    format: &Format,
+    format: &TableFormat,
     after: &[u8],
     room: usize,
 ) -> Result<(Vec<u8>, Result<(), WriteFault>), Fail> {
@@ -60,7 +60,7 @@ fn expect_table<R: Abort + AllocGlobal>(
     shelf: &Shelf,
     picks: &[usize],
     skip: Skip,
-    format: &Format,
+    format: &TableFormat,
     after: &[u8],
     wanted: &str,
 ) -> Result<(), Fail> {
@@ -76,7 +76,7 @@ fn expect_cells<R: Abort + AllocGlobal>(
     shelf: &Shelf,
     picks: &[usize],
     skip: Skip,
-    format: &Format,
+    format: &TableFormat,
     wanted: &str,
 ) -> Result<(), Fail> {
     if !are_picks(shelf, picks) {
@@ -84,8 +84,8 @@ fn expect_cells<R: Abort + AllocGlobal>(
     }
     let mut out = MemorySink::new(vec![in rt.alloc(); 0u8; 4096]?, 3, false);
     let mut block = OutputBlock::new();
-    let walk = CellWalk::new(rt.alloc(), shelf, picks)?;
-    write_cells(&mut out, &mut block, walk, shelf, picks, skip, format);
+    let walk = CellWalkMemory::new(rt.alloc(), shelf, picks)?;
+    write_line_for_each_cell(&mut out, &mut block, walk, shelf, picks, skip, format);
     block.empty(&mut out);
     assert_same!(rt; (block.outcome(), out.bytes()), (Ok(()), wanted.as_bytes()));
     Ok(())
@@ -95,7 +95,7 @@ fn expect_cells<R: Abort + AllocGlobal>(
 fn expect_tables<R: Abort + AllocGlobal>(
     rt: &R,
     shelf: &Shelf,
-    format: &Format,
+    format: &TableFormat,
     cases: &[(&[usize], Skip, &[u8], &str)],
 ) -> Result<(), Fail> {
     for (picks, skip, after, wanted) in cases {
@@ -112,14 +112,14 @@ const OF_ONE_MAP: [(&[usize], Skip, &[u8], &str); 3] = [
 
 #[test]
 fn tables_of_one_map(rt: HostRuntime) -> Result<(), Fail> {
-    let format = Format::new(b' ', b"*", false, true);
+    let format = TableFormat::new(b' ', b"*", false, true);
     let shelf = shelf_of(rt.alloc(), &[&G], 4)?;
     expect_tables(&rt, &shelf, &format, &OF_ONE_MAP)
 }
 
 #[test]
 fn a_table_without_counts(rt: HostRuntime) -> Result<(), Fail> {
-    let format = Format::new(b' ', b"*", false, false);
+    let format = TableFormat::new(b' ', b"*", false, false);
     let shelf = shelf_of(rt.alloc(), &[&G], 4)?;
     expect_table(
         &rt,
@@ -140,8 +140,8 @@ const OF_NULL: [(&[usize], Skip, &[u8], &str); 3] = [
 
 #[test]
 fn tables_of_null(rt: HostRuntime) -> Result<(), Fail> {
-    let format = Format::new(b' ', b"*", false, true);
-    let null = shelf_of(rt.alloc(), &[&[NULL]], 1)?;
+    let format = TableFormat::new(b' ', b"*", false, true);
+    let null = shelf_of(rt.alloc(), &[&[NULL_CATEGORY]], 1)?;
     expect_tables(&rt, &null, &format, &OF_NULL)
 }
 
@@ -216,15 +216,15 @@ const OF_TWO_MAPS: [(&[usize], Skip, &[u8], &str); 16] = [
 
 #[test]
 fn tables_of_two_maps(rt: HostRuntime) -> Result<(), Fail> {
-    let format = Format::new(b' ', b"*", false, true);
+    let format = TableFormat::new(b' ', b"*", false, true);
     let shelf = shelf_of(rt.alloc(), &[&G, &X, &AREAS], 4)?;
     expect_tables(&rt, &shelf, &format, &OF_TWO_MAPS)
 }
 
 // Returns a shelf with a map and its reclassified map, in which one category has a label.
 fn labelled_shelf(alloc: Global) -> Result<Shelf, Fail> {
-    let mut shelf = shelf_of(alloc, &[&[1, 2, 3, 9, NULL]], 5)?;
-    let mut made = filled(alloc, &[7, NULL, 7, 9, NULL], 5)?;
+    let mut shelf = shelf_of(alloc, &[&[1, 2, 3, 9, NULL_CATEGORY]], 5)?;
+    let mut made = filled(alloc, &[7, NULL_CATEGORY, 7, 9, NULL_CATEGORY], 5)?;
     made.set_label(7, b"low")?;
     add(alloc, &mut shelf, b"r", made)?;
     Ok(shelf)
@@ -232,7 +232,7 @@ fn labelled_shelf(alloc: Global) -> Result<Shelf, Fail> {
 
 #[test]
 fn labels(rt: HostRuntime) -> Result<(), Fail> {
-    let format = Format::new(b' ', b"*", true, true);
+    let format = TableFormat::new(b' ', b"*", true, true);
     let shelf = labelled_shelf(rt.alloc())?;
     let wanted = "7 low 2\n9  1\n* no data 2\n";
     expect_table(&rt, &shelf, &[1], Skip::Nothing, &format, b"", wanted)
@@ -240,7 +240,7 @@ fn labels(rt: HostRuntime) -> Result<(), Fail> {
 
 #[test]
 fn labels_and_separators(rt: HostRuntime) -> Result<(), Fail> {
-    let format = Format::new(b'|', b"NA", true, true);
+    let format = TableFormat::new(b'|', b"NA", true, true);
     let shelf = labelled_shelf(rt.alloc())?;
     let wanted = "7|low|3||1\n9||9||1\nNA|no data|2||1\nNA|no data|NA|no data|1\n";
     expect_table(&rt, &shelf, &[1, 0], Skip::Nothing, &format, b"7,1", wanted)
@@ -248,27 +248,30 @@ fn labels_and_separators(rt: HostRuntime) -> Result<(), Fail> {
 
 #[test]
 fn separators(rt: HostRuntime) -> Result<(), Fail> {
-    let format = Format::new(b',', b"NA", false, true);
-    let shelf = shelf_of(rt.alloc(), &[&[5, NULL, 5]], 3)?;
+    let format = TableFormat::new(b',', b"NA", false, true);
+    let shelf = shelf_of(rt.alloc(), &[&[5, NULL_CATEGORY, 5]], 3)?;
     let wanted = "5,5,2\nNA,NA,1\n";
     expect_table(&rt, &shelf, &[0, 0], Skip::Nothing, &format, b"", wanted)
 }
 
 #[test]
 fn cells_of_one_map(rt: HostRuntime) -> Result<(), Fail> {
-    let format = Format::new(b' ', b"*", false, false);
-    let shelf = shelf_of(rt.alloc(), &[&[5, NULL, 5]], 3)?;
+    let format = TableFormat::new(b' ', b"*", false, false);
+    let shelf = shelf_of(rt.alloc(), &[&[5, NULL_CATEGORY, 5]], 3)?;
     for &(skip, wanted) in &[(Skip::Nothing, "5\n*\n5\n"), (Skip::AnyNull, "5\n5\n")] {
         expect_cells(&rt, &shelf, &[0], skip, &format, wanted)?;
     }
     Ok(())
 }
 
-const PAIR: [&[i32]; 2] = [&[1, 1, 2, NULL], &[1, NULL, NULL, NULL]];
+const PAIR: [&[i32]; 2] = [
+    &[1, 1, 2, NULL_CATEGORY],
+    &[1, NULL_CATEGORY, NULL_CATEGORY, NULL_CATEGORY],
+];
 
 #[test]
 fn cells_of_two_maps(rt: HostRuntime) -> Result<(), Fail> {
-    let format = Format::new(b' ', b"*", false, false);
+    let format = TableFormat::new(b' ', b"*", false, false);
     let shelf = shelf_of(rt.alloc(), &PAIR, 2)?;
     for &(skip, wanted) in &[
         (Skip::Nothing, "1 1\n1 *\n2 *\n* *\n"),
@@ -281,7 +284,7 @@ fn cells_of_two_maps(rt: HostRuntime) -> Result<(), Fail> {
 
 #[test]
 fn cells_with_labels(rt: HostRuntime) -> Result<(), Fail> {
-    let format = Format::new(b'|', b"NA", true, true);
+    let format = TableFormat::new(b'|', b"NA", true, true);
     let shelf = shelf_of(rt.alloc(), &PAIR, 2)?;
     let wanted = "1|\nNA|no data\nNA|no data\nNA|no data\n";
     expect_cells(&rt, &shelf, &[1], Skip::Nothing, &format, wanted)
@@ -289,7 +292,7 @@ fn cells_with_labels(rt: HostRuntime) -> Result<(), Fail> {
 
 #[test]
 fn sink_without_room(rt: HostRuntime) -> Result<(), Fail> {
-    let format = Format::new(b' ', b"*", false, true);
+    let format = TableFormat::new(b' ', b"*", false, true);
     let shelf = shelf_of(rt.alloc(), &[&G], 4)?;
     let (bytes, ended) = table_in_room(rt.alloc(), &shelf, &[0], Skip::Nothing, &format, b"", 5)?;
     let fault = WriteFault { written: 5 };
@@ -302,7 +305,7 @@ fn expect_cells_cut<R: Abort + AllocGlobal>(
     rt: &R,
     shelf: &Shelf,
     picks: &[usize],
-    format: &Format,
+    format: &TableFormat,
     room: Vec<u8>,
 ) -> Result<Vec<u8>, Fail> {
     if !are_picks(shelf, picks) {
@@ -311,9 +314,9 @@ fn expect_cells_cut<R: Abort + AllocGlobal>(
     let written = room.len() as u64;
     let mut out = MemorySink::new(room, 4096, false);
     let mut block = OutputBlock::new();
-    let walk = CellWalk::new(rt.alloc(), shelf, picks)?;
+    let walk = CellWalkMemory::new(rt.alloc(), shelf, picks)?;
     let skip = Skip::Nothing;
-    write_cells(&mut out, &mut block, walk, shelf, picks, skip, format);
+    write_line_for_each_cell(&mut out, &mut block, walk, shelf, picks, skip, format);
     assert_same!(rt; block.has_failed(), true);
     block.empty(&mut out);
     assert_same!(rt; block.outcome(), Err(WriteFault { written }));
@@ -328,7 +331,7 @@ fn shelf_of_one_row(alloc: Global) -> Result<Shelf, Fail> {
 
 #[test]
 fn sink_without_room_for_cells(rt: HostRuntime) -> Result<(), Fail> {
-    let format = Format::new(b' ', b"*", false, false);
+    let format = TableFormat::new(b' ', b"*", false, false);
     let shelf = shelf_of_one_row(rt.alloc())?;
     let room = vec![in rt.alloc(); 0u8; 5000]?;
     let bytes = expect_cells_cut(&rt, &shelf, &[0], &format, room)?;

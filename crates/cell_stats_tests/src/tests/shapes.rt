@@ -2,8 +2,8 @@
 
 ghost use Rattle.std.specs.Prelude.{◌<◌};
 
-use super::areas_maps::expect_numbers;
-use cell_cats_areas::clump::Joining;
+use super::clump_maps::expect_numbers;
+use cell_clumps::clump::Joining;
 use std::alloc::Global;
 use std::test::Fail;
 

@@ -5,7 +5,7 @@ ghost use Rattle.std.specs.Prelude.{◌<◌};
 use super::maps::{G, X, are_picks, shelf_of};
 use cell_core::shelf::Shelf;
 use cell_core_test_maps::assert_same;
-use cell_core_test_maps::maps::NULL;
+use cell_core_test_maps::maps::NULL_CATEGORY;
 use cell_stats::combination::Combo;
 use cell_stats::combination_text::ComboFault;
 use cell_stats::skip::Skip;
@@ -27,15 +27,15 @@ fn pair_of(alloc: Global, text: &[u8]) -> Result<[i32; 2], ComboFault> {
     if combo.len() != 2 {
         return Err(ComboFault::BadWidth);
     }
-    let first = combo.get(0).get().unwrap_or(NULL);
-    let second = combo.get(1).get().unwrap_or(NULL);
+    let first = combo.get(0).get().unwrap_or(NULL_CATEGORY);
+    let second = combo.get(1).get().unwrap_or(NULL_CATEGORY);
     Ok([first, second])
 }
 
 // Texts, each with its two categories or its error.
 const TEXTS: [(&[u8], Result<[i32; 2], ComboFault>); 12] = [
-    (b"1,*", Ok([1, NULL])),
-    (b"*,*", Ok([NULL, NULL])),
+    (b"1,*", Ok([1, NULL_CATEGORY])),
+    (b"*,*", Ok([NULL_CATEGORY, NULL_CATEGORY])),
     (b"-2147483647,+007", Ok([-2147483647, 7])),
     (b"1,x", Err(ComboFault::BadCombo)),
     (b"1", Err(ComboFault::BadWidth)),
@@ -101,14 +101,14 @@ fn entries_after_a_combination(rt: HostRuntime) -> Result<(), Fail> {
 
 #[test]
 fn sixteen_picks_of_one_map(rt: HostRuntime) -> Result<(), Fail> {
-    let shelf = shelf_of(rt.alloc(), &[&[5, NULL, 5, -3]], 2)?;
+    let shelf = shelf_of(rt.alloc(), &[&[5, NULL_CATEGORY, 5, -3]], 2)?;
     let table = table_of(rt.alloc(), &shelf, &[0; 16])?;
-    let wanted: [(i32, u64); 3] = [(-3, 1), (5, 2), (NULL, 1)];
+    let wanted: [(i32, u64); 3] = [(-3, 1), (5, 2), (NULL_CATEGORY, 1)];
     assert_same!(rt; (table.width(), table.len()), (16, wanted.len()));
     for (entry, (category, count)) in table.all().zip(wanted) {
         assert_same!(rt; (entry.count, entry.combo.len()), (count, 16));
         for i in 0..entry.combo.len() {
-            assert_same!(rt; entry.combo.get(i).get().unwrap_or(NULL), category);
+            assert_same!(rt; entry.combo.get(i).get().unwrap_or(NULL_CATEGORY), category);
         }
     }
     Ok(())
@@ -140,8 +140,11 @@ fn each_cell_another_combination(rt: HostRuntime) -> Result<(), Fail> {
 // Returns the categories of the first two maps of a combination.
 fn first_two(combo: &Combo) -> [i32; 2] {
     match combo.cells() {
-        [first, second, ..] => [first.get().unwrap_or(NULL), second.get().unwrap_or(NULL)],
-        _ => [NULL, NULL],
+        [first, second, ..] => [
+            first.get().unwrap_or(NULL_CATEGORY),
+            second.get().unwrap_or(NULL_CATEGORY),
+        ],
+        _ => [NULL_CATEGORY, NULL_CATEGORY],
     }
 }
 

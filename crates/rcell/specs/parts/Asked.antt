@@ -6,7 +6,7 @@ use Rattle.rcell.specs.declared.run_fault.RunFault.{RunFault}
 use Rattle.rcell.specs.declared.run_fault.RunFault.TheVariants.{ScriptRead}
 
 -- the source was read to its end, to a read error, or to neither
-abbrev pub asked_by : {X : Type 0} → Result X RunFault → Asked
-asked_by (Ok text) = Ended
-asked_by (Err ScriptRead) = Failed
-asked_by (Err fault) = Going
+abbrev pub read_state_after_reading : {X : Type 0} → Result X RunFault → Asked
+read_state_after_reading (Ok text) = Ended
+read_state_after_reading (Err ScriptRead) = Failed
+read_state_after_reading (Err fault) = Going

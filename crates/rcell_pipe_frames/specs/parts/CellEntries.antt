@@ -5,28 +5,30 @@ use Rattle.cell_core.specs.Grid.{Grid}
 use Rattle.cell_stats_combinations.specs.declared.skip.Skip.{Skip}
 use Rattle.cell_stats_combinations.specs.Combinations.{Combination, row_combinations, shelf_combinations}
 use Rattle.cell_stats_combinations.specs.LeftOut.{kept_cells}
-use Rattle.cell_stats_combinations.specs.declared.selection.Selection.{Selection}
+use Rattle.cell_stats_combinations.specs.declared.selection.TabulatedMaps.{TabulatedMaps}
 use Rattle.cell_stats.specs.TableText.{label_of_cell}
 use Rattle.rcell_pipe_frames.specs.declared.cells_frame.EntryPart.{EntryPart}
 use Rattle.rcell_pipe_frames.specs.declared.cells_frame.EntryPart.TheVariants as parts
-use Rattle.rcell_pipe_frames.specs.FrameBytes.{text_bytes, wide_bytes}
+use Rattle.rcell_pipe_frames.specs.FrameBytes.{length_and_text_bytes, four_bytes_of_cell}
 
 -- one part of an entry: a byte for counting, its cells, or their labels
-abbrev pub entry_bytes : EntryPart → List Grid → List ℕ → Combination → List ℕ
-entry_bytes parts.Mark maps places k = 0 ∷ []
-entry_bytes parts.Cells maps places k = flat_map wide_bytes k
-entry_bytes parts.Labels maps places k = flat_map (λ p. text_bytes (label_of_cell maps p.0 p.1)) (zip places k)
+abbrev pub entry_part_bytes : EntryPart → List Grid → List ℕ → Combination → List ℕ
+entry_part_bytes parts.Mark maps places k = 0 ∷ []
+entry_part_bytes parts.Cells maps places k = flat_map four_bytes_of_cell k
+entry_part_bytes parts.Labels maps places k = flat_map (λ p. length_and_text_bytes (label_of_cell maps p.0 p.1))
+    (zip places k)
 
 -- the results of `f` for all combinations that are not left out, one after another
-abbrev pub kept_entry_bytes : (Combination → List ℕ) → Skip → List Combination → List ℕ
-kept_entry_bytes f skip cells = flat_map f (kept_cells skip cells)
+abbrev pub bytes_of_kept_combinations : (Combination → List ℕ) → Skip → List Combination → List ℕ
+bytes_of_kept_combinations f skip cells = flat_map f (kept_cells skip cells)
 
-abbrev pub selected_bytes : EntryPart → Selection → List Combination → List ℕ
-selected_bytes part s cells = kept_entry_bytes (entry_bytes part s.shelf.now.maps s.picks.now) s.skip cells
+abbrev pub bytes_of_kept_entry_parts : EntryPart → TabulatedMaps → List Combination → List ℕ
+bytes_of_kept_entry_parts part s cells = bytes_of_kept_combinations
+    (entry_part_bytes part s.shelf.now.maps s.picks.now) s.skip cells
 
 -- the combinations of a row, and of all rows
-abbrev pub row_entries : Selection → ℕ → List Combination
-row_entries s row = row_combinations s.shelf.now.maps s.picks.now s.shelf.now.region.cols row
+abbrev pub combinations_of_selected_map_row : TabulatedMaps → ℕ → List Combination
+combinations_of_selected_map_row s row = row_combinations s.shelf.now.maps s.picks.now s.shelf.now.region.cols row
 
-abbrev pub selected_cells : Selection → List Combination
-selected_cells s = shelf_combinations s.shelf.now s.picks.now
+abbrev pub combinations_of_selected_maps : TabulatedMaps → List Combination
+combinations_of_selected_maps s = shelf_combinations s.shelf.now s.picks.now

@@ -2,6 +2,6 @@
 use Rattle.std.specs.Prelude.{ℕ, ℤ, pos, negsuc, List, [], codes}
 
 -- the sign, if it is negative
-abbrev pub sign_text : ℤ → List ℕ
-sign_text (pos n) = []
-sign_text (negsuc n) = codes "-"
+abbrev pub minus_sign_or_empty : ℤ → List ℕ
+minus_sign_or_empty (pos n) = []
+minus_sign_or_empty (negsuc n) = codes "-"

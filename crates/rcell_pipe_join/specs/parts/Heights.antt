@@ -1,19 +1,21 @@
 -- Grids of tiles and tables that can be joined.
 use Rattle.std.specs.Prelude.{ℕ, ◌<◌, ◌^◌, List, All, sum_by}
-use Rattle.cell_join_tiles.specs.Beginnings.{clumps_in_grid}
-use Rattle.cell_join_tiles.specs.JoinedBorders.{begun_in}
-use Rattle.cell_join_tiles.specs.Values.{BorderValue}
-use Rattle.cell_join_tiles.specs.parts.RowMarks.{AreEven}
+use Rattle.cell_join_tiles.specs.Beginnings.{clump_count_of_tile_grid}
+use Rattle.cell_join_tiles.specs.JoinedBorders.{begun_clump_counts_of_grid}
+use Rattle.cell_join_tiles.specs.Values.{TileBorderValue}
+use Rattle.cell_join_tiles.specs.parts.RowMarks.{TilesHaveRowCount}
 use Rattle.rcell_pipe_join.specs.JoinRequests.{JoinRequestValue, BorderGrid, TableList}
-use Rattle.rcell_pipe_join.specs.TableEntries.{cells_of_table}
-use Rattle.cell_stats_combinations.specs.Listed.{HasNoZero}
+use Rattle.rcell_pipe_join.specs.TableEntries.{cell_count_of_table}
+use Rattle.cell_stats_combinations.specs.Listed.{NoEntryCountIsZero}
 
 -- the tiles of a row have one number of rows
-abbrev pub AreOfOneHeight : List BorderValue → Type 0
-AreOfOneHeight row = (rows : ℕ) × AreEven rows row
+abbrev pub TilesHaveSameRowCount : List TileBorderValue → Type 0
+TilesHaveSameRowCount row = (rows : ℕ) × TilesHaveRowCount rows row
 
 -- the tiles of each row have one number of rows, and all tiles have fewer than 2^64 patches; no entry of a table has a
 -- count of 0, and the counts of all tables add up to fewer than 2^64
-abbrev pub CanBeJoined : JoinRequestValue → Type 0
-CanBeJoined (BorderGrid joining grid) = All AreOfOneHeight grid × (clumps_in_grid (begun_in grid) < 2 ^ 64)
-CanBeJoined (TableList width tables) = All HasNoZero tables × (sum_by cells_of_table tables < 2 ^ 64)
+abbrev pub JoinRequestCanBeJoined : JoinRequestValue → Type 0
+JoinRequestCanBeJoined (BorderGrid joining grid) = All TilesHaveSameRowCount grid
+    × (clump_count_of_tile_grid (begun_clump_counts_of_grid grid) < 2 ^ 64)
+JoinRequestCanBeJoined (TableList width tables) = All NoEntryCountIsZero tables
+    × (sum_by cell_count_of_table tables < 2 ^ 64)

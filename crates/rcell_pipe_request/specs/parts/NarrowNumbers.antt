@@ -7,15 +7,15 @@ use Rattle.rcell_pipe_request.specs.declared.kind.CellType.TheVariants.{U8, I8, 
 use Rattle.rcell_pipe_request.specs.RawRows.{is_nodata}
 
 -- all numbers of the type fit
-abbrev pub is_narrow : CellType → Bool
-is_narrow U8 = true
-is_narrow I8 = true
-is_narrow U16 = true
-is_narrow I16 = true
-is_narrow U32 = false
-is_narrow I32 = true
-is_narrow I64 = false
+abbrev pub is_cell_type_within_i32 : CellType → Bool
+is_cell_type_within_i32 U8 = true
+is_cell_type_within_i32 I8 = true
+is_cell_type_within_i32 U16 = true
+is_cell_type_within_i32 I16 = true
+is_cell_type_within_i32 U32 = false
+is_cell_type_within_i32 I32 = true
+is_cell_type_within_i32 I64 = false
 
 -- a category denotes null exactly if it equals `null`
-abbrev pub IsNullNumber : Option ℤ → ℤ → Type 0
-IsNullNumber nodata null = (n : ℤ) → is_category n ≡ true → int_eq n null ≡ is_nodata nodata n
+abbrev pub IsOnlyCategoryDenotingNull : Option ℤ → ℤ → Type 0
+IsOnlyCategoryDenotingNull nodata null = (n : ℤ) → is_category n ≡ true → int_eq n null ≡ is_nodata nodata n

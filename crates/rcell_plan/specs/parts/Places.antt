@@ -2,18 +2,19 @@
 use Rattle.std.specs.Prelude.{ℕ, ◌+◌, ◌==◌, nat_le, List, [], ◌∷◌, ◌++◌, slice_get, slice_set, Option, Some, None}
 use Rattle.std.specs.Prelude.{if◌then◌else◌}
 use Rattle.std.specs.List.{insert}
-use Rattle.rcell_plan.specs.declared.needs.Need.{Need}
-use Rattle.rcell_plan.specs.Needs.{joined}
+use Rattle.rcell_plan.specs.declared.needs.MapNeed.{MapNeed}
+use Rattle.rcell_plan.specs.Needs.{need_covering_both_needs}
 
 -- the position of the first need whose map index is at least `place`
-abbrev pub place_among : ℕ → List Need → ℕ
-place_among place [] = 0
-place_among place (x ∷ xs) = if nat_le place x.place then 0 else place_among place xs + 1
+abbrev pub position_among_needs : ℕ → List MapNeed → ℕ
+position_among_needs place [] = 0
+position_among_needs place (x ∷ xs) = if nat_le place x.place then 0 else position_among_needs place xs + 1
 
 -- joins the need with the need `x` at this position if both are for the same map; otherwise inserts the need before `x`
-abbrev pub put_at : List Need → ℕ → Need → Option Need → List Need
-put_at xs at n None = xs ++ n ∷ []
-put_at xs at n (Some x) = if x.place == n.place then slice_set xs at (joined x n) else insert xs at n
+abbrev pub insert_or_join_need_at_position : List MapNeed → ℕ → MapNeed → Option MapNeed → List MapNeed
+insert_or_join_need_at_position xs at n None = xs ++ n ∷ []
+insert_or_join_need_at_position xs at n (Some x) = if x.place == n.place then slice_set xs at
+    (need_covering_both_needs x n) else insert xs at n
 
-abbrev pub put_need : List Need → ℕ → Need → List Need
-put_need xs at n = put_at xs at n (slice_get xs at)
+abbrev pub insert_or_join_need : List MapNeed → ℕ → MapNeed → List MapNeed
+insert_or_join_need xs at n = insert_or_join_need_at_position xs at n (slice_get xs at)

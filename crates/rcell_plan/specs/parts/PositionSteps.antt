@@ -2,13 +2,13 @@
 use Rattle.std.specs.Prelude.{ℕ, Bool, false}
 use Rattle.cell_calc_grammar.specs.declared.step.Step.{Step}
 use Rattle.cell_calc_grammar.specs.declared.step.Step.TheVariants.{Number, Map, Negated, Not, Binary, Call}
-use Rattle.rcell_plan.specs.LocalLaw.{asks_where}
+use Rattle.rcell_plan.specs.LocalLaw.{is_position_function}
 
 -- the step calls row(), col(), nrows() or ncols()
-abbrev pub step_asks : Step ℕ → Bool
-step_asks (Call f n) = asks_where f
-step_asks (Number n) = false
-step_asks (Map i down right) = false
-step_asks Negated = false
-step_asks Not = false
-step_asks (Binary op) = false
+abbrev pub step_calls_position_function : Step ℕ → Bool
+step_calls_position_function (Call f n) = is_position_function f
+step_calls_position_function (Number n) = false
+step_calls_position_function (Map i down right) = false
+step_calls_position_function Negated = false
+step_calls_position_function Not = false
+step_calls_position_function (Binary op) = false

@@ -1,11 +1,15 @@
 -- The details of statements, as values.
 use Rattle.std.specs.Prelude.{ℕ, ℤ, List, map}
-use Rattle.rcell_plan_response.specs.declared.plan_details.Details.{Details}
-use Rattle.rcell_plan_response.specs.declared.plan_details.RuleLabel.{RuleLabel}
-use Rattle.rcell_plan_response.specs.PlanDetails.{StatementDetails}
+use Rattle.rcell_plan_response.specs.declared.plan_details.CallsAndLabelsOfStatement.{CallsAndLabelsOfStatement}
+use Rattle.rcell_plan_response.specs.declared.plan_details.CategoryAndLabel.{CategoryAndLabel}
+use Rattle.rcell_plan_response.specs.PlanDetails.{CallsAndLabelsValue}
 
-abbrev pub rule_label_value : RuleLabel → ℤ × List ℕ
-rule_label_value label = (label.category, label.text.now)
+abbrev pub category_and_label_as_value : CategoryAndLabel → ℤ × List ℕ
+category_and_label_as_value label = (label.category, label.text.now)
 
-abbrev pub details_value : Details → StatementDetails
-details_value details = record { calls = details.calls.items; labels = map rule_label_value details.labels.items }
+abbrev pub calls_and_labels_as_value : CallsAndLabelsOfStatement → CallsAndLabelsValue
+calls_and_labels_as_value details = record {
+  calls = details.calls.items;
+  labels = map category_and_label_as_value
+      details.labels.items;
+}

@@ -6,5 +6,5 @@ use Rattle.rcell_script.specs.declared.script_fault.ScriptKind.{ScriptKind}
 use Rattle.rcell_script.specs.declared.script_fault.ScriptKind.TheVariants.{Calc, Memory}
 
 -- the script error for an error of an expression
-abbrev pub IsOfCalc : CalcFault → ScriptKind → Type 0
-IsOfCalc fault kind = ((fault.kind ≡ calc.Memory) × (kind ≡ Memory)) ⊎ ((fault.kind ≢ calc.Memory) × (kind ≡ Calc fault))
+abbrev pub IsScriptKindOfCalcFault : CalcFault → ScriptKind → Type 0
+IsScriptKindOfCalcFault fault kind = ((fault.kind ≡ calc.Memory) × (kind ≡ Memory)) ⊎ ((fault.kind ≢ calc.Memory) × (kind ≡ Calc fault))

@@ -5,6 +5,6 @@ use Rattle.rcell_script.specs.declared.option_fault.OptionFault.{OptionFault}
 use Rattle.rcell_script.specs.declared.option_fault.OptionFault.TheVariants.{BadName, Memory}
 
 -- the option error for an error of a name
-abbrev pub of_name : NameFault → OptionFault
-of_name name.BadName = BadName
-of_name name.Memory = Memory
+abbrev pub option_fault_of_name_fault : NameFault → OptionFault
+option_fault_of_name_fault name.BadName = BadName
+option_fault_of_name_fault name.Memory = Memory

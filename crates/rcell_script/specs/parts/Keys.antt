@@ -1,11 +1,11 @@
 -- Which keys are given.
 use Rattle.std.specs.Prelude.{Bool, is_some}
-use Rattle.rcell_script.specs.OptionReading.{Given}
+use Rattle.rcell_script.specs.OptionReading.{GivenOptions}
 use Rattle.rcell_script.specs.declared.options.OptionKey.{OptionKey}
 use Rattle.rcell_script.specs.declared.options.OptionKey.TheVariants.{Input, Inputs, Output, Separator, NullText, TableNullText, After}
 
 -- the key has been given a value
-abbrev pub is_given : Given → OptionKey → Bool
+abbrev pub is_given : GivenOptions → OptionKey → Bool
 is_given given Input = is_some given.input
 is_given given Inputs = is_some given.inputs
 is_given given Output = is_some given.output

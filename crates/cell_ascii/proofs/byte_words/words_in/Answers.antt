@@ -1,17 +1,18 @@
 use Rattle.std.proofs.Common.{◌≡◌, ◌≤◌, ◌+◌, ◌-◌, ◌∙◌, ap, arith, length, take, drop, length-drop, length-take}
 use Rattle.std.proofs.lemmas.List.{take_rest, map-append}
-use Rattle.cell_core_values.specs.SmallCells.{byte_cell, cells_of_bytes}
-use Rattle.cell_ascii_meaning.specs.GridTokens.{newlines}
-use Rattle.cell_ascii.proofs.WordLemmas.{HoldsLines-append, newlines-few}
+use Rattle.cell_core_values.specs.SmallCells.{cell_of_stored_byte, cells_of_bytes}
+use Rattle.cell_ascii_meaning.specs.GridTokens.{line_feed_count}
+use Rattle.cell_ascii.proofs.WordLemmas.{BytesHoldNextCellsAndLineFeeds-append, line_feed_count-few}
 use Rattle.cell_ascii_lanes.proofs.ByteLaneLemmas.{more_bytes}
 use Rattle.cell_ascii.proofs.byte_words.words_in.Goals as goal
 
-pub lines_below-lines-requires-clause-room : goal.lines_below-lines-requires-clause-room
-lines_below-lines-requires-clause-room c = omega (
+pub line_count_after_first_bytes-lines-requires-clause-room :
+    goal.line_count_after_first_bytes-lines-requires-clause-room
+line_count_after_first_bytes-lines-requires-clause-room c = omega (
   arith,
   c.blocks-2.invariant.fewer,
   c.blocks-2.invariant.within,
-  c.if-buffered-passed-ge-LEAST_BUFFERED.true,
+  c.if-buffered-passed-ge-LEAST_BUFFERED_BYTES_FOR_BLOCK.true,
   c.well_formed,
 )
 
@@ -36,17 +37,23 @@ blocks-2-preserved c =
     let here = take_rest buffered passed in
     let rest = drop passed buffered in
     let below : n ≤ 64 = omega (arith, found.ensures.within) in
-    let lines : c.lines_below-lines.result ≡ c.blocks-2.lines + newlines (take n rest) = rw here at
-    c.lines_below-lines.ensures in
-    let cells = ap cells_of_bytes front ∙ map-append byte_cell (take i row) (take k part) in
+    let lines : c.line_count_after_first_bytes-lines.result ≡ c.blocks-2.lines + line_feed_count
+    (take n rest) = rw here at
+    c.line_count_after_first_bytes-lines.ensures in
+    let cells = ap cells_of_bytes front ∙ map-append cell_of_stored_byte (take i row) (take k part) in
     record {
       count = omega (arith, found.ensures.count, inv.count);
-      within = omega (arith, c.if-buffered-passed-ge-LEAST_BUFFERED.true, inv.within, found.ensures.within);
+      within = omega (
+        arith,
+        c.if-buffered-passed-ge-LEAST_BUFFERED_BYTES_FOR_BLOCK.true,
+        inv.within,
+        found.ensures.within,
+      );
       cells = λ h plain star.
           let next = rw here at (found.ensures.cells h plain star) in
-          rw (cells, lines) (HoldsLines-append h buffered (cells_of_bytes (take i row))
-          (cells_of_bytes (take k part)) i k passed n c.blocks-2.lines (newlines (take n rest))
+          rw (cells, lines) (BytesHoldNextCellsAndLineFeeds-append h buffered (cells_of_bytes (take i row))
+          (cells_of_bytes (take k part)) i k passed n c.blocks-2.lines (line_feed_count (take n rest))
           (inv.cells h plain star) next);
-      fewer = omega (arith, lines, newlines-few rest n, inv.fewer);
-      few = omega (arith, lines, newlines-few rest n, inv.few, c.if-next-eq0.false);
+      fewer = omega (arith, lines, line_feed_count-few rest n, inv.fewer);
+      few = omega (arith, lines, line_feed_count-few rest n, inv.few, c.if-next-eq0.false);
     }

@@ -1,12 +1,12 @@
 use Rattle.std.proofs.Common.{◌≡◌, ◌+◌, ◌-◌, ◌≤◌, ◌*◌, length, take, drop}
-use Rattle.cell_ascii.specs.TableWords.{HoldsLines}
+use Rattle.cell_ascii.specs.TableWords.{BytesHoldNextCellsAndLineFeeds}
 use Rattle.cell_ascii.proofs.short_cells.cells_in.Given as goal
 
 abbrev pub invariant-ways : goal.invariant-ways
 invariant-ways l = record {
   low : l.i ≤ length l.row;
   within : l.passed ≤ length l.buffered;
-  cells : HoldsLines l.fn.words l.buffered (take l.i l.row) l.i l.passed l.lines;
+  cells : BytesHoldNextCellsAndLineFeeds l.fn.words l.buffered (take l.i l.row) l.i l.passed l.lines;
   same : l.words ≡ l.fn.words;
   among : l.lines ≤ l.passed;
   lines : l.lines ≤ l.i * 64;

@@ -10,7 +10,8 @@ use lib.Bits.{bit_and}
 pub returns-then-not-has_three : goal.returns-then-not-has_three
 returns-then-not-has_three c = λ _ at n few lt two none digits word blank free.
     let bytes = c.args.bytes in
-    value_at_two bytes c.fits-bytes.0 (all_fit bytes c.fits-bytes.1) c.two_digits.result c.two_digits.ensures at n
+    value_at_two bytes c.fits-bytes.0 (all_fit bytes c.fits-bytes.1) c.values_of_two_digit_words.result
+    c.values_of_two_digit_words.ensures at n
     (two c.if-not-has_three.true) (omega arith) none digits
 
 -- no lane is 255 at the end of a word before an unmarked blank
@@ -31,10 +32,11 @@ not_large large blanks marked p B M lt none word blank free =
 pub returns : goal.returns
 returns c = λ none at n few lt two first digits word blank free.
     let bytes = c.args.bytes in
-    let values = c.three_digits-values.result in
+    let values = c.values_of_three_digit_words-values.result in
     let p = at + 1 + n in
     let off = not_large c.largest_mask-large.result c.args.blanks c.args.marked p c.ranges.blanks.fits
     c.ranges.marked.fits lt (eqb-true _ 0 none) word blank free in
     let low = c.largest_mask-large.ensures p (omega arith) off in
-    value_at_three bytes c.fits-bytes.0 (all_fit bytes c.fits-bytes.1) values c.three_digits-values.ensures at n few
+    value_at_three bytes c.fits-bytes.0 (all_fit bytes c.fits-bytes.1) values
+    c.values_of_three_digit_words-values.ensures at n few
     (omega arith) first digits low

@@ -4,5 +4,5 @@ use Rattle.cell_ascii_writer.proofs.writer.write_fraction.Goals as goal
 
 pub returns : goal.returns
 returns g c =
-    rw (fraction_text-some c.args.part c.if-part-eq0.false, ← c.eight_digits.ensures.value, ← c.without_zeros.ensures.value)
+    rw (fraction_text-some c.args.part c.if-part-eq0.false, ← c.eight_digits_of_fraction.ensures.value, ← c.digits_without_trailing_zeros.ensures.value)
     (appends_then c.push.ensures c.push-2.ensures)

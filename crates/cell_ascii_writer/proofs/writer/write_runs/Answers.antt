@@ -1,6 +1,6 @@
 use Rattle.std.proofs.Common.{◌≡◌, ◌∙◌, ◌++◌, ◌∷◌, List, ap, sym, [], take, replicate, append_assoc, append-nil}
-use Rattle.cell_core.specs.Runs.{RunValue, written_out}
-use Rattle.cell_ascii_writer.specs.WrittenRuns.{spaced_cells}
+use Rattle.cell_core.specs.Runs.{RunValue, cells_of_runs}
+use Rattle.cell_ascii_writer.specs.WrittenRuns.{cell_texts_each_after_a_space}
 use Rattle.cell_ascii_writer.proofs.PendingLemmas.{pending_none, pending_more, pending_then, pending_all}
 use Rattle.cell_ascii_writer.proofs.RunWritingLemmas.{cells_text-more}
 use Rattle.cell_ascii_writer.proofs.writer.write_runs.Goals as goal
@@ -20,9 +20,9 @@ loop-cell-preserved g c =
     let rest : List RunValue = c.next.new.self in
     let run : RunValue = (c.in-Some.cell, c.in-Some.count) in
     let front = take c.args.start c.args.line.now in
-    let more = spaced_cells null (replicate c.in-Some.count c.in-Some.cell) in
+    let more = cell_texts_each_after_a_space null (replicate c.in-Some.count c.in-Some.cell) in
     record {
-      text = rw (cells_text-more null done c.in-Some.cell c.in-Some.count, ← append_assoc front (spaced_cells null (written_out done)) more)
+      text = rw (cells_text-more null done c.in-Some.cell c.in-Some.count, ← append_assoc front (cell_texts_each_after_a_space null (cells_of_runs done)) more)
           (pending_then (pending_more more c.loop-cell.invariant.text) c.write_run-end.ensures.text);
       whole = append_assoc done (run ∷ []) rest
           ∙ ap (λ (l : List RunValue). done ++ l) (sym c.in-Some.ensures.steps) ∙ c.loop-cell.invariant.whole;
@@ -36,4 +36,4 @@ returns g c =
     let all : done ≡ c.args.runs =
     sym (append-nil done) ∙ ap (λ (l : List RunValue). done ++ l) (sym c.in-None.ensures.steps.0) ∙
     c.loop-cell.invariant.whole in
-    rw all at (pending_all c.loop-cell.invariant.text c.push_line.ensures)
+    rw all at (pending_all c.loop-cell.invariant.text c.push_first_bytes_of_line.ensures)

@@ -1,6 +1,6 @@
 use Rattle.std.proofs.Common.{sym, ap, ◌∙◌, map}
 use Rattle.cell_calc_language.specs.CellOperators.{lesser, least}
-use Rattle.cell_calc.specs.RowValues.{column}
+use Rattle.cell_calc.specs.RowValues.{cells_at_column}
 use Rattle.cell_calc_modes.proofs.Columns.{item_width, other_width, no_items, fold_step, least_all}
 use Rattle.cell_calc.proofs.Places.{within_same}
 use Rattle.cell_calc.proofs.calls.least.Goals as goal
@@ -8,7 +8,8 @@ use Rattle.cell_calc.proofs.calls.least.Goals as goal
 pub returns-in_default : goal.returns-in_default
 returns-in_default c =
     let none = no_items c.args.arguments.now c.in_default.len_below in
-    λ k h. c.fill.ensures k h ∙ c.null.ensures ∙ sym (ap (λ l. least (column k (map (λ v. v.items) l))) none)
+    λ k h. c.fill_row_with_cell.ensures k h ∙ c.null.ensures ∙ sym
+    (ap (λ l. least (cells_at_column k (map (λ v. v.items) l))) none)
 
 pub copy_from_slice-requires : goal.copy_from_slice-requires
 copy_from_slice-requires c =

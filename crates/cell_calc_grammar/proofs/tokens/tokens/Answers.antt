@@ -18,14 +18,14 @@ returns-in_err-token-clause-err c =
     let p = err_from_is_err_and c.from_residual.result c.from_residual.ensures.1 in
     rw (p.1, p.2)
     (at_fault _ _ _ _ _ _ _ _ _ _ c.in-Some.ensures.cases.0 (sym c.is_blank.ensures ∙ c.if-is_blank.false)
-    (sym c.piece_length-length.ensures.value) c.piece_length-length.ensures.some c.split_at.ensures.front c.pieces.invariant.0
+    (sym c.first_token_length-length.ensures.value) c.first_token_length-length.ensures.some c.split_at.ensures.front c.pieces.invariant.0
     (rw (← c.len.ensures) c.in_err-token.ensures))
 
 pub pieces-preserved : goal.pieces-preserved
 pieces-preserved c = (
   rw (c.in-Ok.ensures.items, c.in-Ok.ensures.len)
       (after_token _ _ _ _ _ _ _ _ _ _ _ c.in-Some.ensures.cases.0 (sym c.is_blank.ensures ∙ c.if-is_blank.false)
-      (sym c.piece_length-length.ensures.value) c.piece_length-length.ensures.some c.split_at.ensures.front c.split_at.ensures.back
+      (sym c.first_token_length-length.ensures.value) c.first_token_length-length.ensures.some c.split_at.ensures.front c.split_at.ensures.back
       (rw (← c.len.ensures) c.in_ok-token.ensures) c.pieces.invariant.0),
   omega (arith, c.split_at.ensures.back_len, c.pieces.invariant.1),
 )

@@ -1,12 +1,12 @@
 use Rattle.std.proofs.Common.{rules, max, ◌≡◌, arith}
-use Rattle.cell_calc_language.specs.Reach.{down_at}
+use Rattle.cell_calc_language.specs.Reach.{rows_read_below_at_offset}
 use Rattle.cell_calc_language.proofs.FormulaSteps.{greatest_more}
 use Rattle.cell_calc_language.proofs.bound.down.Goals as goal
 
 pub loop-step-preserved : goal.loop-step-preserved
 loop-step-preserved c =
-    let most : c.max-down.result ≡ max c.loop-step.down c.down_of_step.result = search rules in
+    let most : c.max-down.result ≡ max c.loop-step.down c.rows_read_below_by_step.result = search rules in
     record {
-      value = greatest_more (down_at c.args.i) c.args.steps.now c.loop-step.step-index _ _ _ _ c.loop-step-test.true c.loop-step.invariant.value c.down_of_step.ensures.value most;
-      bound = omega (arith, c.loop-step.invariant.bound, c.down_of_step.ensures.bound, most);
+      value = greatest_more (rows_read_below_at_offset c.args.i) c.args.steps.now c.loop-step.step-index _ _ _ _ c.loop-step-test.true c.loop-step.invariant.value c.rows_read_below_by_step.ensures.value most;
+      bound = omega (arith, c.loop-step.invariant.bound, c.rows_read_below_by_step.ensures.bound, most);
     }

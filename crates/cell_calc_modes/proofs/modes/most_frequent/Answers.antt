@@ -3,9 +3,9 @@ use Rattle.std.proofs.lemmas.List.Sorted.{All-permutation}
 use Rattle.cell_calc_language.specs.CellOperators.{is_null}
 use Rattle.cell_calc_modes.proofs.modes.most_frequent.Goals as goal
 
-pub longest_run-requires-clause-known : goal.longest_run-requires-clause-known
-longest_run-requires-clause-known c = All-permutation (λ cell. is_null cell
+pub category_of_longest_run-requires-clause-known : goal.category_of_longest_run-requires-clause-known
+category_of_longest_run-requires-clause-known c = All-permutation (λ cell. is_null cell
     ≡ false) _ _ c.sort_unstable.ensures.permutation c.requires
 
 pub returns : goal.returns
-returns c = c.longest_run.ensures _ c.sort_unstable.ensures.permutation
+returns c = c.category_of_longest_run.ensures _ c.sort_unstable.ensures.permutation

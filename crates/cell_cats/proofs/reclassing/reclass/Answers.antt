@@ -5,4 +5,4 @@ use Rattle.cell_cats.proofs.LabelLemmas.{get-labels_of}
 use Rattle.cell_cats.proofs.reclassing.reclass.Goals as goal
 
 pub returns-clause-labels : goal.returns-clause-labels
-returns-clause-labels c = λ k. ap (λ (m : Grid). get m.labels k) c.in_ok-set_labels.ensures ∙ get-labels_of c.args.rules.now k
+returns-clause-labels c = λ k. ap (λ (m : Grid). get m.labels k) c.in_ok-add_labels_of_rules.ensures ∙ get-labels_of c.args.rules.now k

@@ -1,6 +1,6 @@
 use Rattle.std.proofs.Common.{arith, rules, ◌≡◌, ◌<◌, ◌+◌, All, length, take, true, false, sym, subst, take_all}
 use Rattle.std.proofs.lemmas.List.Elements.{All-more, All-same}
-use Rattle.cell_core_values.specs.Cell.{IsCell, cell_eq}
+use Rattle.cell_core_values.specs.Cell.{IsNullOrCategory, cell_eq}
 use Rattle.cell_core.proofs.RowLemmas.{breaks-none, breaks-one, breaks-whole}
 use Rattle.cell_core.proofs.runs.number_of_runs.Goals as goal
 use Rattle.cell_core.proofs.runs.number_of_runs.Goals.{then-eq, else-eq}
@@ -21,9 +21,9 @@ loop-cell-preserved c =
     let cell = c.cell-item.result in
     let last = c.loop-cell.last in
     let within : i < length row = omega arith in
-    let cells : All IsCell (take (i + 1) row) =
-    All-more IsCell row i cell within c.loop-cell.invariant.cells
-    (subst IsCell c.cell-item.is c.category_of.ensures.cell) in
+    let cells : All IsNullOrCategory (take (i + 1) row) =
+    All-more IsNullOrCategory row i cell within c.loop-cell.invariant.cells
+    (subst IsNullOrCategory c.cell-item.is c.category_of_cell.ensures.cell) in
     elim c.if-eq.branch [
       | then-eq w ↦
           let same : cell_eq cell last ≡ true = search (rules, w.if-eq, c.eq.ensures) in
@@ -45,4 +45,4 @@ pub returns-clause-cells : goal.returns-clause-cells
 returns-clause-cells c =
     let row = c.args.row.now in
     let i = c.loop-cell.cell-index in
-    All-same IsCell row (take i row) (sym (take_all i row (omega arith))) c.loop-cell.invariant.cells
+    All-same IsNullOrCategory row (take i row) (sym (take_all i row (omega arith))) c.loop-cell.invariant.cells

@@ -1,12 +1,12 @@
 use Rattle.std.proofs.Common.{◌≡◌, ◌∙◌, ◌+◌, ◌-◌, ◌<◌, ◌≤◌, ℕ, List, [], Option, Some, None, true, length, take, drop, refl, sym, ap, take_all, append-nil, length-drop, arith}
-use Rattle.cell_core_devices.specs.Device.{Faults, after_put, append_known}
+use Rattle.cell_core_devices.specs.Device.{SinkFaults, faults_after_put, append_if_known}
 use Rattle.cell_core_devices.proofs.DeviceLemmas.{put_more, whole_rest}
 use Rattle.cell_core_devices.proofs.sink.put_bytes.Goals as goal
 
 least : (n : ℕ) → 0 ≤ n
 least n = omega arith
 
-nothing : (taken : Option (List ℕ)) → taken ≡ append_known taken []
+nothing : (taken : Option (List ℕ)) → taken ≡ append_if_known taken []
 nothing None = refl
 nothing (Some xs) = ap Some (sym (append-nil xs))
 
@@ -64,7 +64,7 @@ pub returns-in-Err-clause-err : goal.returns-in-Err-clause-err
 returns-in-Err-clause-err g c = c.in-Err.ensures.err ∙ c.loop-at.invariant.taken
 
 pub returns-in-Err-clause-faults : goal.returns-in-Err-clause-faults
-returns-in-Err-clause-faults g c = c.in-Err.ensures.faults ∙ ap (λ (f : Faults). after_put f true) c.loop-at.invariant.faults
+returns-in-Err-clause-faults g c = c.in-Err.ensures.faults ∙ ap (λ (f : SinkFaults). faults_after_put f true) c.loop-at.invariant.faults
 
 pub returns-in-Err-clause-empty : goal.returns-in-Err-clause-empty
 returns-in-Err-clause-empty g c = λ none. absurd (not_within (ap length none) c.loop-at-test.true)
@@ -72,7 +72,7 @@ returns-in-Err-clause-empty g c = λ none. absurd (not_within (ap length none) c
 pub returns-clause-ok : goal.returns-clause-ok
 returns-clause-ok g c =
     c.loop-at.invariant.taken
-    ∙ ap (append_known (g.W.Sink.taken c.args.out.now)) (take_all c.loop-at.at c.args.bytes.now c.loop-at-test.false)
+    ∙ ap (append_if_known (g.W.Sink.taken c.args.out.now)) (take_all c.loop-at.at c.args.bytes.now c.loop-at-test.false)
 
 pub returns-clause-faults : goal.returns-clause-faults
 returns-clause-faults g c = c.loop-at.invariant.faults

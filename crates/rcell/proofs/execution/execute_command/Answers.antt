@@ -1,7 +1,7 @@
 use Rattle.std.proofs.Common.{◌≡◌, Result, Ok, Err, refl}
 use Rattle.std.specs.Result.{OnOk}
 use Rattle.cell_ascii_meaning.specs.Writing.{grid_text}
-use Rattle.rcell.specs.Output.{command_text, stats_text}
+use Rattle.rcell.specs.Output.{command_output_text, stats_text}
 use Rattle.rcell.proofs.runs.ExecutionLemmas.{grid_command, stats_command}
 use Rattle.rcell.proofs.execution.execute_command.Goals as goal
 
@@ -14,7 +14,7 @@ returns-in-Stats-clause-after g c = whenever_ok c.write_stats.result _ (rw c.in-
 
 pub returns-in-Stats-clause-ok : goal.returns-in-Stats-clause-ok
 returns-in-Stats-clause-ok g c =
-    let same : stats_text c.args.shelf.now c.as_slice.result.now c.in-Stats.options ≡ command_text c.args.shelf.now c.args.command.now =
+    let same : stats_text c.args.shelf.now c.as_slice.result.now c.in-Stats.options ≡ command_output_text c.args.shelf.now c.args.command.now =
     rw c.as_slice.ensures (stats_command c.args.shelf.now c.args.command.now _ _ c.in-Stats.is) in
     rw (← same) c.write_stats.ensures.ok
 
@@ -26,6 +26,6 @@ returns-in-OutAscii-clause-after g c = rw c.in-OutAscii.is refl
 
 pub returns-in-OutAscii-clause-ok : goal.returns-in-OutAscii-clause-ok
 returns-in-OutAscii-clause-ok g c =
-    let same : grid_text c.bytes.result.now c.map.result.now ≡ command_text c.args.shelf.now c.args.command.now =
+    let same : grid_text c.bytes.result.now c.map.result.now ≡ command_output_text c.args.shelf.now c.args.command.now =
     rw c.bytes.ensures.value (grid_command c.args.shelf.now c.args.command.now _ _ _ c.in-OutAscii.is c.map.ensures.value) in
     rw (← same) c.write_grid.ensures

@@ -8,8 +8,8 @@ returns-in-Ok-clause-answer c =
 
 pub returns-in-Err-clause-answer : goal.returns-in-Err-clause-answer
 returns-in-Err-clause-answer c =
-    rw c.of_shelf.ensures
+    rw c.run_fault_of_shelf_fault.ensures
     (added-refused c.args.grid c.args.shelf c.args.name c.args.map c.in-Err.refused.fault c.in-Err.ensures.reason)
 
 pub returns-in-Err-clause-whose : goal.returns-in-Err-clause-whose
-returns-in-Err-clause-whose c = rw c.of_shelf.ensures (refused-whose c.args.grid c.in-Err.refused.fault)
+returns-in-Err-clause-whose c = rw c.run_fault_of_shelf_fault.ensures (refused-whose c.args.grid c.in-Err.refused.fault)

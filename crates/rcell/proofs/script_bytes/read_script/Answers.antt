@@ -2,11 +2,11 @@ use Rattle.std.proofs.Common.{◌≡◌, ◌≢◌, ℕ, false, Ok, drop, refl, 
 use Rattle.std.specs.Prelude.{◌==◌}
 use Rattle.std.proofs.lemmas.Bool.Decides.{nat_tests}
 use Rattle.std.proofs.lemmas.List.{take-append-le}
-use Rattle.cell_core_devices.specs.Asking.{after_take}
+use Rattle.cell_core_devices.specs.Asking.{progress_after_take}
 use Rattle.cell_core_devices.specs.declared.source.Asked.{Asked}
 use Rattle.cell_core_devices.specs.declared.source.Asked.TheVariants.{Going}
 use Rattle.cell_core_devices.specs.declared.device.DeviceFault.{DeviceFault}
-use Rattle.cell_core_devices.specs.Supposed.{to_come}
+use Rattle.cell_core_devices.specs.Supposed.{content_to_come}
 use Rattle.rcell.proofs.TextLemmas.{begun, text_ends, no_memory, text_fails, text_long, block_more, same_most}
 use Rattle.rcell.proofs.TextLemmas.{past_most, still_short, less_left, block_len, block_fits, room_fits}
 use Rattle.rcell.proofs.script_bytes.read_script.Goals as goal
@@ -15,12 +15,13 @@ use Rattle.rcell.proofs.script_bytes.read_script.Goals as goal
 not_none : (n : ℕ) → n ≢ 0 → (n == 0) ≡ false
 not_none n some = grind (arith, nat_tests)
 
-goes_on : (old new : Asked) (n : ℕ) → new ≡ after_take {E = DeviceFault} old (Ok n) → old ≡ Going → n ≢ 0 → new ≡ Going
+goes_on : (old new : Asked) (n : ℕ) → new ≡ progress_after_take {E = DeviceFault} old (Ok n) → old ≡ Going → n ≢ 0
+    → new ≡ Going
 goes_on old new n after going some = rw (after, going, not_none n some) refl
 
 pub pieces-init : goal.pieces-init
 pieces-init g c = record {
-  text = λ h. rw c.new-text.ensures.items (begun (to_come (g.R.Source.supposed c.args.source.now) h));
+  text = λ h. rw c.new-text.ensures.items (begun (content_to_come (g.R.Source.supposed c.args.source.now) h));
   short = rw c.new-text.ensures.len (omega arith);
   asked = λ going. going;
 }
@@ -47,8 +48,8 @@ returns-in-Err-clause-answer g c =
     let at = c.pieces in
     let supposed = g.R.Source.supposed in
     λ h.
-    text_fails (to_come (supposed c.args.source.now) h) (to_come (supposed at.source) h)
-    (to_come (supposed c.take.new.self) h)
+    text_fails (content_to_come (supposed c.args.source.now) h) (content_to_come (supposed at.source) h)
+    (content_to_come (supposed c.take.new.self) h)
     c.in-Err.field-0 c.take.new.buf at.text.items (at.invariant.text h) (same_most at.text.ok.0 at.invariant.short)
     (c.in-Err.ensures.supposed h)
 
@@ -57,8 +58,8 @@ returns-then-count-eq0-clause-answer g c =
     let at = c.pieces in
     let supposed = g.R.Source.supposed in
     λ h.
-    text_ends (to_come (supposed c.args.source.now) h) (to_come (supposed at.source) h)
-    (to_come (supposed c.take.new.self) h)
+    text_ends (content_to_come (supposed c.args.source.now) h) (content_to_come (supposed at.source) h)
+    (content_to_come (supposed c.take.new.self) h)
     c.in-Ok.count c.take.new.buf at.text.items (at.invariant.text h) (same_most at.text.ok.0 at.invariant.short)
     c.if-count-eq0.true (c.in-Ok.ensures.supposed h)
 
@@ -68,8 +69,8 @@ returns-then-count-len-clause-answer g c =
     let supposed = g.R.Source.supposed in
     let past = past_most c.len-in-pieces.ensures at.text.ok.0 at.invariant.short c.if-count-len.true in
     λ h.
-    text_long (to_come (supposed c.args.source.now) h) (to_come (supposed at.source) h)
-    (to_come (supposed c.take.new.self) h)
+    text_long (content_to_come (supposed c.args.source.now) h) (content_to_come (supposed at.source) h)
+    (content_to_come (supposed c.take.new.self) h)
     c.in-Ok.count c.take.new.buf at.text.items (at.invariant.text h) past (c.in-Ok.ensures.supposed h)
 
 pub returns-in-Err-extend_from_slice-clause-answer : goal.returns-in-Err-extend_from_slice-clause-answer
@@ -77,8 +78,9 @@ returns-in-Err-extend_from_slice-clause-answer g c =
     let at = c.pieces in
     let supposed = g.R.Source.supposed in
     λ h.
-    no_memory c.in-Ok.count c.take.new.buf (to_come (supposed c.args.source.now) h) (to_come (supposed at.source) h)
-    (to_come (supposed c.take.new.self) h)
+    no_memory c.in-Ok.count c.take.new.buf (content_to_come (supposed c.args.source.now) h)
+    (content_to_come (supposed at.source) h)
+    (content_to_come (supposed c.take.new.self) h)
     at.text.items (at.invariant.text h) (c.in-Ok.ensures.supposed h)
 
 pub pieces-smaller : goal.pieces-smaller
@@ -97,8 +99,8 @@ pieces-preserved g c =
     let supposed = g.R.Source.supposed in
     record {
       text = rw (grown.items, take-append-le n buf rest c.in-Ok.ensures.count)
-          (λ h. block_more (to_come (supposed c.args.source.now) h) (to_come (supposed at.source) h)
-          (to_come (supposed c.take.new.self) h) n buf at.text.items (at.invariant.text h)
+          (λ h. block_more (content_to_come (supposed c.args.source.now) h) (content_to_come (supposed at.source) h)
+          (content_to_come (supposed c.take.new.self) h) n buf at.text.items (at.invariant.text h)
           (c.in-Ok.ensures.supposed h));
       short = still_short c.len-in-pieces.ensures grown.len (block_len n buf rest c.in-Ok.ensures.count)
           at.invariant.short c.if-count-len.false;

@@ -9,10 +9,10 @@ write_table-requires-clause-width g c = c.in-Ok-tally.ensures.width
 
 pub returns-then-options-clause-ok : goal.returns-then-options-clause-ok
 returns-then-options-clause-ok g c =
-    let same = cells_stats c.args.shelf.now c.args.places.now c.args.options.now c.format_of-format.result c.if-options.true c.format_of-format.ensures in
-    rw (← same) c.write_cells.ensures
+    let same = cells_stats c.args.shelf.now c.args.places.now c.args.options.now c.table_format_of_stats_options-format.result c.if-options.true c.table_format_of_stats_options-format.ensures in
+    rw (← same) c.write_line_for_each_cell.ensures
 
 pub returns-clause-ok : goal.returns-clause-ok
 returns-clause-ok g c =
-    let same = table_stats c.args.shelf.now c.args.places.now c.args.options.now c.format_of-format.result _ _ c.if-options.false c.format_of-format.ensures c.combination_before-after.ensures c.in-Ok-tally.ensures.value in
+    let same = table_stats c.args.shelf.now c.args.places.now c.args.options.now c.table_format_of_stats_options-format.result _ _ c.if-options.false c.table_format_of_stats_options-format.ensures c.combination_to_continue_after-after.ensures c.in-Ok-tally.ensures.value in
     rw (← same) c.write_table.ensures

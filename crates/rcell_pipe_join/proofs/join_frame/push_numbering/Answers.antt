@@ -3,5 +3,5 @@ use Rattle.rcell_pipe_join.proofs.join_frame.push_numbering.Goals as goal
 
 pub returns : goal.returns
 returns g c =
-    appends_then c.push.ensures (appends_then c.push_number.ensures
-    (appends_then c.push_number-2.ensures c.push_each_run.ensures))
+    appends_then c.push.ensures (appends_then c.push_eight_byte_number.ensures
+    (appends_then c.push_eight_byte_number-2.ensures c.push_patch_number_runs.ensures))

@@ -1,17 +1,17 @@
 use Rattle.std.proofs.Common.{[], arith}
-use Rattle.rcell_pipe_request.specs.RequestFields.{steps}
+use Rattle.rcell_pipe_request.specs.RequestFields.{reading_repeated_n_times}
 use Rattle.rcell_pipe_request.specs.Feeds.{left}
-use Rattle.cell_join_tiles.specs.Values.{border_values}
-use Rattle.rcell_pipe_join.specs.BorderGrids.{one_more_tile}
-use Rattle.rcell_pipe_request.proofs.StepLemmas.{steps-on, steps-end, steps-done, PlacedFails-of}
+use Rattle.cell_join_tiles.specs.Values.{values_of_tile_borders}
+use Rattle.rcell_pipe_join.specs.BorderGrids.{tiles_with_next_tile_reading}
+use Rattle.rcell_pipe_request.proofs.StepLemmas.{steps-on, steps-end, steps-done, FailsWithErrorPosition-of}
 use Rattle.rcell_pipe_join.proofs.tiles.read_tile_row.Goals as goal
 
 pub returns-in-Err-clause-reads : goal.returns-in-Err-clause-reads
 returns-in-Err-clause-reads g c =
-    let so_far = (border_values c.loop-i.row.items) in
-    let step = (one_more_tile c.args.before (border_values c.args.above.now)) in (
-      PlacedFails-of c.in-Err.stop c.args.feed.now c.loop-i.feed c.push_tile.new.feed (step so_far)
-          (steps step [] c.args.cols) (λ w is. (c.loop-i.invariant.0 w is).0)
+    let so_far = (values_of_tile_borders c.loop-i.row.items) in
+    let step = (tiles_with_next_tile_reading c.args.before (values_of_tile_borders c.args.above.now)) in (
+      FailsWithErrorPosition-of c.in-Err.stop c.args.feed.now c.loop-i.feed c.read_next_tile.new.feed (step so_far)
+          (reading_repeated_n_times step [] c.args.cols) (λ w is. (c.loop-i.invariant.0 w is).0)
           (λ w is error one. steps-end step so_far c.args.cols c.loop-i.i (left w c.loop-i.feed) error _ (omega arith)
           one (c.loop-i.invariant.0 w is).1)
           c.in-Err.ensures.reads.0,
@@ -24,9 +24,10 @@ loop-i-preserved g c = (
       let one = c.in-Ok.ensures.reads.0 w is in
       let before = c.loop-i.invariant.0 w one.0 in (
         before.0,
-        steps-on (one_more_tile c.args.before (border_values c.args.above.now))
-            (border_values c.loop-i.row.items) (border_values c.push_tile.new.row.items) c.args.cols c.loop-i.i
-            (left w c.loop-i.feed) (left w c.push_tile.new.feed) _ (omega arith) one.1 before.1,
+        steps-on (tiles_with_next_tile_reading c.args.before (values_of_tile_borders c.args.above.now))
+            (values_of_tile_borders c.loop-i.row.items) (values_of_tile_borders c.read_next_tile.new.row.items)
+            c.args.cols c.loop-i.i
+            (left w c.loop-i.feed) (left w c.read_next_tile.new.feed) _ (omega arith) one.1 before.1,
       ),
   omega (arith, c.in-Ok.ensures.count, c.loop-i.invariant.1),
   c.in-Ok.ensures.even c.loop-i.invariant.2,
@@ -38,8 +39,8 @@ returns-clause-reads g c = (
   λ w is.
       let before = c.loop-i.invariant.0 w is in (
         before.0,
-        steps-done (one_more_tile c.args.before (border_values c.args.above.now))
-            (border_values c.loop-i.row.items) c.args.cols c.loop-i.i (left w c.loop-i.feed)
+        steps-done (tiles_with_next_tile_reading c.args.before (values_of_tile_borders c.args.above.now))
+            (values_of_tile_borders c.loop-i.row.items) c.args.cols c.loop-i.i (left w c.loop-i.feed)
             _ (omega arith) before.1,
       ),
   c.loop-i.invariant.3,

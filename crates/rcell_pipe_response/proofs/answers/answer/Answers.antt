@@ -1,12 +1,12 @@
 use Rattle.std.proofs.Common.{◌≡◌, ◌∙◌, [], ◌∷◌, length, vec_len, arith, refl}
 use Rattle.std.specs.Option.{option_map}
 use Rattle.rcell_pipe_frames.specs.Frames.{Patches}
-use Rattle.rcell_pipe_response.specs.QuestionFrames.{numbers_if}
+use Rattle.rcell_pipe_response.specs.QuestionFrames.{patch_numbers_frame_if_wanted}
 use Rattle.rcell_pipe_response.proofs.QuestionLemmas.{frames_then, one_frame}
 use Rattle.rcell_pipe_response.proofs.answers.answer.Goals as goal
 
-pub patches_of-requires-clause-depth : goal.patches_of-requires-clause-depth
-patches_of-requires-clause-depth g c = c.args.question.now.positive
+pub patch_measures-requires-clause-depth : goal.patch_measures-requires-clause-depth
+patch_measures-requires-clause-depth g c = c.args.question.now.positive
 
 pub returns-clause-ok : goal.returns-clause-ok
 returns-clause-ok g c =
@@ -33,6 +33,8 @@ returns-clause-ok g c =
         zoned = rw (c.len.ensures ∙ long) at c.in_ok-zones.ensures.zones;
         is = refl;
       };
-      appends = frames_then (numbers_if question.with_numbers c.args.place c.in_ok-numbers.numbers) (frame ∷ [])
-          c.in_ok-push_numbers_if.ensures.ok (one_frame frame (rw c.deref-2.ensures.value at c.push_patches.ensures));
+      appends = frames_then (patch_numbers_frame_if_wanted question.with_numbers c.args.place c.in_ok-numbers.numbers)
+          (frame ∷ [])
+          c.in_ok-push_patch_numbers_if_wanted.ensures.ok (one_frame frame
+          (rw c.deref-2.ensures.value at c.push_patches_frame.ensures));
     }

@@ -1,9 +1,11 @@
 use Rattle.std.proofs.Common.{◌++◌, List, [], None, Some, inl, refl, sym, subst, append-nil}
-use Rattle.rcell_pipe_request.specs.Questions.{QuestionValue}
+use Rattle.rcell_pipe_request.specs.Questions.{PatchQuestionValue}
 use Rattle.rcell_pipe_response.specs.declared.end.PipeError.TheVariants as errors
-use Rattle.rcell_pipe_response.specs.declared.frame_run.RunForm.TheVariants.{Frames}
+use Rattle.rcell_pipe_response.specs.declared.frame_run.ResponseForm.TheVariants.{Frames}
 use Rattle.rcell_pipe_frames.specs.FrameBytes.{response_magic, frames_bytes}
-use Rattle.rcell_pipe_response.specs.RunEnds.{done_end, memory_end, IsPipeAccepted, IsResponse, end_value}
+use Rattle.rcell_pipe_response.specs.RunEnds.{end_frame_of_successful_run, memory_end, IsRunRequestAccepted}
+use Rattle.rcell_pipe_response.specs.RunEnds.{IsResponseToRunRequest}
+use Rattle.rcell_pipe_response.specs.RunEnds.{end_frame_as_value}
 use Rattle.rcell_pipe_response.proofs.EndLemmas.{finished_frames, ends_as, cut, end_broken}
 use Rattle.rcell_pipe_response.proofs.QuestionLemmas.{answered_after}
 use Rattle.rcell_pipe_response.proofs.frame_run.answer_questions.Goals as goal
@@ -13,7 +15,7 @@ returns-in-Ok g c = λ before start read shelf statements frames accepted given 
     let answered = c.in-Ok.ensures.ok in
     let all = frames ++ answered.frames in
     let text = answered_after before start frames answered.frames appended answered.appends in
-    ends_as (IsResponse Frames read) None (record {
+    ends_as (IsResponseToRunRequest Frames read) None (record {
       shelf = shelf;
       statements = statements;
       questions = _;
@@ -33,8 +35,9 @@ returns-in-Ok g c = λ before start read shelf statements frames accepted given 
         ),
       );
     }) (λ write. cc)
-    (finished_frames all (end_value c.done_end.result) done_end c.done_end.ensures
-    (c.end_response.ensures before start (response_magic ++ frames_bytes all) text))
+    (finished_frames all (end_frame_as_value c.end_frame_of_successful_run.result) end_frame_of_successful_run
+    c.end_frame_of_successful_run.ensures
+    (c.end_response_and_flush.ensures before start (response_magic ++ frames_bytes all) text))
 
 pub returns-in-Memory : goal.returns-in-Memory
 returns-in-Memory g c = λ before start read shelf statements frames accepted given appended.
@@ -42,12 +45,12 @@ returns-in-Memory g c = λ before start read shelf statements frames accepted gi
     let answered = stopped.answered in
     let all = frames ++ answered.frames in
     let text = answered_after before start frames answered.frames appended answered.appends in
-    ends_as (IsResponse Frames read) (Some errors.MemoryAtQuestion) (record {
+    ends_as (IsResponseToRunRequest Frames read) (Some errors.MemoryAtQuestion) (record {
       shelf = shelf;
       statements = statements;
       first = stopped.first;
       others = stopped.others;
-      accepted = subst (λ (l : List QuestionValue). IsPipeAccepted Frames read shelf statements l)
+      accepted = subst (λ (l : List PatchQuestionValue). IsRunRequestAccepted Frames read shelf statements l)
           (sym stopped.whole) accepted;
       gives = (
         all,
@@ -64,8 +67,8 @@ returns-in-Memory g c = λ before start read shelf statements frames accepted gi
         ),
       );
     }) (λ write. cc)
-    (finished_frames all (end_value c.memory_end.result) (memory_end 0) c.memory_end.ensures
-    (c.end_response-in-Memory.ensures before start (response_magic ++ frames_bytes all) text))
+    (finished_frames all (end_frame_as_value c.memory_end.result) (memory_end 0) c.memory_end.ensures
+    (c.end_response_and_flush-in-Memory.ensures before start (response_magic ++ frames_bytes all) text))
 
 pub returns-in-Write : goal.returns-in-Write
 returns-in-Write g c = λ before start read shelf statements frames accepted given appended.
@@ -74,8 +77,10 @@ returns-in-Write g c = λ before start read shelf statements frames accepted giv
     let all = frames ++ answered.frames in
     let text = answered_after before start frames answered.frames appended answered.appends in
     end_broken Frames read shelf statements [] stop.so_far.first stop.so_far.others (response_magic ++ frames_bytes all)
-    c.cut_short.ensures.reported c.cut_short.ensures.error c.cut_short.ensures.status
-    (rw (append-nil statements) (subst (λ (l : List QuestionValue). IsPipeAccepted Frames read shelf statements l)
+    c.outcome_after_failed_write.ensures.reported c.outcome_after_failed_write.ensures.error
+    c.outcome_after_failed_write.ensures.status
+    (rw (append-nil statements) (subst (λ (l : List PatchQuestionValue). IsRunRequestAccepted Frames read shelf
+    statements l)
     (sym stop.so_far.whole) accepted))
     (inl refl) (
       all,
@@ -92,4 +97,4 @@ returns-in-Write g c = λ before start read shelf statements frames accepted giv
       ),
     )
     (rw stop.failed at text.fails)
-    (rw (c.cut_short.ensures.written, c.written.ensures) (cut text))
+    (rw (c.outcome_after_failed_write.ensures.written, c.written.ensures) (cut text))

@@ -2,5 +2,5 @@ use Rattle.cell_core_devices.proofs.BlockLemmas.{appends_then}
 use Rattle.rcell_plan_response.proofs.plan_frames.push_margin.Goals as goal
 
 pub returns : goal.returns
-returns g c = appends_then c.push_number.ensures (appends_then c.push_number-2.ensures
-    (appends_then c.push_number-3.ensures c.push_number-4.ensures))
+returns g c = appends_then c.push_eight_byte_number.ensures (appends_then c.push_eight_byte_number-2.ensures
+    (appends_then c.push_eight_byte_number-3.ensures c.push_eight_byte_number-4.ensures))

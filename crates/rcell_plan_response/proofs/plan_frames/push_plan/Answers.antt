@@ -4,5 +4,6 @@ use Rattle.rcell_plan_response.proofs.plan_frames.push_plan.Goals as goal
 pub returns : goal.returns
 returns g c =
     appends_then (appends_then (appends_then
-    (appends_then c.push_plan_head.ensures (rw c.in_order.ensures at c.push_reads.ensures))
-    (rw c.in_order-2.ensures at c.push_needs.ensures)) c.push_options.ensures) c.push_details.ensures
+    (appends_then c.push_plan_head.ensures (rw c.in_order.ensures at c.push_count_and_map_reads.ensures))
+    (rw c.in_order-2.ensures at c.push_count_and_map_needs.ensures)) c.push_command_options.ensures)
+    c.push_calls_and_labels.ensures

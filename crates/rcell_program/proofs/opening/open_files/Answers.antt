@@ -2,19 +2,22 @@ use Rattle.std.proofs.Common.{ℕ, List, [], Option, map, length, vec_len, false
 use Rattle.std.proofs.Common.{refl, subst, ap, sym, arith, ◌≡◌, ◌<◌, ◌==◌, ◌∙◌, ◌∷◌}
 use Rattle.std.proofs.lemmas.Bool.{eqb-false, eqb-true}
 use Rattle.std.proofs.lemmas.List.{length-map}
-use Rattle.cell_core_devices.specs.Device.{Coming}
-use Rattle.cell_core_devices.specs.Supposed.{Supposed}
+use Rattle.cell_core_devices.specs.Device.{ComingBytes}
+use Rattle.cell_core_devices.specs.Supposed.{SupposedContent}
 use Rattle.clap.specs.Walk.{Text, texts}
 use Rattle.rcell_command.proofs.ProcessLemmas.{all_of_some, opened_then, some_first}
-use Rattle.rcell_program.specs.OpenedGrids.{AreFiles}
-use Rattle.rcell_program.specs.Refusals.{IsOfOpening}
+use Rattle.rcell_program.specs.OpenedGrids.{SourcesHoldFileContents}
+use Rattle.rcell_program.specs.Refusals.{IsRefusalOfOpeningFiles}
 use Rattle.rcell_program.specs.declared.refusal.Refusal.{Refusal}
 use Rattle.rcell_program.proofs.opening.open_files.Goals as goal
 
 -- the possible errors of opening files are the same when the files are unchanged
-of_same : (files other : Text → Option Coming) (script : Text) (paths : List Text) (refusal : Refusal) → other ≡ files
-    → IsOfOpening other script paths refusal → IsOfOpening files script paths refusal
-of_same files other script paths refusal same is = subst (λ known. IsOfOpening known script paths refusal) same is
+of_same : (files other : Text → Option ComingBytes) (script : Text) (paths : List Text) (refusal : Refusal)
+    → other ≡ files
+    → IsRefusalOfOpeningFiles other script paths refusal → IsRefusalOfOpeningFiles files script paths refusal
+of_same files other script paths refusal same is = subst (λ known. IsRefusalOfOpeningFiles known script paths refusal)
+    same
+    is
 
 no_grids : {A B : Type 0} (f : A → B) (xs : List A) (ys : List B) (n m : ℕ) → map f xs ≡ ys → n ≡ length xs → m ≡ length ys → (n == 0) ≡ true → m ≡ 0
 no_grids f xs ys n m are some all empty = omega (arith, eqb-true n 0 empty, length-map xs f, ap length are)
@@ -57,5 +60,6 @@ invariant_of-result g c =
 pub returns-clause-files : goal.returns-clause-files
 returns-clause-files g c =
     let paths = texts c.args.request.now.paths.items in
-    subst (λ (file : Text → Supposed). AreFiles file g.P.File.Source.supposed paths c.in-Ok-open_grids.grids.items)
+    subst (λ (file : Text → SupposedContent). SourcesHoldFileContents file g.P.File.Source.supposed paths
+    c.in-Ok-open_grids.grids.items)
     c.in-Ok.ensures.same c.in-Ok-open_grids.ensures.supposed

@@ -1,21 +1,21 @@
 use Rattle.std.proofs.Common.{◌≡◌, ◌∙◌, ℕ, ◌+◌, ap, refl, Bool, false, Result, Ok, Err}
-use Rattle.cell_core_devices.specs.Asking.{Heard}
-use Rattle.cell_ascii_meaning.specs.Kinds.{is_read}
+use Rattle.cell_core_devices.specs.Asking.{SourceKnowledge}
+use Rattle.cell_ascii_meaning.specs.Kinds.{is_failed_read}
 use Rattle.cell_ascii_meaning.specs.declared.grid_fault.GridFault.{GridFault}
-use Rattle.cell_ascii_reading.specs.declared.scanner.InLine.{InLine}
-use Rattle.cell_ascii_reading.specs.declared.scanner.InLine.TheVariants.{Word, Feed, End}
+use Rattle.cell_ascii_reading.specs.declared.scanner.WordOrLineEnd.{WordOrLineEnd}
+use Rattle.cell_ascii_reading.specs.declared.scanner.WordOrLineEnd.TheVariants.{Word, Feed, End}
 use Rattle.cell_ascii_reading.proofs.MapLemmas.{chain, stays}
 use Rattle.cell_ascii_reading.proofs.StepLemmas.{room_still, smaller, step_reports}
 use Rattle.cell_ascii_reading.proofs.scanner.Scanner.skip_blanks.Goals as goal
 
 -- a result is not both a word and the end of the text
-word_end : (P : Type 0) (r : Result InLine GridFault) → r ≡ Ok Word → r ≡ Ok End → P
-word_end P r one other = cc
+word_or_failed_read : (P : Type 0) (r : Result WordOrLineEnd GridFault) → r ≡ Ok Word → r ≡ Ok End → P
+word_or_failed_read P r one other = cc
 
-feed_end : (P : Type 0) (r : Result InLine GridFault) → r ≡ Ok Feed → r ≡ Ok End → P
+feed_end : (P : Type 0) (r : Result WordOrLineEnd GridFault) → r ≡ Ok Feed → r ≡ Ok End → P
 feed_end P r one other = cc
 
-err_end : (P : Type 0) (r : Result InLine GridFault) (d : GridFault) → r ≡ Err d → r ≡ Ok End → P
+err_end : (P : Type 0) (r : Result WordOrLineEnd GridFault) (d : GridFault) → r ≡ Err d → r ≡ Ok End → P
 err_end P r d one other = cc
 
 pub blanks-init : goal.blanks-init
@@ -47,7 +47,7 @@ blanks-preserved g c =
       line = step.line ∙ c.blanks.invariant.line;
       run = c.in-Ok-Blank.ensures.step.run;
       word = step.word ∙ c.blanks.invariant.word;
-      sure = ap (λ (h : Heard). h.sure) c.in-Ok-Blank.ensures.heard ∙ c.blanks.invariant.sure;
+      sure = ap (λ (h : SourceKnowledge). h.sure) c.in-Ok-Blank.ensures.heard ∙ c.blanks.invariant.sure;
     }
 
 pub returns-in-Ok-Feed : goal.returns-in-Ok-Feed
@@ -71,7 +71,7 @@ returns-in-Ok-Word g c =
       line = step.line ∙ c.blanks.invariant.line;
       run = c.in-Ok-Word.ensures.step.run;
       word = step.word ∙ c.blanks.invariant.word;
-      end = λ e. word_end _ (Ok _) refl e;
+      end = λ e. word_or_failed_read _ (Ok _) refl e;
       kind = tt;
       heard = c.in-Ok-Word.ensures.heard ∙ ap (λ (sure : Bool). record { sure = sure; failed = false }) c.blanks.invariant.sure;
     }
@@ -99,5 +99,5 @@ returns-in-Err g c =
       word = step.word ∙ c.blanks.invariant.word;
       end = λ e. err_end _ (Err _) _ refl e;
       kind = c.in-Err.ensures.kind;
-      heard = c.in-Err.ensures.heard ∙ ap (λ (sure : Bool). record { sure = sure; failed = is_read c.in-Err.fault.kind }) c.blanks.invariant.sure;
+      heard = c.in-Err.ensures.heard ∙ ap (λ (sure : Bool). record { sure = sure; failed = is_failed_read c.in-Err.fault.kind }) c.blanks.invariant.sure;
     }

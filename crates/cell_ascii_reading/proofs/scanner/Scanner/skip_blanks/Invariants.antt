@@ -1,11 +1,12 @@
 use Rattle.std.proofs.Common.{◌≡◌, ◌-◌, ◌≤◌}
-use Rattle.cell_ascii_reading.specs.Ahead.{Agrees}
-use Rattle.cell_ascii_meaning.specs.Header.{gap_of}
+use Rattle.cell_ascii_reading.specs.Ahead.{ScanResultsBeforeAndAfterAgree}
+use Rattle.cell_ascii_meaning.specs.Header.{end_of_continued_blank_run}
 use Rattle.cell_ascii_reading.proofs.scanner.Scanner.skip_blanks.Given as goal
 
 abbrev pub invariant-blanks : goal.invariant-blanks
 invariant-blanks g l = record {
-  gap : Agrees (gap_of l.fn.self.line l.fn.self.run) l.fn.self.ahead (gap_of l.self.line l.self.run) l.self.ahead;
+  gap : ScanResultsBeforeAndAfterAgree (end_of_continued_blank_run l.fn.self.line l.fn.self.run) l.fn.self.ahead
+      (end_of_continued_blank_run l.self.line l.self.run) l.self.ahead;
   line : l.self.line ≡ l.fn.self.line;
   run : l.self.run ≤ 1048576;
   word : l.self.word ≡ l.fn.self.word;

@@ -1,18 +1,18 @@
 use Rattle.std.proofs.Common.{◌≡◌, ◌∙◌, ap, refl, Bool, false, Result, Ok, Err}
-use Rattle.cell_core_devices.specs.Asking.{Heard}
-use Rattle.cell_ascii_meaning.specs.Kinds.{is_read}
+use Rattle.cell_core_devices.specs.Asking.{SourceKnowledge}
+use Rattle.cell_ascii_meaning.specs.Kinds.{is_failed_read}
 use Rattle.cell_ascii_meaning.specs.declared.grid_fault.GridFault.{GridFault}
-use Rattle.cell_ascii_reading.specs.declared.scanner.Next.{Next}
-use Rattle.cell_ascii_reading.specs.declared.scanner.Next.TheVariants.{Word, End}
+use Rattle.cell_ascii_reading.specs.declared.scanner.WordOrTextEnd.{WordOrTextEnd}
+use Rattle.cell_ascii_reading.specs.declared.scanner.WordOrTextEnd.TheVariants.{Word, End}
 use Rattle.cell_ascii_reading.proofs.MapLemmas.{chain, stays}
 use Rattle.cell_ascii_reading.proofs.StepLemmas.{room_left, smaller, lines_still, lines_end, further_still, further_same, same_line, step_reports}
 use Rattle.cell_ascii_reading.proofs.scanner.Scanner.skip_spaces.Goals as goal
 
 -- a result is not both a word and the end of the text
-word_end : (P : Type 0) (r : Result Next GridFault) → r ≡ Ok Word → r ≡ Ok End → P
-word_end P r one other = cc
+word_or_failed_read : (P : Type 0) (r : Result WordOrTextEnd GridFault) → r ≡ Ok Word → r ≡ Ok End → P
+word_or_failed_read P r one other = cc
 
-err_end : (P : Type 0) (r : Result Next GridFault) (d : GridFault) → r ≡ Err d → r ≡ Ok End → P
+err_end : (P : Type 0) (r : Result WordOrTextEnd GridFault) (d : GridFault) → r ≡ Err d → r ≡ Ok End → P
 err_end P r d one other = cc
 
 pub spaces-init : goal.spaces-init
@@ -49,7 +49,7 @@ spaces-preserved-in-Ok-Blank g c =
       run = c.in-Ok-Blank.ensures.step.run;
       further = further_still o.run s.run t.run c.spaces.invariant.further step.run;
       word = step.word ∙ c.spaces.invariant.word;
-      sure = ap (λ (h : Heard). h.sure) c.in-Ok-Blank.ensures.heard ∙ c.spaces.invariant.sure;
+      sure = ap (λ (h : SourceKnowledge). h.sure) c.in-Ok-Blank.ensures.heard ∙ c.spaces.invariant.sure;
     }
 
 pub spaces-smaller : goal.spaces-smaller
@@ -69,7 +69,7 @@ spaces-preserved g c =
       run = c.in-Ok-Feed.ensures.step.run;
       further = further_still o.run s.run t.run c.spaces.invariant.further step.run;
       word = step.word ∙ c.spaces.invariant.word;
-      sure = ap (λ (h : Heard). h.sure) c.in-Ok-Feed.ensures.heard ∙ c.spaces.invariant.sure;
+      sure = ap (λ (h : SourceKnowledge). h.sure) c.in-Ok-Feed.ensures.heard ∙ c.spaces.invariant.sure;
     }
 
 pub returns-in-Ok-Word : goal.returns-in-Ok-Word
@@ -84,7 +84,7 @@ returns-in-Ok-Word g c =
       run = c.in-Ok-Word.ensures.step.run;
       further = further_same o.run s.run t.run c.spaces.invariant.further step.run;
       word = step.word ∙ c.spaces.invariant.word;
-      end = λ e. word_end _ (Ok _) refl e;
+      end = λ e. word_or_failed_read _ (Ok _) refl e;
       kind = tt;
       heard = c.in-Ok-Word.ensures.heard ∙ ap (λ (sure : Bool). record { sure = sure; failed = false }) c.spaces.invariant.sure;
     }
@@ -120,5 +120,5 @@ returns-in-Err g c =
       word = step.word ∙ c.spaces.invariant.word;
       end = λ e. err_end _ (Err _) _ refl e;
       kind = c.in-Err.ensures.kind;
-      heard = c.in-Err.ensures.heard ∙ ap (λ (sure : Bool). record { sure = sure; failed = is_read c.in-Err.fault.kind }) c.spaces.invariant.sure;
+      heard = c.in-Err.ensures.heard ∙ ap (λ (sure : Bool). record { sure = sure; failed = is_failed_read c.in-Err.fault.kind }) c.spaces.invariant.sure;
     }

@@ -1,12 +1,12 @@
 use Rattle.std.proofs.Common.{◌≡◌, ◌+◌, ◌-◌, ◌≤◌}
-use Rattle.cell_ascii_reading.specs.Ahead.{Agrees}
-use Rattle.cell_ascii_meaning.specs.GridTokens.{grid_start}
+use Rattle.cell_ascii_reading.specs.Ahead.{ScanResultsBeforeAndAfterAgree}
+use Rattle.cell_ascii_meaning.specs.GridTokens.{next_word_start}
 use Rattle.cell_ascii_reading.proofs.scanner.Scanner.skip_spaces.Given as goal
 
 abbrev pub invariant-spaces : goal.invariant-spaces
 invariant-spaces g l = record {
-  starts : Agrees (grid_start l.fn.self.line l.fn.self.run) l.fn.self.ahead
-      (grid_start l.self.line l.self.run) l.self.ahead;
+  starts : ScanResultsBeforeAndAfterAgree (next_word_start l.fn.self.line l.fn.self.run) l.fn.self.ahead
+      (next_word_start l.self.line l.self.run) l.self.ahead;
   lines : l.self.line + l.fn.self.run ≤ l.fn.self.line + l.self.run;
   run : l.self.run ≤ 1048576;
   further : l.fn.self.run ≤ l.self.run;

@@ -2,11 +2,11 @@ use Rattle.std.proofs.Common.{◌≡◌, ◌≢◌, ℕ, ◌+◌, ◌<◌, ◌�
 use Rattle.std.proofs.lemmas.Bool.Decides.{nat_tests}
 use Rattle.std.proofs.lemmas.Result.{err_from_is_err_and}
 use Rattle.std.proofs.lemmas.Option.{slice_get_within}
-use Rattle.cell_ascii_meaning.specs.GridTokens.{grid_fault}
-use Rattle.cell_ascii_reading.specs.parts.ScanSteps.{step_of}
-use Rattle.cell_ascii_reading.specs.Ahead.{bytes_to_come}
-use Rattle.cell_ascii_reading.specs.Scan.{Scan}
-use Rattle.cell_ascii_reading.specs.declared.scanner.ScanStep.TheVariants.{Blank, Feed, Word, End}
+use Rattle.cell_ascii_meaning.specs.GridTokens.{grid_fault_at_line}
+use Rattle.cell_ascii_reading.specs.parts.ScanSteps.{scan_step_and_rest_after_blanks}
+use Rattle.cell_ascii_reading.specs.Ahead.{bytes_to_come_for_content}
+use Rattle.cell_ascii_reading.specs.Scan.{ScannerState}
+use Rattle.cell_ascii_reading.specs.declared.scanner.ScanStepResult.TheVariants.{Blank, Feed, Word, End}
 use Rattle.cell_ascii_meaning.specs.declared.grid_fault.GridKind.TheVariants.{Read, ReaderStuck}
 use Rattle.cell_ascii_reading.proofs.ComingLemmas.{at_byte, past_byte, at_end}
 use Rattle.cell_ascii_reading.proofs.MapLemmas.{chain, unmoved}
@@ -31,8 +31,10 @@ returns-in_err-b-clause-step g c =
     rw (p.1, p.2, c.in_err-b.ensures.fault) (record {
       value =
           chain _ _ _ _ _ _
-          (unmoved (step_of s.line s.run) (bytes_to_come s.ahead) (bytes_to_come t.ahead) c.in_err-b.ensures.same)
-          (at_end (step_of s.line s.run) (λ d. (Err (grid_fault Read s.line), d)) (bytes_to_come t.ahead) true
+          (unmoved (scan_step_and_rest_after_blanks s.line s.run) (bytes_to_come_for_content s.ahead)
+          (bytes_to_come_for_content t.ahead) c.in_err-b.ensures.same)
+          (at_end (scan_step_and_rest_after_blanks s.line s.run) (λ d. (Err (grid_fault_at_line Read s.line), d))
+          (bytes_to_come_for_content t.ahead) true
           c.in_err-b.ensures.failed (step-fails s.line s.run));
       scan = c.peek.ensures.scan;
       run = rw c.peek.ensures.scan c.requires.run;
@@ -53,8 +55,11 @@ returns-in_default-clause-step g c =
     record {
       value =
           chain _ _ _ _ _ _
-          (unmoved (step_of s.line s.run) (bytes_to_come s.ahead) (bytes_to_come t.ahead) c.in_ok-b.ensures.same)
-          (at_end (step_of s.line s.run) (λ d. (Ok End, d)) (bytes_to_come t.ahead) false end (step-ends s.line s.run));
+          (unmoved (scan_step_and_rest_after_blanks s.line s.run) (bytes_to_come_for_content s.ahead)
+          (bytes_to_come_for_content t.ahead) c.in_ok-b.ensures.same)
+          (at_end (scan_step_and_rest_after_blanks s.line s.run) (λ d. (Ok End, d))
+          (bytes_to_come_for_content t.ahead) false end
+          (step-ends s.line s.run));
       scan = c.peek.ensures.scan;
       run = rw c.peek.ensures.scan c.requires.run;
       end = end;
@@ -68,9 +73,10 @@ returns-then-not-is_space-clause-step g c =
     let word = sym c.is_space.ensures ∙ c.if-not-is_space.true in
     record {
       value =
-          chain _ _ _ _ _ _ (unmoved (step_of s.line s.run) (bytes_to_come s.ahead)
-          (bytes_to_come c.peek.new.self.ahead) c.in_ok-b.ensures.same)
-          (at_byte (step_of s.line s.run) (λ d. (Ok Word, d)) c.peek.new.self.ahead c.in-Some.b buffered
+          chain _ _ _ _ _ _ (unmoved (scan_step_and_rest_after_blanks s.line s.run) (bytes_to_come_for_content s.ahead)
+          (bytes_to_come_for_content c.peek.new.self.ahead) c.in_ok-b.ensures.same)
+          (at_byte (scan_step_and_rest_after_blanks s.line s.run)
+          (λ d. (Ok Word, d)) c.peek.new.self.ahead c.in-Some.b buffered
           (λ bs f. step-byte s.line s.run c.in-Some.b bs f word refl refl));
       scan = c.peek.ensures.scan;
       run = rw c.peek.ensures.scan c.requires.run;
@@ -82,14 +88,16 @@ pub returns-then-self-ge1048576-clause-step : goal.returns-then-self-ge1048576-c
 returns-then-self-ge1048576-clause-step g c =
     let s = c.args.self.now in
     let was = c.self.view_is ∙ c.in_ok-b.ensures.scan in
-    let full = no_room s.run (rw (ap (λ (v : Scan). v.run) was) at c.if-self-ge1048576.true) in
+    let full = no_room s.run (rw (ap (λ (v : ScannerState). v.run) was) at c.if-self-ge1048576.true) in
     let buffered = rw c.in-Some.is at c.in_ok-b.ensures.byte in
     let space = sym c.is_space.ensures ∙ c.if-not-is_space.false in
     record {
-      value = rw (ap (λ (v : Scan). v.line) was)
-          (chain _ _ _ _ _ _ (unmoved (step_of s.line s.run) (bytes_to_come s.ahead)
-          (bytes_to_come c.peek.new.self.ahead) c.in_ok-b.ensures.same)
-          (at_byte (step_of s.line s.run) (λ d. (Err (grid_fault ReaderStuck s.line), d)) c.peek.new.self.ahead
+      value = rw (ap (λ (v : ScannerState). v.line) was)
+          (chain _ _ _ _ _ _ (unmoved (scan_step_and_rest_after_blanks s.line s.run) (bytes_to_come_for_content s.ahead)
+          (bytes_to_come_for_content c.peek.new.self.ahead) c.in_ok-b.ensures.same)
+          (at_byte (scan_step_and_rest_after_blanks s.line s.run)
+          (λ d. (Err (grid_fault_at_line ReaderStuck s.line), d))
+          c.peek.new.self.ahead
           c.in-Some.b buffered
           (λ bs f. step-byte s.line s.run c.in-Some.b bs f space full refl)));
       scan = c.peek.ensures.scan;
@@ -102,19 +110,22 @@ pub returns-then-b-eq10-clause-step : goal.returns-then-b-eq10-clause-step
 returns-then-b-eq10-clause-step g c =
     let s = c.args.self.now in
     let was = c.self.view_is ∙ c.in_ok-b.ensures.scan in
-    let buffered_then = c.pass_byte.ensures.buffered ∙ ap (λ (v : Scan). drop 1 v.ahead.buffered) c.self.view_is in
-    let rest_then = c.pass_byte.ensures.rest ∙ ap (λ (v : Scan). v.ahead.rest) c.self.view_is in
-    let room = has_room s.run (rw (ap (λ (v : Scan). v.run) was) at c.if-self-ge1048576.false) in
+    let buffered_then = c.skip_byte.ensures.buffered ∙ ap (λ (v : ScannerState). drop 1 v.ahead.buffered)
+    c.self.view_is in
+    let rest_then = c.skip_byte.ensures.rest ∙ ap (λ (v : ScannerState). v.ahead.rest) c.self.view_is in
+    let room = has_room s.run (rw (ap (λ (v : ScannerState). v.run) was) at c.if-self-ge1048576.false) in
     let buffered = rw c.in-Some.is at c.in_ok-b.ensures.byte in
     let space = sym c.is_space.ensures ∙ c.if-not-is_space.false in
     record {
       value =
-          chain _ _ _ _ _ _ (unmoved (step_of s.line s.run) (bytes_to_come s.ahead)
-          (bytes_to_come c.peek.new.self.ahead) c.in_ok-b.ensures.same)
-          (past_byte (step_of s.line s.run) (λ d. (Ok Feed, d)) c.peek.new.self.ahead c.pass_byte.new.self
+          chain _ _ _ _ _ _ (unmoved (scan_step_and_rest_after_blanks s.line s.run) (bytes_to_come_for_content s.ahead)
+          (bytes_to_come_for_content c.peek.new.self.ahead) c.in_ok-b.ensures.same)
+          (past_byte (scan_step_and_rest_after_blanks s.line s.run)
+          (λ d. (Ok Feed, d)) c.peek.new.self.ahead c.skip_byte.new.self
           c.in-Some.b buffered buffered_then rest_then
           (λ bs f. step-byte s.line s.run c.in-Some.b bs f space room (is_ten c.in-Some.b c.if-b-eq10.true)));
-      scan = ap (λ (v : Scan). record v { line = v.line + 1; run = v.run + 1; ahead = c.pass_byte.new.self }) was;
+      scan = ap (λ (v : ScannerState). record v { line = v.line + 1; run = v.run + 1; ahead = c.skip_byte.new.self })
+          was;
       run = up_to _ _ c.if-self-ge1048576.false;
       end = tt;
     }
@@ -124,27 +135,29 @@ pub returns-clause-step : goal.returns-clause-step
 returns-clause-step g c =
     let s = c.args.self.now in
     let was = c.self.view_is ∙ c.in_ok-b.ensures.scan in
-    let buffered_then = c.pass_byte.ensures.buffered ∙ ap (λ (v : Scan). drop 1 v.ahead.buffered) c.self.view_is in
-    let rest_then = c.pass_byte.ensures.rest ∙ ap (λ (v : Scan). v.ahead.rest) c.self.view_is in
-    let room = has_room s.run (rw (ap (λ (v : Scan). v.run) was) at c.if-self-ge1048576.false) in
+    let buffered_then = c.skip_byte.ensures.buffered ∙ ap (λ (v : ScannerState). drop 1 v.ahead.buffered)
+    c.self.view_is in
+    let rest_then = c.skip_byte.ensures.rest ∙ ap (λ (v : ScannerState). v.ahead.rest) c.self.view_is in
+    let room = has_room s.run (rw (ap (λ (v : ScannerState). v.run) was) at c.if-self-ge1048576.false) in
     let buffered = rw c.in-Some.is at c.in_ok-b.ensures.byte in
     let space = sym c.is_space.ensures ∙ c.if-not-is_space.false in
     record {
       value =
-          chain _ _ _ _ _ _ (unmoved (step_of s.line s.run) (bytes_to_come s.ahead)
-          (bytes_to_come c.peek.new.self.ahead) c.in_ok-b.ensures.same)
-          (past_byte (step_of s.line s.run) (λ d. (Ok Blank, d)) c.peek.new.self.ahead c.pass_byte.new.self
+          chain _ _ _ _ _ _ (unmoved (scan_step_and_rest_after_blanks s.line s.run) (bytes_to_come_for_content s.ahead)
+          (bytes_to_come_for_content c.peek.new.self.ahead) c.in_ok-b.ensures.same)
+          (past_byte (scan_step_and_rest_after_blanks s.line s.run)
+          (λ d. (Ok Blank, d)) c.peek.new.self.ahead c.skip_byte.new.self
           c.in-Some.b buffered buffered_then rest_then
           (λ bs f. step-byte s.line s.run c.in-Some.b bs f space room (not_ten c.in-Some.b c.if-b-eq10.false)));
-      scan = ap (λ (v : Scan). record v { run = v.run + 1; ahead = c.pass_byte.new.self }) was;
+      scan = ap (λ (v : ScannerState). record v { run = v.run + 1; ahead = c.skip_byte.new.self }) was;
       run = up_to _ _ c.if-self-ge1048576.false;
       end = tt;
     }
 
-pub pass_byte-requires : goal.pass_byte-requires
-pass_byte-requires g c =
+pub skip_byte-requires : goal.skip_byte-requires
+skip_byte-requires g c =
     let buffered = rw c.in-Some.is at c.in_ok-b.ensures.byte in
-    rw (ap (λ (v : Scan). v.ahead.buffered) c.self.view_is) (slice_get_within c.peek.new.self.ahead.buffered 0 c.in-Some.b buffered)
+    rw (ap (λ (v : ScannerState). v.ahead.buffered) c.self.view_is) (slice_get_within c.peek.new.self.ahead.buffered 0 c.in-Some.b buffered)
 
 pub invariant_of-self : goal.invariant_of-self
 invariant_of-self g c = (up_to _ _ c.if-self-ge1048576.false, c.self.invariant.1)

@@ -3,8 +3,8 @@ use Rattle.std.proofs.lemmas.List.Elements.{All-same, All-push, All-drop}
 use Rattle.cell_calc.proofs.Waiting.{of_front, as_many, as_many_left, has_room, room_swaps, swapped, let_go, not_let_go}
 use Rattle.cell_calc.proofs.window_rows.WindowRows.release.Goals as goal
 
-pub put_row_last-requires : goal.put_row_last-requires
-put_row_last-requires c =
+pub append_row_to_ring-requires : goal.append_row_to_ring-requires
+append_row_to_ring-requires c =
     let rows = c.self.inside.rows.items in
     let waiting = c.self.inside.waiting.items in
     has_room waiting rows c.in-Some.row _ (sym c.pop_front.ensures.value ∙ c.in-Some.is)
@@ -15,9 +15,10 @@ invariant_of-self c =
     let rows = c.self.inside.rows.items in
     let waiting = c.self.inside.waiting.items in
     let front = sym c.pop_front.ensures.value ∙ c.in-Some.is in
-    let is_more = ap (λ b. b.items) c.put_row_last.ensures in
+    let is_more = ap (λ b. b.items) c.append_row_to_ring.ensures in
     let is_rest = ap (λ b. b.items) c.pop_front.ensures.items in
-    let same = as_many waiting rows c.put_row_last.new.ring.items c.pop_front.new.self.items c.in-Some.row c.in-Some.row
+    let same = as_many waiting rows c.append_row_to_ring.new.ring.items c.pop_front.new.self.items c.in-Some.row
+    c.in-Some.row
     front is_more is_rest in
     let wide = of_front (λ row. length row.items ≡ c.self.inside.cols) rows c.in-Some.row front
     c.self.invariant.width in
@@ -30,7 +31,7 @@ invariant_of-self c =
       room = room_swaps _ _ (length waiting) (length rows) _ _ same (ap (λ b. b.capacity) c.pop_front.ensures.items)
           c.self.invariant.room;
       room_waiting =
-          room_swaps _ _ (length waiting) (length rows) _ _ same (ap (λ b. b.capacity) c.put_row_last.ensures)
+          room_swaps _ _ (length waiting) (length rows) _ _ same (ap (λ b. b.capacity) c.append_row_to_ring.ensures)
           c.self.invariant.room_waiting;
     }
 
@@ -43,9 +44,10 @@ returns-in-Some c = record {
       let rows = c.self.inside.rows.items in
       let waiting = c.self.inside.waiting.items in
       let front = sym c.pop_front.ensures.value ∙ c.in-Some.is in
-      let same = as_many waiting rows c.put_row_last.new.ring.items c.pop_front.new.self.items c.in-Some.row c.in-Some.row
-      front (ap (λ b. b.items) c.put_row_last.ensures) (ap (λ b. b.items) c.pop_front.ensures.items) in
-      as_many_left (λ row. row.items) waiting rows c.put_row_last.new.ring.items c.pop_front.new.self.items _ _ same
+      let same = as_many waiting rows c.append_row_to_ring.new.ring.items c.pop_front.new.self.items c.in-Some.row c.in-Some.row
+      front (ap (λ b. b.items) c.append_row_to_ring.ensures) (ap (λ b. b.items) c.pop_front.ensures.items) in
+      as_many_left (λ row. row.items) waiting rows c.append_row_to_ring.new.ring.items c.pop_front.new.self.items _ _
+      same
       (ap (λ k. k.rows) c.self.view_is) (ap (λ k. k.free) c.self.view_is);
   cols = ap (λ k. k.cols) c.self.view_is;
 }

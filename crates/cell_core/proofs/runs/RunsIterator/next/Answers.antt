@@ -2,9 +2,9 @@ use Rattle.std.proofs.Common.{◌≡◌, ◌∙◌, ◌+◌, ◌-◌, ◌*◌, �
 use Rattle.std.proofs.lemmas.List.{nil_from_length, length-map, take-map, drop-map}
 use Rattle.cell_core.specs.Runs.{RunValue}
 use Rattle.cell_core.specs.Grid.{CellValue}
-use Rattle.cell_core.specs.parts.RowForms.{alike, runs_in, runs_left, IsShort}
-use Rattle.cell_core_values.specs.SmallCells.{byte_cell, cells_of_bytes}
-use Rattle.cell_core.proofs.RowLemmas.{runs_in-rest}
+use Rattle.cell_core.specs.parts.RowForms.{alike, runs_of_cells, runs_left, RemainingCellsFitInU32}
+use Rattle.cell_core_values.specs.SmallCells.{cell_of_stored_byte, cells_of_bytes}
+use Rattle.cell_core.proofs.RowLemmas.{runs_of_cells-rest}
 use Rattle.cell_core.proofs.runs.RunsIterator.next.Goals as goal
 
 fewer : (run : RunValue) (runs all : List RunValue) → all ≡ run ∷ runs → length runs < length all
@@ -24,17 +24,17 @@ short_rest : (cells : List CellValue) (n : ℕ) {all : ℕ} → length cells + 1
 short_rest cells n one short = omega (arith, length-take (length cells - n) (drop n cells), length-drop n cells)
 
 -- the runs of bytes are the first run and the runs of the bytes after it
-bytes_rest : (b : ℕ) (bytes : List ℕ) (cell : CellValue) (n : ℕ) → cell ≡ byte_cell b
-    → n ≡ alike cell (cells_of_bytes bytes) → runs_in (cells_of_bytes (b ∷ bytes))
-    ≡ (cell, 1 + n) ∷ runs_in (cells_of_bytes (take (length bytes - n) (drop n bytes)))
+bytes_rest : (b : ℕ) (bytes : List ℕ) (cell : CellValue) (n : ℕ) → cell ≡ cell_of_stored_byte b
+    → n ≡ alike cell (cells_of_bytes bytes) → runs_of_cells (cells_of_bytes (b ∷ bytes))
+    ≡ (cell, 1 + n) ∷ runs_of_cells (cells_of_bytes (take (length bytes - n) (drop n bytes)))
 bytes_rest b bytes cell n stands same =
     let cells = cells_of_bytes bytes in
     let part : take (length cells - n) (drop n cells) ≡ cells_of_bytes (take (length bytes - n) (drop n bytes)) =
-    ap (λ k. take (k - n) (drop n cells)) (length-map bytes byte_cell)
-    ∙ ap (take (length bytes - n)) (drop-map byte_cell n bytes)
-    ∙ take-map byte_cell (length bytes - n) (drop n bytes) in
-    ap (λ x. runs_in (x ∷ cells)) (sym stands) ∙ runs_in-rest cell cells n same
-    ∙ ap (λ l. (cell, 1 + n) ∷ runs_in l) part
+    ap (λ k. take (k - n) (drop n cells)) (length-map bytes cell_of_stored_byte)
+    ∙ ap (take (length bytes - n)) (drop-map cell_of_stored_byte n bytes)
+    ∙ take-map cell_of_stored_byte (length bytes - n) (drop n bytes) in
+    ap (λ x. runs_of_cells (x ∷ cells)) (sym stands) ∙ runs_of_cells-rest cell cells n same
+    ∙ ap (λ l. (cell, 1 + n) ∷ runs_of_cells l) part
 
 pub returns-in_err-first-in-Runs-clause-steps : goal.returns-in_err-first-in-Runs-clause-steps
 returns-in_err-first-in-Runs-clause-steps c =
@@ -49,7 +49,7 @@ returns-in_err-first-in-Runs-clause-goes c =
 pub returns-in_err-first-in-Cells-clause-steps : goal.returns-in_err-first-in-Cells-clause-steps
 returns-in_err-first-in-Cells-clause-steps c =
     let none = nil_from_length c.in-Cells.cells.now c.in_err-first-in-Cells.ensures.cases in
-    let all = sym c.self.view_is ∙ ap runs_left c.in-Cells.is ∙ ap runs_in none in
+    let all = sym c.self.view_is ∙ ap runs_left c.in-Cells.is ∙ ap runs_of_cells none in
     rw c.from_residual-in_err-first-in-Cells.ensures (all, all)
 
 pub returns-in_err-first-in-Cells-clause-goes : goal.returns-in_err-first-in-Cells-clause-goes
@@ -58,26 +58,33 @@ returns-in_err-first-in-Cells-clause-goes c =
 
 pub offset_bounds-others-alike : goal.offset_bounds-others-alike
 offset_bounds-others-alike c =
-    let short = subst IsShort c.in-Cells.is c.self.invariant in
-    record { fits = small_bytes (small c.count_alike-alike.ensures.within c.in_ok-first-in-Cells.ensures.cases.1 short) }
+    let short = subst RemainingCellsFitInU32 c.in-Cells.is c.self.invariant in
+    record { fits = small_bytes (small c.count_leading_equal_cells-alike.ensures.within c.in_ok-first-in-Cells.ensures.cases.1 short) }
 
 pub slice_bounds-self-count : goal.slice_bounds-self-count
-slice_bounds-self-count c = c.count_alike-alike.ensures.within
+slice_bounds-self-count c = c.count_leading_equal_cells-alike.ensures.within
 
 pub overflow_cast-result : goal.overflow_cast-result
 overflow_cast-result c =
-    let short = subst IsShort c.in-Cells.is c.self.invariant in
-    record { fits = small c.count_alike-alike.ensures.within c.in_ok-first-in-Cells.ensures.cases.1 short }
+    let short = subst RemainingCellsFitInU32 c.in-Cells.is c.self.invariant in
+    record {
+      fits = small c.count_leading_equal_cells-alike.ensures.within c.in_ok-first-in-Cells.ensures.cases.1
+          short;
+    }
 
 pub overflow_add-result : goal.overflow_add-result
 overflow_add-result c =
-    let short = subst IsShort c.in-Cells.is c.self.invariant in
-    record { fits = small_next c.count_alike-alike.ensures.within c.in_ok-first-in-Cells.ensures.cases.1 short }
+    let short = subst RemainingCellsFitInU32 c.in-Cells.is c.self.invariant in
+    record {
+      fits = small_next c.count_leading_equal_cells-alike.ensures.within c.in_ok-first-in-Cells.ensures.cases.1
+          short;
+    }
 
 pub invariant_of-self-in-Cells : goal.invariant_of-self-in-Cells
 invariant_of-self-in-Cells c =
-    let short = subst IsShort c.in-Cells.is c.self.invariant in
-    short_rest c.in_ok-first-in-Cells.others.now c.count_alike-alike.result c.in_ok-first-in-Cells.ensures.cases.1 short
+    let short = subst RemainingCellsFitInU32 c.in-Cells.is c.self.invariant in
+    short_rest c.in_ok-first-in-Cells.others.now c.count_leading_equal_cells-alike.result
+    c.in_ok-first-in-Cells.ensures.cases.1 short
 
 pub returns-in_ok-first-in-Runs-clause-steps : goal.returns-in_ok-first-in-Runs-clause-steps
 returns-in_ok-first-in-Runs-clause-steps c =
@@ -95,15 +102,17 @@ returns-in_ok-first-in-Runs-clause-goes c =
 pub returns-in_ok-first-in-Cells-clause-steps : goal.returns-in_ok-first-in-Cells-clause-steps
 returns-in_ok-first-in-Cells-clause-steps c =
     let arm = c.in_ok-first-in-Cells in
-    sym c.self.view_is ∙ ap runs_left c.in-Cells.is ∙ ap runs_in arm.ensures.cases.0
-    ∙ runs_in-rest arm.first.now arm.others.now c.count_alike-alike.result c.count_alike-alike.ensures.value
+    sym c.self.view_is ∙ ap runs_left c.in-Cells.is ∙ ap runs_of_cells arm.ensures.cases.0
+    ∙ runs_of_cells-rest arm.first.now arm.others.now c.count_leading_equal_cells-alike.result
+    c.count_leading_equal_cells-alike.ensures.value
 
 pub returns-in_ok-first-in-Cells-clause-goes : goal.returns-in_ok-first-in-Cells-clause-goes
 returns-in_ok-first-in-Cells-clause-goes c =
     let arm = c.in_ok-first-in-Cells in
     let first =
-    sym c.self.view_is ∙ ap runs_left c.in-Cells.is ∙ ap runs_in arm.ensures.cases.0
-    ∙ runs_in-rest arm.first.now arm.others.now c.count_alike-alike.result c.count_alike-alike.ensures.value in
+    sym c.self.view_is ∙ ap runs_left c.in-Cells.is ∙ ap runs_of_cells arm.ensures.cases.0
+    ∙ runs_of_cells-rest arm.first.now arm.others.now c.count_leading_equal_cells-alike.result
+    c.count_leading_equal_cells-alike.ensures.value in
     record {
       on = λ finite. (tt, tt, fewer _ _ _ first);
       keeps = tt;
@@ -114,18 +123,18 @@ pub returns-in_ok-first-in-Bytes-clause-steps : goal.returns-in_ok-first-in-Byte
 returns-in_ok-first-in-Bytes-clause-steps c =
     let arm = c.in_ok-first-in-Bytes in
     sym c.self.view_is ∙ ap runs_left c.in-Bytes.is
-    ∙ ap (λ bytes. runs_in (cells_of_bytes bytes)) arm.ensures.cases.0
-    ∙ bytes_rest arm.first.now arm.others.now c.cell_of_byte-cell.result c.count_alike_bytes-alike.result
-    c.cell_of_byte-cell.ensures c.count_alike_bytes-alike.ensures.value
+    ∙ ap (λ bytes. runs_of_cells (cells_of_bytes bytes)) arm.ensures.cases.0
+    ∙ bytes_rest arm.first.now arm.others.now c.cell_of_byte-cell.result c.count_leading_bytes_of_cell-alike.result
+    c.cell_of_byte-cell.ensures c.count_leading_bytes_of_cell-alike.ensures.value
 
 pub returns-in_ok-first-in-Bytes-clause-goes : goal.returns-in_ok-first-in-Bytes-clause-goes
 returns-in_ok-first-in-Bytes-clause-goes c =
     let arm = c.in_ok-first-in-Bytes in
     let first =
     sym c.self.view_is ∙ ap runs_left c.in-Bytes.is
-    ∙ ap (λ bytes. runs_in (cells_of_bytes bytes)) arm.ensures.cases.0
-    ∙ bytes_rest arm.first.now arm.others.now c.cell_of_byte-cell.result c.count_alike_bytes-alike.result
-    c.cell_of_byte-cell.ensures c.count_alike_bytes-alike.ensures.value in
+    ∙ ap (λ bytes. runs_of_cells (cells_of_bytes bytes)) arm.ensures.cases.0
+    ∙ bytes_rest arm.first.now arm.others.now c.cell_of_byte-cell.result c.count_leading_bytes_of_cell-alike.result
+    c.cell_of_byte-cell.ensures c.count_leading_bytes_of_cell-alike.ensures.value in
     record {
       on = λ finite. (tt, tt, fewer _ _ _ first);
       keeps = tt;

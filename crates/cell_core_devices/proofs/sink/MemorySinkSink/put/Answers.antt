@@ -40,12 +40,12 @@ returns-then-n-eq0-clause-full c =
 pub returns-then-n-eq0-clause-taken : goal.returns-then-n-eq0-clause-taken
 returns-then-n-eq0-clause-taken c = rw (← c.self.view_is) refl
 
-pub slice_bounds-write_at-end : goal.slice_bounds-write_at-end
-slice_bounds-write_at-end c =
+pub slice_bounds-write_bytes_at-end : goal.slice_bounds-write_bytes_at-end
+slice_bounds-write_bytes_at-end c =
     sym (length-take-le c.min-n.result c.args.bytes.now (few _ _ _ c.min.ensures c.min-n.ensures).0)
 
-pub write_at-requires : goal.write_at-requires
-write_at-requires c =
+pub write_bytes_at-requires : goal.write_bytes_at-requires
+write_bytes_at-requires c =
     let h = few _ _ _ c.min.ensures c.min-n.ensures in
     let here = reaches c.self.invariant.0 (c.len.ensures ∙ c.self.inside.room.ok.0) in
     rw (length-take-le c.min-n.result c.args.bytes.now h.0)
@@ -62,8 +62,8 @@ invariant_of-self-2 c =
     let i = c.self.inside in
     let h = few _ _ _ c.min.ensures c.min-n.ensures in
     let here = reaches c.self.invariant.0 (c.len.ensures ∙ i.room.ok.0) in
-    let len = c.write_at.ensures.len ∙ c.deref_mut.ensures.len in
-    let count = ap length (with_items_is i.room c.write_at.new.room len) ∙ len ∙ sym c.len.ensures in
+    let len = c.write_bytes_at.ensures.len ∙ c.deref_mut.ensures.len in
+    let count = ap length (with_items_is i.room c.write_bytes_at.new.room len) ∙ len ∙ sym c.len.ensures in
     (reaches (within here h.1) count, c.self.invariant.1)
 
 pub returns-clause-count : goal.returns-clause-count
@@ -80,13 +80,13 @@ returns-clause-taken c =
     let i = c.self.inside in
     let n = c.min-n.result in
     let given = c.args.bytes.now in
-    let room = c.write_at.new.room in
-    let len = c.write_at.ensures.len ∙ c.deref_mut.ensures.len in
+    let room = c.write_bytes_at.new.room in
+    let len = c.write_bytes_at.ensures.len ∙ c.deref_mut.ensures.len in
     let items = with_items_is i.room room len in
     let count = length-take-le n given (few _ _ _ c.min.ensures c.min-n.ensures).0 in
     let front : take (i.at + n) room ≡ take i.at i.room.items ++ take n given =
     ap (λ (k : ℕ). take (i.at + k) room) (sym count)
-    ∙ c.write_at.ensures.front
+    ∙ c.write_bytes_at.ensures.front
     ∙ ap (λ (xs : List ℕ). take i.at xs ++ take n given) c.deref_mut.ensures.value in
     rw (← c.self.view_is)
     (ap₂

@@ -5,7 +5,7 @@ use Rattle.std.proofs.lemmas.Bool.{eqb-true, eq-eqb}
 use Rattle.std.proofs.lemmas.List.{drop-drop, length-take-le, nil_from_length}
 use Rattle.std.specs.Bool.{◌==◌}
 use Rattle.cell_core_devices.specs.declared.source.Asked.{Asked}
-use Rattle.cell_core_devices.specs.Device.{Coming, Gives, after_bytes}
+use Rattle.cell_core_devices.specs.Device.{ComingBytes, SourceGivesBytes, bytes_to_come_after_reading}
 use Rattle.cell_core_devices.proofs.DeviceLemmas.{whole_rest}
 use Rattle.cell_core_devices.proofs.source.MemorySourceSource.take.Goals as goal
 use Rattle.cell_core_devices.proofs.source.MemorySourceSource.take.Goals.{else-is_empty-via-then-is_empty+else-self, else-is_empty-via-else-is_empty}
@@ -30,10 +30,10 @@ below most same small = omega arith
 not_none : (rest : List ℕ) (fails : Bool) → false ≡ (length rest == 0) → length rest ≡ 0 → fails ≡ false
 not_none rest fails e none = absurd (true≢false (sym (e ∙ eq-eqb (length rest) 0 none)))
 
-gives : (bytes buf new : List ℕ) (fails : Bool) (left : Option Coming) (n : ℕ) → n ≤ length bytes
-    → left ≡ Some (after_bytes (record { bytes = bytes; fails = fails }) n) → new ≡ take n bytes
+gives : (bytes buf new : List ℕ) (fails : Bool) (left : Option ComingBytes) (n : ℕ) → n ≤ length bytes
+    → left ≡ Some (bytes_to_come_after_reading (record { bytes = bytes; fails = fails }) n) → new ≡ take n bytes
     → (n ≡ 0 → bytes ≡ []) → (n ≡ 0 → fails ≡ false)
-    → Gives (record { bytes = bytes; fails = fails }) left n (new ++ drop n buf)
+    → SourceGivesBytes (record { bytes = bytes; fails = fails }) left n (new ++ drop n buf)
 gives bytes buf new fails left n count rest given end ends =
     let len : length new ≡ n = ap length given ∙ length-take-le n bytes count in
     record {
@@ -141,4 +141,4 @@ returns-clause-rest c =
     (ap₂
     (λ (xs : List ℕ) (asked : Asked). record { bytes = xs; fails = i.fails; piece = i.piece; asked = asked })
     (sym (drop-drop c.min-n.result i.at i.bytes.items))
-    c.after_answer-self-inside-2.ensures)
+    c.progress_after_answer-self-inside-2.ensures)

@@ -1,10 +1,10 @@
 use Rattle.std.proofs.Common.{◌≡◌, ◌+◌, ◌<◌, ◌≤◌, List, ℕ, length, Vec, Global, Bool, true, None, Some, Result, Ok, Err, OnOk, OnErr, IfErr, is_ok, ◌++◌, ◌∷◌, [], ap, sym, subst, ◌∙◌, arith}
 use Rattle.std.proofs.Math.Bool.{true≢false}
 use Rattle.std.specs.Prelude.{if◌then◌else◌}
-use Rattle.cell_core_values.specs.Name.{place_of}
-use Rattle.cell_core_values.specs.parts.NamePlaces.{ArePlaces}
+use Rattle.cell_core_values.specs.Name.{place_of_name}
+use Rattle.cell_core_values.specs.parts.NamePlaces.{ArePlacesOfNames}
 use Rattle.cell_core_values.proofs.NameLemmas.{AreDistinct-push}
-use Rattle.cell_core_values.proofs.PlaceLemmas.{ArePlaces-push}
+use Rattle.cell_core_values.proofs.PlaceLemmas.{ArePlacesOfNames-push}
 use Rattle.cell_core_values.proofs.name.Names.push_or_return.Goals as goal
 
 room : {n most : ℕ} → n + 1 ≤ most → n < most
@@ -56,14 +56,17 @@ invariant_of-self-2 c =
     c.reserve.ensures.items in
     let count : c.len.result ≡ length names = c.len.ensures ∙ c.reserve.ensures.len ∙ c.self.inside.names.ok.0 in
     let same : c.in-Ok-from_slice.key.items ≡ c.args.name = c.in-Ok-from_slice.ensures.items ∙ c.bytes.ensures.value in
-    let none : place_of c.args.name names ≡ None = rw c.self.view_is c.requires in
-    let copied : place_of c.in-Ok-from_slice.key.items names ≡ None =
-    subst (λ (t : List ℕ). place_of t names ≡ None) (sym same) none in
+    let none : place_of_name c.args.name names ≡ None = rw c.self.view_is c.requires in
+    let copied : place_of_name c.in-Ok-from_slice.key.items names ≡ None =
+    subst (λ (t : List ℕ). place_of_name t names ≡ None) (sym same) none in
     let places =
-    ArePlaces-push (λ (key : Vec ℕ Global). key.items) names c.in-Ok-from_slice.key.items c.self.inside.places.entries
+    ArePlacesOfNames-push (λ (key : Vec ℕ Global). key.items) names c.in-Ok-from_slice.key.items
+    c.self.inside.places.entries
     c.insert.new.self.entries c.self.invariant.1 copied (updates.1 ∙ ap Some count) updates.3 in
-    let all : ArePlaces (λ (key : Vec ℕ Global). key.items) (names ++ c.args.name ∷ []) c.insert.new.self.entries =
-    subst (λ (t : List ℕ). ArePlaces (λ (key : Vec ℕ Global). key.items) (names ++ t ∷ []) c.insert.new.self.entries) same places in
+    let all : ArePlacesOfNames (λ (key : Vec ℕ Global). key.items) (names ++ c.args.name
+    ∷ []) c.insert.new.self.entries =
+    subst (λ (t : List ℕ). ArePlacesOfNames (λ (key : Vec ℕ Global). key.items) (names ++ t
+    ∷ []) c.insert.new.self.entries) same places in
     rw items (AreDistinct-push names c.args.name c.self.invariant.0 none, all)
 
 pub returns-clause-ok : goal.returns-clause-ok

@@ -1,5 +1,5 @@
-use Rattle.rcell_script.proofs.NullTextLemmas.{IsNullText-given}
+use Rattle.rcell_script.proofs.NullTextLemmas.{IsValidNullText-given}
 use Rattle.rcell_script.proofs.null_text.NullText.bytes.Goals as goal
 
 pub returns-clause-text : goal.returns-clause-text
-returns-clause-text c = rw (← c.self.view_is) (IsNullText-given _ c.self.invariant)
+returns-clause-text c = rw (← c.self.view_is) (IsValidNullText-given _ c.self.invariant)

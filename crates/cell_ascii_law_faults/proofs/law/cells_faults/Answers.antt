@@ -1,5 +1,0 @@
-use Rattle.cell_ascii_law_faults.proofs.GridFaultLemmas.{cells_agree}
-use Rattle.cell_ascii_law_faults.proofs.law.cells_faults.Goals as goal
-
-pub returns : goal.returns
-returns c = cells_agree

@@ -1,5 +1,0 @@
-use Rattle.cell_ascii_law_faults.proofs.GridFaultLemmas.{faults_agree}
-use Rattle.cell_ascii_law_faults.proofs.law.reading_faults.Goals as goal
-
-pub returns : goal.returns
-returns c = faults_agree

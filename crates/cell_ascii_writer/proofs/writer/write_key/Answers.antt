@@ -1,5 +1,0 @@
-use Rattle.cell_core_devices.proofs.BlockLemmas.{appends_then}
-use Rattle.cell_ascii_writer.proofs.writer.write_key.Goals as goal
-
-pub returns : goal.returns
-returns g c = appends_then c.push.ensures c.push-2.ensures

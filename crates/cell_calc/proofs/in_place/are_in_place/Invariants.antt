@@ -1,7 +1,0 @@
-use Rattle.std.proofs.Common.{◌<◌, ℕ, get_or}
-use Rattle.cell_calc_grammar.specs.declared.step.Step.{Step}
-use Rattle.cell_calc.specs.parts.InPlace.{IsInPlace}
-use Rattle.cell_calc.proofs.in_place.are_in_place.Given as goal
-
-abbrev pub invariant-loop-step : goal.invariant-loop-step
-invariant-loop-step l = (i : ℕ) (d : Step ℕ) → i < l.step-index → IsInPlace (get_or l.steps i d)

@@ -1,0 +1,10 @@
+use Rattle.std.proofs.Common.{◌≡◌, ◌<◌, ◌≤◌, ◌+◌, ℕ, length, None}
+use Rattle.cell_calc.specs.RowValues.{at}
+use Rattle.cell_calc.proofs.rows.copy_cells_shifted_left.Given as goal
+
+abbrev pub invariant-loop-i : goal.invariant-loop-i
+invariant-loop-i l =
+    record {
+      done : (c : ℕ) → c < l.i → at l.row c ≡ at l.source (c + l.skip);
+      rest : (c : ℕ) → l.i ≤ c → c < length l.row → at l.row c ≡ None;
+    }

@@ -1,0 +1,11 @@
+use Rattle.std.proofs.Common.{◌≡◌, ◌<◌, ◌≤◌, ℕ}
+use Rattle.cell_calc.specs.RowValues.{at}
+use Rattle.cell_calc_language.specs.CellOperators.{cell_chosen_by_condition}
+use Rattle.cell_calc.proofs.rows.replace_with_cell_where_true.Given as goal
+
+abbrev pub invariant-loop-i : goal.invariant-loop-i
+invariant-loop-i l =
+    record {
+      done : (c : ℕ) → c < l.i → at l.row c ≡ cell_chosen_by_condition (at l.conditions c) l.yes (at l.initial.row c);
+      rest : (c : ℕ) → l.i ≤ c → at l.row c ≡ at l.initial.row c;
+    }

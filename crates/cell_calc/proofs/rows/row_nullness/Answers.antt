@@ -1,5 +1,0 @@
-use Rattle.std.proofs.Common.{rules}
-use Rattle.cell_calc.proofs.rows.row_nullness.Goals as goal
-
-pub returns : goal.returns
-returns c = λ k h. let e = c.each.ensures k h in search rules

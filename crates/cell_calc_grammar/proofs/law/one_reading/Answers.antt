@@ -1,5 +1,0 @@
-use Rattle.cell_calc_grammar.proofs.Complete.{one_outcome}
-use Rattle.cell_calc_grammar.proofs.law.one_reading.Goals as goal
-
-pub returns : goal.returns
-returns c = λ s o p. one_outcome

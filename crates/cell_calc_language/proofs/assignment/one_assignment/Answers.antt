@@ -1,5 +1,0 @@
-use Rattle.cell_calc_language.proofs.Law.{one}
-use Rattle.cell_calc_language.proofs.assignment.one_assignment.Goals as goal
-
-pub returns : goal.returns
-returns c = one

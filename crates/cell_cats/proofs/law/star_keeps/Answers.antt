@@ -1,5 +1,0 @@
-use Rattle.cell_cats.proofs.ReclassLemmas.{star-keeps}
-use Rattle.cell_cats.proofs.law.star_keeps.Goals as goal
-
-pub returns : goal.returns
-returns c = star-keeps

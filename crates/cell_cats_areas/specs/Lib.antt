@@ -1,4 +1,0 @@
--- Definitions of clumps for public contracts; and, in parts, for private functions and proofs.
-pub mod Areas
-pub mod ClumpLaw
-pub mod parts

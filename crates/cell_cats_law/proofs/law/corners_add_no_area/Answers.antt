@@ -1,5 +1,0 @@
-use Rattle.cell_cats_law.proofs.CornerLemmas.{corners-add-no-area}
-use Rattle.cell_cats_law.proofs.law.corners_add_no_area.Goals as goal
-
-pub returns : goal.returns
-returns c = corners-add-no-area

@@ -1,5 +1,0 @@
-use Rattle.cell_cats_law.proofs.PartLemmas.{reclassed-parts-have-the-labels}
-use Rattle.cell_cats_law.proofs.law.reclassed_parts_have_the_labels.Goals as goal
-
-pub returns : goal.returns
-returns c = reclassed-parts-have-the-labels

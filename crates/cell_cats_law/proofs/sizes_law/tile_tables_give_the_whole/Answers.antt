@@ -1,5 +1,0 @@
-use Rattle.cell_cats_law.proofs.TileSizeLemmas.{tile-tables-give-the-whole}
-use Rattle.cell_cats_law.proofs.sizes_law.tile_tables_give_the_whole.Goals as goal
-
-pub returns : goal.returns
-returns c = tile-tables-give-the-whole

@@ -1,9 +1,0 @@
-use Rattle.std.proofs.Common.{◌≡◌, ◌+◌, drop}
-use Rattle.cell_core.specs.parts.RowForms.{alike}
-use Rattle.cell_core.proofs.runs.count_alike.Given as goal
-
-abbrev pub invariant-loop-next : goal.invariant-loop-next
-invariant-loop-next l = record {
-  count : l.count ≡ l.next-index;
-  alike : l.next-index + alike l.cell (drop l.next-index l.cells) ≡ alike l.cell l.cells;
-}

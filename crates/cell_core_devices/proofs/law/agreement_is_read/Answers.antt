@@ -1,5 +1,0 @@
-use Rattle.cell_core_devices.proofs.AgreementLemmas.{agreement}
-use Rattle.cell_core_devices.proofs.law.agreement_is_read.Goals as goal
-
-pub returns : goal.returns
-returns c = agreement

@@ -1,9 +1,0 @@
-use Rattle.std.proofs.Common.{◌≡◌, ◌≤◌, length, take}
-use Rattle.cell_core_values.specs.Blanks.{before_blanks}
-use Rattle.cell_core_values.proofs.blanks.before_blanks.Given as goal
-
-abbrev pub invariant-loop-end : goal.invariant-loop-end
-invariant-loop-end l = (before_blanks (take l.end l.text) ≡ before_blanks l.text) × (l.end ≤ length l.text)
-
-abbrev pub decreases-loop-end : goal.decreases-loop-end
-decreases-loop-end l = l.end

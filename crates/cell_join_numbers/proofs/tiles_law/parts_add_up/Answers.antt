@@ -1,5 +1,0 @@
-use Rattle.cell_join_numbers.proofs.SumLemmas.{parts-add-up}
-use Rattle.cell_join_numbers.proofs.tiles_law.parts_add_up.Goals as goal
-
-pub returns : goal.returns
-returns c = parts-add-up

@@ -1,5 +1,0 @@
-use Rattle.cell_join_numbers.proofs.ListingLemmas.{sums-merge}
-use Rattle.cell_join_numbers.proofs.tiles_law.sums_merge.Goals as goal
-
-pub returns : goal.returns
-returns c = sums-merge

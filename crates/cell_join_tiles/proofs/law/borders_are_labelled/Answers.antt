@@ -1,5 +1,0 @@
-use Rattle.cell_join_tiles.proofs.NumberLemmas.{borders-are-labelled}
-use Rattle.cell_join_tiles.proofs.law.borders_are_labelled.Goals as goal
-
-pub returns : goal.returns
-returns c = borders-are-labelled

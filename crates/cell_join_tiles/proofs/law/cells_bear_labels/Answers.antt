@@ -1,5 +1,0 @@
-use Rattle.cell_join_tiles.proofs.NumberLemmas.{cells-bear-labels}
-use Rattle.cell_join_tiles.proofs.law.cells_bear_labels.Goals as goal
-
-pub returns : goal.returns
-returns c = cells-bear-labels

@@ -1,0 +1,5 @@
+use Rattle.cell_join_tiles.proofs.LabelLineLemmas.{label-lines-pass}
+use Rattle.cell_join_tiles.proofs.law.first_labels_give_next_tile_labels.Goals as goal
+
+pub returns : goal.returns
+returns c = label-lines-pass

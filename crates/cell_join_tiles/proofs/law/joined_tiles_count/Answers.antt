@@ -1,5 +1,0 @@
-use Rattle.cell_join_tiles.proofs.FinishLemmas.{grid-clumps}
-use Rattle.cell_join_tiles.proofs.law.joined_tiles_count.Goals as goal
-
-pub returns : goal.returns
-returns c = grid-clumps

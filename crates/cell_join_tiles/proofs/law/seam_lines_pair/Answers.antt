@@ -1,5 +1,0 @@
-use Rattle.cell_join_tiles.proofs.SeamLemmas.{seam-lines-pair}
-use Rattle.cell_join_tiles.proofs.law.seam_lines_pair.Goals as goal
-
-pub returns : goal.returns
-returns c = seam-lines-pair

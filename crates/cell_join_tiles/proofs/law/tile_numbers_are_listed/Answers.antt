@@ -1,5 +1,0 @@
-use Rattle.cell_join_tiles.proofs.TileNumberLemmas.{tile-numbers-are-listed}
-use Rattle.cell_join_tiles.proofs.law.tile_numbers_are_listed.Goals as goal
-
-pub returns : goal.returns
-returns c = tile-numbers-are-listed

@@ -1,5 +1,0 @@
-use Rattle.cell_join_tiles.proofs.BeforeLemmas.{IsPassed}
-use Rattle.cell_join_tiles.proofs.row_labels.pass_tile.Given as goal
-
-abbrev pub invariant-loop-row : goal.invariant-loop-row
-invariant-loop-row l = IsPassed l.fn.line l.begun l.row l.line

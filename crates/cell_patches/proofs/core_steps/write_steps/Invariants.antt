@@ -1,6 +1,0 @@
-use Rattle.std.proofs.Common.{◌<◌, ℕ, get_or}
-use Rattle.cell_patches.specs.parts.Passes.{GivesSteps}
-use Rattle.cell_patches.proofs.core_steps.write_steps.Given as goal
-
-abbrev pub invariant-loop-col : goal.invariant-loop-col
-invariant-loop-col l = (k : ℕ) → k < l.col → GivesSteps l.lines k l.above l.second_above (get_or l.here k 0)

@@ -1,8 +1,0 @@
-use Rattle.cell_patches.specs.parts.Passes.{ArePatchesRead}
-use Rattle.cell_patches.proofs.read_rows.add_row.Given as goal
-
-abbrev pub ghost-add_cell : goal.ghost-add_cell
-ghost-add_cell g a = g.maps
-
-abbrev pub invariant-loop-col : goal.invariant-loop-col
-invariant-loop-col g l = ArePatchesRead g.maps.map g.maps.numbers l.depth l.row l.col l.patches.items

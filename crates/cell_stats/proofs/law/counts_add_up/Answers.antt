@@ -1,5 +1,0 @@
-use Rattle.cell_stats.proofs.LawLemmas.{counts-add-up}
-use Rattle.cell_stats.proofs.law.counts_add_up.Goals as goal
-
-pub returns : goal.returns
-returns c = λ maps picks rows cols. counts-add-up maps picks rows cols

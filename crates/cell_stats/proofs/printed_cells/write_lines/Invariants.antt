@@ -1,7 +1,0 @@
-use Rattle.std.proofs.Common.{replicate, flat_map}
-use Rattle.cell_core_devices.specs.Blocks.{Appends}
-use Rattle.cell_stats.specs.TableText.{cell_line}
-use Rattle.cell_stats.proofs.printed_cells.write_lines.Given as goal
-
-abbrev pub invariant-loop-line : goal.invariant-loop-line
-invariant-loop-line g l = Appends g.W.Sink.taken g.W.Sink.faults l.fn.out l.fn.block (flat_map (cell_line l.format l.selection.shelf.now.maps l.selection.picks.now) (replicate l.line l.cells)) l.out l.block

@@ -1,5 +1,0 @@
-use Rattle.rcell.proofs.KnownLemmas.{known_agree}
-use Rattle.rcell.proofs.law.known_sources_agree.Goals as goal
-
-pub returns : goal.returns
-returns g c = known_agree g.R.Source.coming g.R.Source.supposed g.met.R.Source.known g.met.R.Source.steady

@@ -1,6 +1,0 @@
-use Rattle.std.proofs.Common.{◌∙◌}
-use Rattle.rcell_command.proofs.WordLemmas.{hyphens_of_texts}
-use Rattle.rcell_command.proofs.arguments.has_hyphen_word.Goals as goal
-
-pub returns : goal.returns
-returns c = c.any_with_hyphen.ensures ∙ hyphens_of_texts c.args.words.now

@@ -1,5 +1,0 @@
-use Rattle.rcell_law.proofs.AcceptedLemmas.{accepted_have_output}
-use Rattle.rcell_law.proofs.law.accepted_have_output.Goals as goal
-
-pub returns : goal.returns
-returns c = accepted_have_output

@@ -1,0 +1,5 @@
+use Rattle.rcell_law.proofs.CutLemmas.{cut_script_gives_same_output}
+use Rattle.rcell_law.proofs.law.cut_script_gives_same_output.Goals as goal
+
+pub returns : goal.returns
+returns c = cut_script_gives_same_output

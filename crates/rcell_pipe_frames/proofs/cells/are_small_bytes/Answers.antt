@@ -1,6 +1,0 @@
-use Rattle.std.proofs.Common.{sym}
-use Rattle.rcell_pipe_frames.proofs.SmallLemmas.{all_small}
-use Rattle.rcell_pipe_frames.proofs.cells.are_small_bytes.Goals as goal
-
-pub returns : goal.returns
-returns c = sym (all_small c.args.bytes.now c.type_inv.bytes)

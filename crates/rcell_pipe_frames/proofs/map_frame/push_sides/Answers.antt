@@ -1,6 +1,0 @@
-use Rattle.cell_core_devices.proofs.BlockLemmas.{appends_then}
-use Rattle.rcell_pipe_frames.proofs.map_frame.push_sides.Goals as goal
-
-pub returns : goal.returns
-returns g c = appends_then (rw c.rows.ensures.value at c.push_number.ensures)
-    (rw c.cols.ensures.value at c.push_number-2.ensures)

@@ -1,5 +1,0 @@
-use Rattle.cell_core_devices.proofs.BlockLemmas.{appends_then}
-use Rattle.rcell_pipe_frames.proofs.patches_frame.push_zoned.Goals as goal
-
-pub returns : goal.returns
-returns g c = appends_then c.push_patch.ensures c.push_zone.ensures

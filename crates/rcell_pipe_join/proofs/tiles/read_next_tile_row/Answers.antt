@@ -1,0 +1,17 @@
+use Rattle.std.proofs.Common.{◌∙◌, ◌∷◌, [], All, ap, sym, subst}
+use Rattle.std.proofs.lemmas.List.{map_push}
+use Rattle.std.proofs.lemmas.List.Elements.{All-append, All-cons, All-nil}
+use Rattle.cell_join_tiles.specs.Values.{values_of_tile_borders}
+use Rattle.rcell_pipe_join.specs.BorderGrids.{borders_as_values}
+use Rattle.rcell_pipe_join.specs.parts.Heights.{TilesHaveSameRowCount}
+use Rattle.rcell_pipe_join.proofs.tiles.read_next_tile_row.Goals as goal
+
+pub returns-clause-even : goal.returns-clause-even
+returns-clause-even g c = λ all.
+    let grid = c.args.grid.now.items in
+    let row = values_of_tile_borders c.in-Ok.row.items in
+    subst (All TilesHaveSameRowCount)
+    (sym (ap borders_as_values c.in_ok-push.ensures.items ∙ map_push
+    (λ row. values_of_tile_borders row.items) grid c.in-Ok.row))
+    (All-append TilesHaveSameRowCount (borders_as_values grid) (row ∷ []) all
+    (All-cons TilesHaveSameRowCount row [] c.in-Ok.ensures.even (All-nil TilesHaveSameRowCount)))

@@ -1,7 +1,0 @@
-use Rattle.cell_core_devices.proofs.BlockLemmas.{appends_then}
-use Rattle.rcell_pipe_response.proofs.end.push_end.Goals as goal
-
-pub returns : goal.returns
-returns g c =
-    appends_then c.push.ensures (appends_then c.push_number.ensures (appends_then c.push_number-2.ensures (appends_then c.push_number-3.ensures
-    (appends_then c.push_number-4.ensures (appends_then c.push_number-5.ensures c.push_text.ensures)))))

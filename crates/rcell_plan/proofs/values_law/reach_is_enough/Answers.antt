@@ -1,5 +1,0 @@
-use Rattle.rcell_plan.proofs.HaloLemmas.{reach-is-enough}
-use Rattle.rcell_plan.proofs.values_law.reach_is_enough.Goals as goal
-
-pub returns : goal.returns
-returns c = reach-is-enough

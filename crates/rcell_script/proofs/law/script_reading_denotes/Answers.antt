@@ -1,5 +1,0 @@
-use Rattle.rcell_script.proofs.LawLemmas.{reading-denotes}
-use Rattle.rcell_script.proofs.law.script_reading_denotes.Goals as goal
-
-pub returns : goal.returns
-returns c = reading-denotes
