@@ -10,7 +10,7 @@ use Rattle.rcell_script.specs.declared.statement.Statement.{Statement}
 use Rattle.rcell_script.specs.declared.script_fault.ScriptFault.{ScriptFault}
 use Rattle.rcell_script.specs.declared.script_fault.ScriptKind.{ScriptKind}
 use Rattle.rcell_script.specs.declared.script_fault.ScriptKind.TheVariants as script_kinds
-use Rattle.rcell_script.specs.ScriptTexts.{request_error_text as script_text_or_fault}
+use Rattle.rcell_script.specs.ScriptTexts.{script_error_text}
 use Rattle.rcell.specs.Output.{IsOutputOfStatements}
 use Rattle.rcell_pipe_request.specs.declared.error.ErrorKind.{ErrorKind}
 use Rattle.rcell_pipe_request.specs.declared.error.ErrorKind.TheVariants as kinds
@@ -87,7 +87,7 @@ request_end error = record { status = exit_status_of_request_error error.kind; s
 
 -- the end if the script is rejected, with the text that rcell prints for its error
 abbrev pub end_frame_of_rejected_script : ScriptFault → RunEndValue
-end_frame_of_rejected_script error = record { status = 1; source = 2; maps = 0; line = error.line; column = column_of_script_error error.kind; text = script_text_or_fault error.kind }
+end_frame_of_rejected_script error = record { status = 1; source = 2; maps = 0; line = error.line; column = column_of_script_error error.kind; text = script_error_text error.kind }
 
 -- the text for an error of a question
 abbrev pub question_error_text : QuestionErrorKind → List ℕ

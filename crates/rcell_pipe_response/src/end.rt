@@ -5,7 +5,7 @@ ghost use Rattle.cell_core_devices.specs.Blocks.{IsTextAppendedThroughBlock};
 ghost use Rattle.rcell_pipe_frames.specs.FrameBytes.{run_end_frame_bytes};
 ghost use Rattle.rcell_pipe_response.specs.RunEnds.{request_error_text, exit_status_of_request_error, column_of_script_error, end_frame_of_successful_run, request_end, end_frame_of_rejected_script, question_error_text, end_frame_of_rejected_question, memory_end, exit_status_of_pipe_error, exit_status_of_pipe_run, end_frame_as_value};
 ghost use Rattle.rcell_pipe_response.specs.parts.ScriptKinds.{is_memory_error};
-ghost use Rattle.rcell_script.specs.ScriptTexts.{request_error_text as script_text_or_fault};
+ghost use Rattle.rcell_script.specs.ScriptTexts.{script_error_text};
 
 use crate::question_error::{QuestionError, QuestionErrorKind};
 use cell_core::block::OutputBlock;
@@ -140,7 +140,7 @@ fn column_of_script_error(kind: ScriptKind) -> u32
 
 /// The last frame if the script was rejected, with the text of its error.
 pub fn end_frame_of_rejected_script<'a>(error: ScriptFault, text: &'a [u8]) -> End<'a>
-    requires { text.now ≡ script_text_or_fault error.kind }
+    requires { text.now ≡ script_error_text error.kind }
     ensures { end_frame_as_value result ≡ end_frame_of_rejected_script error }
 {
     End {
