@@ -1,7 +1,7 @@
 //! Tests of tokens and of errors in their spelling.
 
 use cell_calc_language::calc_fault::{CalcFault, CalcKind};
-use cell_calc_language::token::{Placed, Sign, Token};
+use cell_calc_language::token::{Sign, Token, TokenAtColumn};
 use cell_calc_language::tokens::tokens;
 use cell_core_test_maps::assert_same;
 use std::alloc::Global;
@@ -41,7 +41,7 @@ fn faults_of_tokens(rt: HostRuntime) {
 }
 
 // Returns the column and the sign of a token, if it is a sign.
-fn sign_of(placed: &Placed) -> Option<(u32, Sign)> {
+fn sign_of(placed: &TokenAtColumn) -> Option<(u32, Sign)> {
     match &placed.token {
         Token::Sign(sign) => Some((placed.column, *sign)),
         _ => None,
