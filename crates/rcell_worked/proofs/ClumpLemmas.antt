@@ -5,7 +5,7 @@ use Rattle.cell_core.specs.Grid.{Grid, CellValue, RowsFillRegion, empty_category
 use Rattle.cell_clumps.specs.Clumps.{Position}
 use Rattle.cell_clumps.specs.declared.clump.Joining.{Joining}
 use Rattle.cell_clumps.specs.declared.clump.Joining.TheVariants.{Edges, EdgesAndCorners}
-use Rattle.cell_clumps.specs.parts.CellPlaces.{position as at}
+use Rattle.cell_clumps.specs.parts.CellPlaces.{position_at_row_and_column as at}
 use Rattle.cell_clumps.proofs.LawLemmas.{clump_map_is_unique}
 use Rattle.rcell_worked.specs.WorkedNumbers.{IsOnlyClumpMapOf, CategoryLabels, four_by_four_map, four_by_four_rows}
 use Rattle.rcell_worked.specs.WorkedNumbers.{clump_numbers_by_edges, clump_numbers_by_corners}
