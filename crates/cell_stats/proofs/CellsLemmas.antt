@@ -98,8 +98,8 @@ pub record StandsAt (shelf : ShelfValue) (picks : List ℕ) (row cols col count 
   pub most : col + count ≤ cols
 
 -- before the first column, no columns of any run are passed
-pub stands-none : (cursors : List RunCursorValue) → All (λ c. 0 ≤ c.left) cursors
-stands-none cursors i d within = omega arith
+pub stands_none : (cursors : List RunCursorValue) → All (λ c. 0 ≤ c.left) cursors
+stands_none cursors i d within = omega arith
 
 module _ {shelf : ShelfValue} {picks : List ℕ} {row cols next : ℕ} {new : List RunCursorValue} {cells : Combination}
   where
@@ -151,18 +151,18 @@ module _ {shelf : ShelfValue} {picks : List ℕ} {row cols next : ℕ} {new : Li
 module _ {shelf : ShelfValue} {picks : List ℕ} {row cols col count : ℕ} {cursors : List RunCursorValue}
     {cells : Combination} (walk : StandsAt shelf picks row cols col count cursors cells) where
   -- there is one cell for each cursor
-  pub stands-cells : length cells ≡ length cursors
-  stands-cells = ap length walk.same ∙ length-map cursors (λ (c : RunCursorValue). c.cell)
+  pub stands_cells : length cells ≡ length cursors
+  stands_cells = ap length walk.same ∙ length-map cursors (λ (c : RunCursorValue). c.cell)
 
   stands-width : length cells ≡ length picks
   stands-width =
       let all = length-map cursors to_come in
       let ahead = ap length walk.ahead ∙ length-map picks (λ p. drop col (row_of_map_at_place shelf.maps row p)) in
-      omega (arith, stands-cells, all, ahead)
+      omega (arith, stands_cells, all, ahead)
 
-  pub stands-picks : {before : Combination} → HasCellPerPickedMap shelf picks before
+  pub stands_picks : {before : Combination} → HasCellPerPickedMap shelf picks before
       → HasCellPerPickedMap shelf picks cells
-  stands-picks is = record { picked = is.picked; some = is.some; width = stands-width }
+  stands_picks is = record { picked = is.picked; some = is.some; width = stands-width }
 
   -- the text of the row grows by the cells of the stretch
   pub stands-more : (f : Combination → List ℕ) (skip : Skip)
@@ -179,8 +179,8 @@ module _ {shelf : ShelfValue} {picks : List ℕ} {row cols col count : ℕ} {cur
   pub stands-end : cols ≤ col → col ≡ shelf.region.cols
   stands-end ended = omega (arith, ended, walk.most, walk.region)
 
-  pub stands-fits : {most : ℕ} → cols ≡ most → most ≤ 65535 → Fits w32 (col + count)
-  stands-fits same high = omega (arith, same, high, walk.most)
+  pub stands_fits : {most : ℕ} → cols ≡ most → most ≤ 65535 → Fits w32 (col + count)
+  stands_fits same high = omega (arith, same, high, walk.most)
 
-  pub stands-smaller : col < cols → cols - (col + count) < cols - col
-  stands-smaller inside = omega (arith, walk.some inside, walk.most)
+  pub stands_smaller : col < cols → cols - (col + count) < cols - col
+  stands_smaller inside = omega (arith, walk.some inside, walk.most)

@@ -86,6 +86,7 @@ fn write_lines_of_equal_cells<W: Sink>(
 }
 
 // Writes a line for each cell of a row.
+#[tactic(auto, using(crate::proofs::CellsLemmas::stands_none, crate::proofs::CellsLemmas::stands_picks, crate::proofs::CellsLemmas::stands_fits, crate::proofs::CellsLemmas::stands_cells, crate::proofs::CellsLemmas::stands_smaller))]
 fn write_cell_lines_of_row<'a, W: Sink>(
     out: &mut W,
     block: &mut OutputBlock,
