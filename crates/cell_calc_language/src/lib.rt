@@ -13,7 +13,8 @@
 //! - `binding`: `resolve` replaces map names with indices into a list
 //! - `bound`: `Bound` is an expression over indices; `top` returns one more than the largest index;
 //!   `reach` returns how many rows it reads above and below
-//! - `compacting`: `renumbered_over_read_maps` returns the expression over only the maps that it reads
+//! - `compacting`: `renumbered_over_read_maps` returns the expression over only the maps that it reads;
+//!   `steps_of_expression`: `of_steps` returns the expression with given steps
 //! - private: `expression_reader`, `token_parsing`, `unknown`
 //! - re-exported from `cell_calc_grammar`: `calc_fault`, `function`, `operator`, `token`, `tokens`
 //!
@@ -44,6 +45,7 @@ pub mod compacting;
 pub mod expr;
 mod expression_reader;
 pub mod language_law;
+pub mod steps_of_expression;
 mod token_parsing;
 mod unknown;
 
