@@ -1,8 +1,12 @@
 pub mod InsideLemmas
 pub mod SumLemmas
+pub mod ResultLemmas
 pub mod PassLemmas
 pub mod StepLemmas
 pub mod CellLemmas
+pub mod CoreLemmas
 pub mod MeasureLemmas
+pub mod FullMapLemmas
+pub mod HaloLemmas
 pub mod LeadLemmas
 pub mod ZoneLemmas

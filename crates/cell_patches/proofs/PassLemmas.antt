@@ -1,33 +1,36 @@
--- The cells of a map are read one after another.
-use Rattle.std.proofs.Common.{◌≡◌, ◌≢◌, ℕ, pos, ◌+◌, ◌-◌, ◌*◌, ◌<◌, ◌≤◌, Bool, true, false, List, length, Some, min}
+-- The cells of a tile are read one after another.
+use Rattle.std.proofs.Common.{◌≡◌, ◌≢◌, ℕ, pos, ◌+◌, ◌*◌, ◌<◌, ◌≤◌, Bool, true, false, List, length, Some, min}
 use Rattle.std.proofs.Common.{max, refl, ap, sym, ◌∙◌, arith, subst, inl, inr, ◌⊎◌, cond}
-use Rattle.std.specs.Prelude.{nat_le}
-use Rattle.std.proofs.lemmas.Bool.{cases_order, cases_lt, cases_eq, both_ways, leb-true, false_from_ne_true}
+use Rattle.std.proofs.lemmas.Bool.{cases_order, cases_lt, cases_eq, both_ways, false_from_ne_true}
 use Rattle.cell_core_values.specs.Cell.{cell_eq}
 use Rattle.cell_core.specs.Grid.{Grid, CellValue, cell_at}
 use Rattle.cell_patches.specs.declared.patch.Patch.{Patch}
 use Rattle.cell_patches.specs.declared.patch.CellContribution.{CellContribution}
-use Rattle.cell_patches.specs.Patches.{is_in_patch, one_if_side_leaves_patch, value_or_0_outside_patch}
-use Rattle.cell_patches.specs.Patches.{outer_north_south_side_count}
-use Rattle.cell_patches.specs.Patches.{outer_west_east_side_count, are_cells_within_steps_in_patch, PatchHasCellInRow}
-use Rattle.cell_patches.specs.Patches.{PatchHasCellInColumn, north_cell_in_map_or_null, west_cell_in_map_or_null}
+use Rattle.cell_patches.specs.Patches.{is_in_patch, value_or_0_outside_patch, do_cells_within_steps_have_value}
+use Rattle.cell_patches.specs.Patches.{north_cell_in_map_or_null, west_cell_in_map_or_null}
+use Rattle.cell_patches.specs.TilePatches.{one_if_side_leaves_category, outer_north_south_side_count_of_cell}
+use Rattle.cell_patches.specs.TilePatches.{outer_west_east_side_count_of_cell, one_if_cell_is_core}
+use Rattle.cell_patches.specs.TilePatches.{TilePatchHasCellInRow, TilePatchHasCellInColumn}
 use Rattle.cell_patches.specs.parts.Passes.{unread, patch_with_one_more_cell, PatchMeasuresCannotOverflow}
 use Rattle.cell_patches.specs.parts.Passes.{patch_at_index_or_unread, IsCellAddedToPatch, CellPrecedesCellInRowOrder}
-use Rattle.cell_patches.specs.parts.Passes.{one_if_in_patch, one_if_in_patch_core, value_rows_above_or_0}
+use Rattle.cell_patches.specs.parts.Passes.{TileOfMap, map_cell_of_tile, value_of_cell_in_tile_patch}
+use Rattle.cell_patches.specs.parts.Passes.{sum_over_earlier_cells_of_patch}
 use Rattle.cell_patches.specs.parts.Passes.{AreMeasuresOfPatchUpToCell, AreMeasuresOfPatchesUpToCell}
-use Rattle.cell_patches.specs.parts.Passes.{IsCellContributionToPatch}
-use Rattle.cell_patches.proofs.InsideLemmas.{of_from, of_to, inside_south}
+use Rattle.cell_patches.specs.parts.Passes.{AreCoresOfPatchesUpToCell, IsCellContributionToPatch}
+use Rattle.cell_patches.proofs.InsideLemmas.{of_from, of_to}
 use Rattle.cell_patches.proofs.SumLemmas.{earlier_more, earlier_row, earlier_none, earlier_most}
 
 -- one of two numbers, chosen by a test
-abbrev pick : Bool → ℕ → ℕ → ℕ
+abbrev pub pick : Bool → ℕ → ℕ → ℕ
 pick t a b = cond t a b
 
 -- a cell has only one number
-one_number : (numbers : Grid) (n k r c : ℕ) → is_in_patch numbers n r c ≡ true → is_in_patch numbers k r c ≡ true
+pub one_number : (numbers : Grid) (n k r c : ℕ) → is_in_patch numbers n r c ≡ true → is_in_patch numbers k r c ≡ true
     → n ≡ k
 one_number numbers n k r c h g =
-    (let both : Some (pos n) ≡ Some (pos k) = sym (of_to numbers n r c h) ∙ of_to numbers k r c g in cc)
+    let one = of_to numbers (Some (pos n)) r c h in
+    let other = of_to numbers (Some (pos k)) r c g in
+    (let both : Some (pos n) ≡ Some (pos k) = sym one ∙ other in cc)
 
 -- a cell before the next cell is before this cell, or is this cell
 before_more : {P : ℕ → ℕ → Type 0} (r c : ℕ) → ((a b : ℕ) → CellPrecedesCellInRowOrder a b r c → P a b) → P r c
@@ -46,52 +49,38 @@ none_of : (numbers : Grid) (n r c many : ℕ) → is_in_patch numbers n r c ≡ 
     → value_or_0_outside_patch numbers n r c many ≡ 0
 none_of numbers n r c many apart = rw apart refl
 
-delayed_other : (numbers : Grid) (depth n r c : ℕ) → is_in_patch numbers n r c ≡ false
-    → value_rows_above_or_0 depth (one_if_in_patch_core numbers depth n) r c ≡ 0
-unfolding value_rows_above_or_0
-delayed_other numbers depth n r c apart = by_case (nat_le depth r) refl
-  where
-    inside : (t : Bool) → depth ≤ r → are_cells_within_steps_in_patch numbers n depth (r - depth) c ≡ t → pick t 1 0 ≡ 0
-    inside false le is = refl
-    inside true le is =
-        let south = inside_south numbers n depth (r - depth) c is in
-        let at : (r - depth) + depth ≡ r = omega arith in
-        absurd (both_ways _ apart (subst (λ x. is_in_patch numbers n x c ≡ true) at south))
-
-    by_case : (t : Bool) → nat_le depth r ≡ t → pick t (one_if_in_patch_core numbers depth n (r - depth) c) 0 ≡ 0
-    by_case false e = refl
-    by_case true e = inside (are_cells_within_steps_in_patch numbers n depth (r - depth) c) (leb-true depth r e) refl
-
 -- reading a cell outside the patch changes nothing for the patch
-pub read_other : (m numbers : Grid) (depth n r c : ℕ) (p : Patch) → is_in_patch numbers n r c ≡ false
-    → AreMeasuresOfPatchUpToCell m numbers depth n r c p → AreMeasuresOfPatchUpToCell m numbers depth n r (c + 1) p
-read_other m numbers depth n r c p apart h =
-    let cols = numbers.region.cols in
+pub read_other : (t : TileOfMap) (n r c : ℕ) (p : Patch) → is_in_patch t.numbers n r c ≡ false
+    → AreMeasuresOfPatchUpToCell t n r c p → AreMeasuresOfPatchUpToCell t n r (c + 1) p
+read_other t n r c p apart h =
+    let cols = t.numbers.region.cols in
+    let first_row = t.position.first_row in
+    let first_col = t.position.first_col in
     record {
       class =
-          before_more {P = λ a b. is_in_patch numbers n a b ≡ true → cell_at m a b ≡ Some p.class} r c h.class
-          (λ inside. absurd (both_ways _ apart inside));
+          before_more {P = λ a b. is_in_patch t.numbers n a b ≡ true → map_cell_of_tile t a b ≡ Some p.class} r c
+          h.class (λ inside. absurd (both_ways _ apart inside));
       cells =
-          (let e = earlier_more cols (one_if_in_patch numbers n) r c in let z : one_if_in_patch numbers n r c
-          ≡ 0 = rw apart refl in
+          (let e = earlier_more cols (value_of_cell_in_tile_patch t n (λ a b. 1)) r c in
+          let z : value_of_cell_in_tile_patch t n (λ a b. 1) r c ≡ 0 = none_of t.numbers n r c _ apart in
           let was = h.cells in omega arith);
       ends =
-          (let e = earlier_more cols (outer_north_south_side_count numbers n) r c in
-          let z : outer_north_south_side_count numbers n r c ≡ 0 = none_of numbers n r c _ apart in let was = h.ends in
-          omega arith);
+          (let e = earlier_more cols (value_of_cell_in_tile_patch t n (outer_north_south_side_count_of_cell t.map)) r c
+          in
+          let z : value_of_cell_in_tile_patch t n (outer_north_south_side_count_of_cell t.map) r c ≡ 0 =
+          none_of t.numbers n r c _ apart in
+          let was = h.ends in omega arith);
       flanks =
-          (let e = earlier_more cols (outer_west_east_side_count numbers n) r c in
-          let z : outer_west_east_side_count numbers n r c ≡ 0 = none_of numbers n r c _ apart in let was = h.flanks in
-          omega arith);
-      core =
-          (let e = earlier_more cols (value_rows_above_or_0 depth (one_if_in_patch_core numbers depth n)) r c in
-          let z = delayed_other numbers depth n r c apart in let was = h.core in omega arith);
+          (let e = earlier_more cols (value_of_cell_in_tile_patch t n (outer_west_east_side_count_of_cell t.map)) r c in
+          let z : value_of_cell_in_tile_patch t n (outer_west_east_side_count_of_cell t.map) r c ≡ 0 =
+          none_of t.numbers n r c _ apart in
+          let was = h.flanks in omega arith);
       rows =
-          before_more {P = λ a b. is_in_patch numbers n a b ≡ true → (p.first_row ≤ a) × (a ≤ p.last_row)} r c h.rows
-          (λ inside. absurd (both_ways _ apart inside));
+          before_more {P = λ a b. is_in_patch t.numbers n a b ≡ true → (p.first_row ≤ first_row + a)
+          × (first_row + a ≤ p.last_row)} r c h.rows (λ inside. absurd (both_ways _ apart inside));
       cols =
-          before_more {P = λ a b. is_in_patch numbers n a b ≡ true → (p.first_col ≤ b) × (b ≤ p.last_col)} r c h.cols
-          (λ inside. absurd (both_ways _ apart inside));
+          before_more {P = λ a b. is_in_patch t.numbers n a b ≡ true → (p.first_col ≤ first_col + b)
+          × (first_col + b ≤ p.last_col)} r c h.cols (λ inside. absurd (both_ways _ apart inside));
       first_row = h.first_row;
       last_row = h.last_row;
       first_col = h.first_col;
@@ -114,55 +103,53 @@ kind_max K a b one other = by_case (cases_lt b a)
     by_case (inr le) = subst K (let e : b ≡ max a b = omega arith in e) other
 
 -- reading a cell of the patch adds what is found there
-pub read_same : (m numbers : Grid) (depth n r c : ℕ) (p : Patch) (f : CellContribution) → r < 4294967295
-    → c < 4294967295
-    → is_in_patch numbers n r c ≡ true
-    → ((a b : ℕ) → is_in_patch numbers n a b ≡ true → cell_at m a b ≡ cell_at m r c)
-    → IsCellContributionToPatch m numbers depth n r c f → AreMeasuresOfPatchUpToCell m numbers depth n r c p
-    → AreMeasuresOfPatchUpToCell m numbers depth n r (c + 1) (patch_with_one_more_cell p f)
-read_same m numbers depth n r c p f r_lt c_lt inside alike found h =
-    let cols = numbers.region.cols in
+pub read_same : (t : TileOfMap) (n r c : ℕ) (p : Patch) (f : CellContribution)
+    → t.position.first_row + r < 4294967295 → t.position.first_col + c < 4294967295
+    → is_in_patch t.numbers n r c ≡ true
+    → ((a b : ℕ) → is_in_patch t.numbers n a b ≡ true → map_cell_of_tile t a b ≡ map_cell_of_tile t r c)
+    → IsCellContributionToPatch t n r c f → AreMeasuresOfPatchUpToCell t n r c p
+    → AreMeasuresOfPatchUpToCell t n r (c + 1) (patch_with_one_more_cell p f)
+read_same t n r c p f r_lt c_lt inside alike found h =
+    let cols = t.numbers.region.cols in
+    let first_row = t.position.first_row in
+    let first_col = t.position.first_col in
     let row = found.row in
     let col = found.col in
+    let in_row : TilePatchHasCellInRow t.position t.numbers n f.row = (r, row, (c, inside)) in
+    let in_col : TilePatchHasCellInColumn t.position t.numbers n f.col = (c, col, (r, inside)) in
     record {
       class = λ a b before of. alike a b of ∙ found.class;
       cells =
-          (let e = earlier_more cols (one_if_in_patch numbers n) r c in let z : one_if_in_patch numbers n r c
-          ≡ 1 = rw inside refl in
+          (let e = earlier_more cols (value_of_cell_in_tile_patch t n (λ a b. 1)) r c in
+          let z : value_of_cell_in_tile_patch t n (λ a b. 1) r c ≡ 1 = rw inside refl in
           let was = h.cells in omega arith);
       ends =
-          (let e = earlier_more cols (outer_north_south_side_count numbers n) r c in let z = found.ends in let
-          was = h.ends in omega arith);
+          (let e = earlier_more cols (value_of_cell_in_tile_patch t n (outer_north_south_side_count_of_cell t.map)) r c
+          in
+          let z = found.ends in let was = h.ends in omega arith);
       flanks =
-          (let e = earlier_more cols (outer_west_east_side_count numbers n) r c in let z = found.flanks in let
-          was = h.flanks in
-          omega arith);
-      core =
-          (let e = earlier_more cols (value_rows_above_or_0 depth
-          (one_if_in_patch_core numbers depth n)) r c in let z = found.core in
-          let was = h.core in omega arith);
+          (let e = earlier_more cols (value_of_cell_in_tile_patch t n (outer_west_east_side_count_of_cell t.map)) r c in
+          let z = found.flanks in let was = h.flanks in omega arith);
       rows =
-          before_more {P = λ a b. is_in_patch numbers n a b ≡ true → (min p.first_row f.row ≤ a)
-          × (a ≤ max p.last_row f.row)} r c
+          before_more {P = λ a b. is_in_patch t.numbers n a b ≡ true → (min p.first_row f.row ≤ first_row + a)
+          × (first_row + a ≤ max p.last_row f.row)} r c
           (λ a b before of. let w = h.rows a b before of in let lo = w.0 in let hi = w.1 in (omega arith, omega arith))
           (λ _. (omega arith, omega arith));
       cols =
-          before_more {P = λ a b. is_in_patch numbers n a b ≡ true → (min p.first_col f.col ≤ b)
-          × (b ≤ max p.last_col f.col)} r c
+          before_more {P = λ a b. is_in_patch t.numbers n a b ≡ true → (min p.first_col f.col ≤ first_col + b)
+          × (first_col + b ≤ max p.last_col f.col)} r c
           (λ a b before of. let w = h.cols a b before of in let lo = w.0 in let hi = w.1 in (omega arith, omega arith))
           (λ _. (omega arith, omega arith));
       first_row =
-          λ _. kind_min (PatchHasCellInRow numbers n) p.first_row f.row 4294967295 (omega arith) h.first_row
-          (subst (PatchHasCellInRow numbers n) (sym row) (c, inside));
+          λ _. kind_min (TilePatchHasCellInRow t.position t.numbers n) p.first_row f.row 4294967295 (omega arith)
+          h.first_row in_row;
       last_row =
-          λ _. kind_max (PatchHasCellInRow numbers n) p.last_row f.row h.last_row (subst (PatchHasCellInRow numbers n)
-          (sym row) (c, inside));
+          λ _. kind_max (TilePatchHasCellInRow t.position t.numbers n) p.last_row f.row h.last_row in_row;
       first_col =
-          λ _. kind_min (PatchHasCellInColumn numbers n) p.first_col f.col 4294967295 (omega arith) h.first_col
-          (subst (PatchHasCellInColumn numbers n) (sym col) (r, inside));
+          λ _. kind_min (TilePatchHasCellInColumn t.position t.numbers n) p.first_col f.col 4294967295 (omega arith)
+          h.first_col in_col;
       last_col =
-          λ _. kind_max (PatchHasCellInColumn numbers n) p.last_col f.col h.last_col
-          (subst (PatchHasCellInColumn numbers n) (sym col) (r, inside));
+          λ _. kind_max (TilePatchHasCellInColumn t.position t.numbers n) p.last_col f.col h.last_col in_col;
     }
 
 -- a cell of the patch before the start of the next row is before the end of this row
@@ -179,20 +166,23 @@ before_row {P} numbers n r narrow before a b (inl lt) of = by_case (cases_lt a r
 before_row {P} numbers n r narrow before a b (inr both) of = absurd (let lt = both.1 in omega arith)
 
 -- a patch that is read to the end of a row is read to the start of the next row
-pub read_row : (m numbers : Grid) (depth n r : ℕ) (p : Patch)
-    → ((a b : ℕ) → is_in_patch numbers n a b ≡ true → b < numbers.region.cols)
-    → AreMeasuresOfPatchUpToCell m numbers depth n r numbers.region.cols p
-    → AreMeasuresOfPatchUpToCell m numbers depth n (r + 1) 0 p
-read_row m numbers depth n r p narrow h =
-    let cols = numbers.region.cols in
+pub read_row : (t : TileOfMap) (n r : ℕ) (p : Patch)
+    → ((a b : ℕ) → is_in_patch t.numbers n a b ≡ true → b < t.numbers.region.cols)
+    → AreMeasuresOfPatchUpToCell t n r t.numbers.region.cols p
+    → AreMeasuresOfPatchUpToCell t n (r + 1) 0 p
+read_row t n r p narrow h =
+    let cols = t.numbers.region.cols in
     record {
-      class = before_row {P = λ a b. cell_at m a b ≡ Some p.class} numbers n r narrow h.class;
-      cells = h.cells ∙ sym (earlier_row cols (one_if_in_patch numbers n) r);
-      ends = h.ends ∙ sym (earlier_row cols (outer_north_south_side_count numbers n) r);
-      flanks = h.flanks ∙ sym (earlier_row cols (outer_west_east_side_count numbers n) r);
-      core = h.core ∙ sym (earlier_row cols (value_rows_above_or_0 depth (one_if_in_patch_core numbers depth n)) r);
-      rows = before_row {P = λ a b. (p.first_row ≤ a) × (a ≤ p.last_row)} numbers n r narrow h.rows;
-      cols = before_row {P = λ a b. (p.first_col ≤ b) × (b ≤ p.last_col)} numbers n r narrow h.cols;
+      class = before_row {P = λ a b. map_cell_of_tile t a b ≡ Some p.class} t.numbers n r narrow h.class;
+      cells = h.cells ∙ sym (earlier_row cols (value_of_cell_in_tile_patch t n (λ a b. 1)) r);
+      ends = h.ends ∙ sym (earlier_row cols (value_of_cell_in_tile_patch t n
+          (outer_north_south_side_count_of_cell t.map)) r);
+      flanks = h.flanks ∙ sym (earlier_row cols (value_of_cell_in_tile_patch t n
+          (outer_west_east_side_count_of_cell t.map)) r);
+      rows = before_row {P = λ a b. (p.first_row ≤ t.position.first_row + a)
+          × (t.position.first_row + a ≤ p.last_row)} t.numbers n r narrow h.rows;
+      cols = before_row {P = λ a b. (p.first_col ≤ t.position.first_col + b)
+          × (t.position.first_col + b ≤ p.last_col)} t.numbers n r narrow h.cols;
       first_row = h.first_row;
       last_row = h.last_row;
       first_col = h.first_col;
@@ -204,15 +194,14 @@ no_earlier : (a b : ℕ) → CellPrecedesCellInRowOrder a b 0 0 → ⊥
 no_earlier a b (inl lt) = omega arith
 no_earlier a b (inr both) = let lt = both.1 in omega arith
 
-pub read_none : (m numbers : Grid) (depth n : ℕ) → AreMeasuresOfPatchUpToCell m numbers depth n 0 0 unread
-read_none m numbers depth n =
-    let cols = numbers.region.cols in
+pub read_none : (t : TileOfMap) (n : ℕ) → AreMeasuresOfPatchUpToCell t n 0 0 unread
+read_none t n =
+    let cols = t.numbers.region.cols in
     record {
       class = λ a b before of. absurd (no_earlier a b before);
-      cells = sym (earlier_none cols (one_if_in_patch numbers n));
-      ends = sym (earlier_none cols (outer_north_south_side_count numbers n));
-      flanks = sym (earlier_none cols (outer_west_east_side_count numbers n));
-      core = sym (earlier_none cols (value_rows_above_or_0 depth (one_if_in_patch_core numbers depth n)));
+      cells = sym (earlier_none cols (value_of_cell_in_tile_patch t n (λ a b. 1)));
+      ends = sym (earlier_none cols (value_of_cell_in_tile_patch t n (outer_north_south_side_count_of_cell t.map)));
+      flanks = sym (earlier_none cols (value_of_cell_in_tile_patch t n (outer_west_east_side_count_of_cell t.map)));
       rows = λ a b before of. absurd (no_earlier a b before);
       cols = λ a b before of. absurd (no_earlier a b before);
       first_row = λ lt. absurd (omega arith);
@@ -222,55 +211,54 @@ read_none m numbers depth n =
     }
 
 -- a cell outside all patches leaves their measures unchanged
-pub all_other : (m numbers : Grid) (depth r c : ℕ) (patches : List Patch)
-    → ((k : ℕ) → is_in_patch numbers (k + 1) r c ≡ false)
-    → ((n : ℕ) → cell_at numbers r c ≡ Some (pos n) → n ≤ length patches)
-    → AreMeasuresOfPatchesUpToCell m numbers depth r c patches → AreMeasuresOfPatchesUpToCell m numbers depth r
-    (c + 1) patches
-all_other m numbers depth r c patches apart most h = record {
-  each = λ k. read_other m numbers depth (k + 1) r c (patch_at_index_or_unread patches k) (apart k) (h.each k);
+pub all_other : (t : TileOfMap) (r c : ℕ) (patches : List Patch)
+    → ((k : ℕ) → is_in_patch t.numbers (k + 1) r c ≡ false)
+    → ((n : ℕ) → cell_at t.numbers r c ≡ Some (pos n) → n ≤ length patches)
+    → AreMeasuresOfPatchesUpToCell t r c patches → AreMeasuresOfPatchesUpToCell t r (c + 1) patches
+all_other t r c patches apart most h = record {
+  each = λ k. read_other t (k + 1) r c (patch_at_index_or_unread patches k) (apart k) (h.each k);
   all =
-      λ a b n before. before_more {P = λ a b. cell_at numbers a b ≡ Some (pos n) → n ≤ length patches} r c
+      λ a b n before. before_more {P = λ a b. cell_at t.numbers a b ≡ Some (pos n) → n ≤ length patches} r c
       (λ x y b4. h.all x y n b4) (most n) a b before;
   last = h.last;
 }
 
-pub all_same : (m numbers : Grid) (depth r c place : ℕ) (old new : List Patch) (f : CellContribution) → r < 4294967295
-    → c < 4294967295 → cell_at numbers r c ≡ Some (pos (place + 1))
-    → ((a b : ℕ) → is_in_patch numbers (place + 1) a b ≡ true → cell_at m a b ≡ cell_at m r c)
-    → IsCellContributionToPatch m numbers depth (place + 1) r c f → IsCellAddedToPatch old new place f
-    → AreMeasuresOfPatchesUpToCell m numbers depth r c old
-    → AreMeasuresOfPatchesUpToCell m numbers depth r (c + 1) new
-all_same m numbers depth r c place old new f r_lt c_lt is alike found adds h = record {
+pub all_same : (t : TileOfMap) (r c place : ℕ) (old new : List Patch) (f : CellContribution)
+    → t.position.first_row + r < 4294967295 → t.position.first_col + c < 4294967295
+    → cell_at t.numbers r c ≡ Some (pos (place + 1))
+    → ((a b : ℕ) → is_in_patch t.numbers (place + 1) a b ≡ true → map_cell_of_tile t a b ≡ map_cell_of_tile t r c)
+    → IsCellContributionToPatch t (place + 1) r c f → IsCellAddedToPatch old new place f
+    → AreMeasuresOfPatchesUpToCell t r c old
+    → AreMeasuresOfPatchesUpToCell t r (c + 1) new
+all_same t r c place old new f r_lt c_lt is alike found adds h = record {
   each = each;
-  all = λ a b n before. before_more {P = λ a b. cell_at numbers a b ≡ Some (pos n) → n ≤ length new} r c
+  all = λ a b n before. before_more {P = λ a b. cell_at t.numbers a b ≡ Some (pos n) → n ≤ length new} r c
       (λ x y b4 e. let was = h.all x y n b4 e in let long = adds.long in omega arith)
       (λ e. let same : n ≡ place + 1 = (let both : Some (pos n) ≡ Some (pos (place + 1)) = sym e ∙ is in cc) in
       let long = adds.long in omega arith) a b before;
   last = λ some. last (cases_lt (length old) (place + 1));
 }
   where
-    inside : is_in_patch numbers (place + 1) r c ≡ true
-    inside = of_from numbers (place + 1) r c is
+    inside : is_in_patch t.numbers (place + 1) r c ≡ true
+    inside = of_from t.numbers (Some (pos (place + 1))) r c is
 
-    each : (k : ℕ) → AreMeasuresOfPatchUpToCell m numbers depth (k + 1) r (c + 1) (patch_at_index_or_unread new k)
+    each : (k : ℕ) → AreMeasuresOfPatchUpToCell t (k + 1) r (c + 1) (patch_at_index_or_unread new k)
     each k = by_case (cases_eq k place)
       where
-        by_case : (k ≡ place) ⊎ (k ≢ place) → AreMeasuresOfPatchUpToCell m numbers depth (k + 1) r (c + 1)
+        by_case : (k ≡ place) ⊎ (k ≢ place) → AreMeasuresOfPatchUpToCell t (k + 1) r (c + 1)
             (patch_at_index_or_unread new k)
-        by_case (inl e) = subst (λ x. AreMeasuresOfPatchUpToCell m numbers depth (x + 1) r (c + 1)
+        by_case (inl e) = subst (λ x. AreMeasuresOfPatchUpToCell t (x + 1) r (c + 1)
             (patch_at_index_or_unread new x)) (sym e)
-            (subst (AreMeasuresOfPatchUpToCell m numbers depth (place + 1) r (c + 1)) (sym adds.here)
-            (read_same m numbers depth (place + 1) r c (patch_at_index_or_unread old place) f r_lt c_lt inside alike
-            found
+            (subst (AreMeasuresOfPatchUpToCell t (place + 1) r (c + 1)) (sym adds.here)
+            (read_same t (place + 1) r c (patch_at_index_or_unread old place) f r_lt c_lt inside alike found
             (h.each place)))
-        by_case (inr ne) = subst (AreMeasuresOfPatchUpToCell m numbers depth (k + 1) r (c + 1)) (sym (adds.others k ne))
-            (read_other m numbers depth (k + 1) r c (patch_at_index_or_unread old k)
+        by_case (inr ne) = subst (AreMeasuresOfPatchUpToCell t (k + 1) r (c + 1)) (sym (adds.others k ne))
+            (read_other t (k + 1) r c (patch_at_index_or_unread old k)
             (false_from_ne_true
-            _ (λ of. ne (let e = one_number numbers (k + 1) (place + 1) r c of inside in omega arith))) (h.each k))
+            _ (λ of. ne (let e = one_number t.numbers (k + 1) (place + 1) r c of inside in omega arith))) (h.each k))
 
     last : (length old < place + 1) ⊎ (place + 1 ≤ length old) → (a : ℕ)
-        × ((b : ℕ) × (cell_at numbers a b ≡ Some (pos (length new))))
+        × ((b : ℕ) × (cell_at t.numbers a b ≡ Some (pos (length new))))
     last (inl lt) = (
       r,
       (
@@ -289,29 +277,35 @@ all_same m numbers depth r c place old new f r_lt c_lt is alike found adds h = r
           ),
         )
 
-pub all_row : (m numbers : Grid) (depth r : ℕ) (patches : List Patch)
-    → ((a b n : ℕ) → cell_at numbers a b ≡ Some (pos n) → b < numbers.region.cols)
-    → AreMeasuresOfPatchesUpToCell m numbers depth r numbers.region.cols patches
-    → AreMeasuresOfPatchesUpToCell m numbers depth (r + 1) 0 patches
-all_row m numbers depth r patches narrow h = record {
+pub all_row : (t : TileOfMap) (r : ℕ) (patches : List Patch)
+    → ((a b n : ℕ) → cell_at t.numbers a b ≡ Some (pos n) → b < t.numbers.region.cols)
+    → AreMeasuresOfPatchesUpToCell t r t.numbers.region.cols patches
+    → AreMeasuresOfPatchesUpToCell t (r + 1) 0 patches
+all_row t r patches narrow h = record {
   each =
-      λ k. read_row m numbers depth (k + 1) r (patch_at_index_or_unread patches k)
-      (λ a b of. narrow a b (k + 1) (of_to numbers (k + 1) a b of)) (h.each k);
+      λ k. read_row t (k + 1) r (patch_at_index_or_unread patches k)
+      (λ a b of. narrow a b (k + 1) (of_to t.numbers (Some (pos (k + 1))) a b of)) (h.each k);
   all =
-      λ a b n before e. before_row {P = λ a b. n ≤ length patches} numbers n r
-      (λ x y of. narrow x y n (of_to numbers n x y of)) (λ x y b4 of. h.all x y n b4 (of_to numbers n x y of))
-      a b before (of_from numbers n a b e);
+      λ a b n before e. before_row {P = λ a b. n ≤ length patches} t.numbers n r
+      (λ x y of. narrow x y n (of_to t.numbers (Some (pos n)) x y of))
+      (λ x y b4 of. h.all x y n b4 (of_to t.numbers (Some (pos n)) x y of))
+      a b before (of_from t.numbers (Some (pos n)) a b e);
   last = h.last;
 }
 
-pub all_none : (m numbers : Grid) (depth : ℕ) (patches : List Patch) → length patches ≡ 0
-    → ((k : ℕ) → patch_at_index_or_unread patches k ≡ unread) → AreMeasuresOfPatchesUpToCell m numbers depth 0 0 patches
-all_none m numbers depth patches none empty = record {
-  each = λ k. subst (AreMeasuresOfPatchUpToCell m numbers depth (k + 1) 0 0) (sym (empty k))
-      (read_none m numbers depth (k + 1));
+pub all_none : (t : TileOfMap) (patches : List Patch) → length patches ≡ 0
+    → ((k : ℕ) → patch_at_index_or_unread patches k ≡ unread) → AreMeasuresOfPatchesUpToCell t 0 0 patches
+all_none t patches none empty = record {
+  each = λ k. subst (AreMeasuresOfPatchUpToCell t (k + 1) 0 0) (sym (empty k)) (read_none t (k + 1));
   all = λ a b n before. absurd (no_earlier a b before);
   last = λ some. absurd (omega arith);
 }
+
+pub cores_none : (t : TileOfMap) (depth : ℕ) (patches : List Patch)
+    → ((k : ℕ) → patch_at_index_or_unread patches k ≡ unread) → AreCoresOfPatchesUpToCell t depth 0 0 patches
+cores_none t depth patches empty k =
+    ap (λ (p : Patch). p.core) (empty k)
+    ∙ sym (earlier_none t.numbers.region.cols (value_of_cell_in_tile_patch t (k + 1) (one_if_cell_is_core t.map depth)))
 
 -- the counts have room for what is found at a cell
 few_of : (numbers : Grid) (n r c many most : ℕ) → many ≤ most → value_or_0_outside_patch numbers n r c many ≤ most
@@ -321,40 +315,29 @@ few_of numbers n r c many most le = by_case (is_in_patch numbers n r c)
     by_case true = le
     by_case false = omega arith
 
-leads_most : (n : ℕ) (x : CellValue) → one_if_side_leaves_patch n x ≤ 1
-leads_most n x = by_case (cell_eq x (Some (pos n)))
+leads_most : (x y : CellValue) → one_if_side_leaves_category x y ≤ 1
+leads_most x y = by_case (cell_eq y x)
   where
     by_case : (t : Bool) → pick t 0 1 ≤ 1
     by_case true = omega arith
     by_case false = omega arith
 
-core_most : (numbers : Grid) (depth n r c : ℕ) → value_rows_above_or_0 depth
-    (one_if_in_patch_core numbers depth n) r c ≤ 1
-unfolding value_rows_above_or_0
-core_most numbers depth n r c = by_case (nat_le depth r)
+ends_most : (m : Grid) (r c : ℕ) → outer_north_south_side_count_of_cell m r c ≤ 2
+ends_most m r c =
+    let a = leads_most (cell_at m r c) (north_cell_in_map_or_null m r c) in
+    let b = leads_most (cell_at m r c) (cell_at m (r + 1) c) in omega arith
+
+flanks_most : (m : Grid) (r c : ℕ) → outer_west_east_side_count_of_cell m r c ≤ 2
+flanks_most m r c =
+    let a = leads_most (cell_at m r c) (west_cell_in_map_or_null m r c) in
+    let b = leads_most (cell_at m r c) (cell_at m r (c + 1)) in omega arith
+
+core_most : (m : Grid) (depth r c : ℕ) → one_if_cell_is_core m depth r c ≤ 1
+core_most m depth r c = by_case (do_cells_within_steps_have_value m (cell_at m r c) depth r c)
   where
-    one : (t : Bool) → pick t 1 0 ≤ 1
-    one true = omega arith
-    one false = omega arith
-
-    by_case : (t : Bool) → pick t (one_if_in_patch_core numbers depth n (r - depth) c) 0 ≤ 1
-    by_case true = one (are_cells_within_steps_in_patch numbers n depth (r - depth) c)
+    by_case : (t : Bool) → pick t 1 0 ≤ 1
+    by_case true = omega arith
     by_case false = omega arith
-
-ends_most : (numbers : Grid) (n r c : ℕ) → outer_north_south_side_count numbers n r c ≤ 2
-ends_most numbers n r c =
-    few_of numbers n r c _
-    2 (let a = leads_most n (north_cell_in_map_or_null numbers r c) in let b = leads_most n
-    (cell_at numbers (r + 1) c) in omega arith)
-
-flanks_most : (numbers : Grid) (n r c : ℕ) → outer_west_east_side_count numbers n r c ≤ 2
-flanks_most numbers n r c =
-    few_of numbers n r c _
-    2 (let a = leads_most n (west_cell_in_map_or_null numbers r c) in let b = leads_most n
-    (cell_at numbers r (c + 1)) in omega arith)
-
-ones_most : (numbers : Grid) (n r c : ℕ) → one_if_in_patch numbers n r c ≤ 1
-ones_most numbers n r c = few_of numbers n r c 1 1 (omega arith)
 
 small : (r c cols most : ℕ) → r ≤ 65535 → c ≤ 65535 → cols ≤ 65535 → most ≤ 2
     → r * (cols * most) + c * most ≤ 17179869184
@@ -364,28 +347,40 @@ small r c cols most a b d e =
     let three : c * most ≤ 65535 * 2 = grind arith in
     omega arith
 
-pub has_room : (m numbers : Grid) (depth n r c : ℕ) (p : Patch) (f : CellContribution) → r ≤ 65535 → c ≤ 65535
-    → numbers.region.cols ≤ 65535 → IsCellContributionToPatch m numbers depth n r c f
-    → AreMeasuresOfPatchUpToCell m numbers depth n r c p
+-- a sum of values of at most 2 is small
+few_before : (t : TileOfMap) (n r c : ℕ) (f : ℕ → ℕ → ℕ) → r ≤ 65535 → c ≤ 65535 → t.numbers.region.cols ≤ 65535
+    → ((a b : ℕ) → f a b ≤ 2) → sum_over_earlier_cells_of_patch t n f r c ≤ 17179869184
+few_before t n r c f r_lt c_lt cols_lt most =
+    let cols = t.numbers.region.cols in
+    let few = small r c cols 2 r_lt c_lt cols_lt (omega arith) in
+    let e = earlier_most (value_of_cell_in_tile_patch t n f) 2 cols r c
+    (λ a b. few_of t.numbers n a b _ 2 (most (t.position.top + a) (t.position.left + b))) in
+    omega arith
+
+pub has_room : (t : TileOfMap) (n r c : ℕ) (p : Patch) (f : CellContribution) → r ≤ 65535 → c ≤ 65535
+    → t.numbers.region.cols ≤ 65535 → IsCellContributionToPatch t n r c f
+    → AreMeasuresOfPatchUpToCell t n r c p
     → PatchMeasuresCannotOverflow p f
-has_room m numbers depth n r c p f r_lt c_lt cols_lt found h =
-    let cols = numbers.region.cols in
-    let one = small r c cols 1 r_lt c_lt cols_lt (omega arith) in
-    let two = small r c cols 2 r_lt c_lt cols_lt (omega arith) in
-    record {
-      cells =
-          (let e = earlier_most (one_if_in_patch numbers n) 1 cols r c (ones_most numbers n) in let was = h.cells in
-          omega arith);
-      ends =
-          (let e = earlier_most (outer_north_south_side_count numbers n) 2 cols r c
-          (ends_most numbers n) in let was = h.ends in
-          let new = found.ends in let few = ends_most numbers n r c in omega arith);
-      flanks =
-          (let e = earlier_most (outer_west_east_side_count numbers n) 2 cols r c
-          (flanks_most numbers n) in let was = h.flanks in
-          let new = found.flanks in let few = flanks_most numbers n r c in omega arith);
-      core =
-          (let e = earlier_most (value_rows_above_or_0 depth (one_if_in_patch_core numbers depth n)) 1 cols r c
-          (core_most numbers depth n) in
-          let was = h.core in let new = found.core in let few = core_most numbers depth n r c in omega arith);
-    }
+has_room t n r c p f r_lt c_lt cols_lt found h = record {
+  cells =
+      (let few = few_before t n r c (λ a b. 1) r_lt c_lt cols_lt (λ a b. omega arith) in let was = h.cells in
+      omega arith);
+  ends =
+      (let few = few_before t n r c (outer_north_south_side_count_of_cell t.map) r_lt c_lt cols_lt (ends_most t.map) in
+      let was = h.ends in let new = found.ends in
+      let one = few_of t.numbers n r c _ 2 (ends_most t.map (t.position.top + r) (t.position.left + c)) in omega arith);
+  flanks =
+      (let few = few_before t n r c (outer_west_east_side_count_of_cell t.map) r_lt c_lt cols_lt (flanks_most t.map) in
+      let was = h.flanks in let new = found.flanks in
+      let one = few_of t.numbers n r c _ 2 (flanks_most t.map (t.position.top + r) (t.position.left + c)) in
+      omega arith);
+}
+
+-- the count of cores has room for one more
+pub core_has_room : (t : TileOfMap) (depth r c k : ℕ) (patches : List Patch) → r ≤ 65535 → c ≤ 65535
+    → t.numbers.region.cols ≤ 65535 → AreCoresOfPatchesUpToCell t depth r c patches
+    → (patch_at_index_or_unread patches k).core + 1 < 18446744073709551616
+core_has_room t depth r c k patches r_lt c_lt cols_lt h =
+    let few = few_before t (k + 1) r c (one_if_cell_is_core t.map depth) r_lt c_lt cols_lt
+    (λ a b. let one = core_most t.map depth a b in omega arith) in
+    let was = h k in omega arith

@@ -6,9 +6,13 @@ use Rattle.cell_core_values.specs.Region.{RegionValue}
 use Rattle.cell_core.specs.Grid.{Grid, CellValue, cell_at}
 use Rattle.cell_patches.specs.declared.patch.Patch.{Patch}
 
+-- the cell has the value
+abbrev pub has_value : Grid → CellValue → ℕ → ℕ → Bool
+has_value m value r c = cell_eq (cell_at m r c) value
+
 -- the cell is in patch number n
 abbrev pub is_in_patch : Grid → ℕ → ℕ → ℕ → Bool
-is_in_patch numbers n r c = cell_eq (cell_at numbers r c) (Some (pos n))
+is_in_patch numbers n = has_value numbers (Some (pos n))
 
 -- the cells to the north and to the west; null outside the map
 abbrev pub north_cell_in_map_or_null : Grid → ℕ → ℕ → CellValue
@@ -40,19 +44,23 @@ outer_west_east_side_count numbers n r c =
     (west_cell_in_map_or_null numbers r c) + one_if_side_leaves_patch n
     (cell_at numbers r (c + 1)))
 
--- all cells within this number of steps across edges are in the patch, and none is outside the map
-unfoldable pub are_cells_within_steps_in_patch : Grid → ℕ → ℕ → ℕ → ℕ → Bool
-are_cells_within_steps_in_patch numbers n zero r c = is_in_patch numbers n r c
-are_cells_within_steps_in_patch numbers n (suc steps) zero c = false
-are_cells_within_steps_in_patch numbers n (suc steps) (suc r) zero = false
-are_cells_within_steps_in_patch numbers n (suc steps) (suc r) (suc c) =
-    are_cells_within_steps_in_patch numbers n steps (suc r) (suc c)
-    && (are_cells_within_steps_in_patch numbers n steps r (suc c)
-    && are_cells_within_steps_in_patch numbers n steps (suc (suc r))
+-- all cells within this number of steps across edges have this value, which is not null, and none is outside the map
+unfoldable pub do_cells_within_steps_have_value : Grid → CellValue → ℕ → ℕ → ℕ → Bool
+do_cells_within_steps_have_value m value zero r c = has_value m value r c
+do_cells_within_steps_have_value m value (suc steps) zero c = false
+do_cells_within_steps_have_value m value (suc steps) (suc r) zero = false
+do_cells_within_steps_have_value m value (suc steps) (suc r) (suc c) =
+    do_cells_within_steps_have_value m value steps (suc r) (suc c)
+    && (do_cells_within_steps_have_value m value steps r (suc c)
+    && do_cells_within_steps_have_value m value steps (suc (suc r))
     (suc c))
-    && (are_cells_within_steps_in_patch numbers n steps (suc r) c
-    && are_cells_within_steps_in_patch numbers n steps (suc r)
+    && (do_cells_within_steps_have_value m value steps (suc r) c
+    && do_cells_within_steps_have_value m value steps (suc r)
     (suc (suc c)))
+
+-- all cells within this number of steps across edges are in the patch
+abbrev pub are_cells_within_steps_in_patch : Grid → ℕ → ℕ → ℕ → ℕ → Bool
+are_cells_within_steps_in_patch numbers n = do_cells_within_steps_have_value numbers (Some (pos n))
 
 -- a sum over the first columns of a row, and a sum over all columns of the first rows
 unfoldable pub sum_over_first_columns : (ℕ → ℕ) → ℕ → ℕ

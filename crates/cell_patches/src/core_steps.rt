@@ -1,11 +1,11 @@
-//! Computes how many steps each cell is inside its patch. A diamond contains all cells within a number of steps of its
-//! centre. The largest diamond in a patch with a given lowest cell follows from the largest diamonds whose lowest cells
+//! Computes how many steps each cell is inside its category. A diamond contains all cells within a number of steps of its
+//! centre. The largest diamond of equal cells with a given lowest cell follows from the largest diamonds whose lowest cells
 //! are in the two rows above.
 
-ghost use Rattle.std.specs.Prelude.{◌≡◌, ℕ, ◌+◌, ◌<◌, ◌≤◌, length, min, slice_index_or, nat_le, if◌then◌else◌, IfOk};
+ghost use Rattle.std.specs.Prelude.{◌≡◌, ℕ, ◌+◌, ◌<◌, ◌≤◌, length, min, slice_index_or, IfOk};
 ghost use Rattle.cell_patches.specs.parts.Passes.{cell_equals_four_cells_above, RowsGiveDiamondStepsOfCell, RowsGiveDiamondStepsOfRow};
 
-use crate::near_rows::{PatchNumberRowsAroundRow, cell_in_column_or_null};
+use crate::near_rows::{RowsAroundRow, cell_in_column_or_null};
 use cell_core::memory::Memory;
 use std::alloc::Global;
 
@@ -22,7 +22,7 @@ pub(crate) fn diamond_steps_or_0_outside_map(steps: &[u32], col: usize) -> u32
 
 // Returns whether the cell to the right of column `west` equals the three cells above it and the cell two rows above.
 #[inline(always)]
-fn cell_equals_four_cells_above(lines: &PatchNumberRowsAroundRow<'_>, west: usize) -> bool
+fn cell_equals_four_cells_above(lines: &RowsAroundRow<'_>, west: usize) -> bool
     requires { west + 2 < 18446744073709551616 }
     ensures { result ≡ cell_equals_four_cells_above lines.now west }
 {
@@ -37,7 +37,7 @@ fn cell_equals_four_cells_above(lines: &PatchNumberRowsAroundRow<'_>, west: usiz
 // steps at the cells to the upper left, to the upper right, and two rows above.
 #[inline(always)]
 fn diamond_steps_of_cell(
-    lines: &PatchNumberRowsAroundRow<'_>,
+    lines: &RowsAroundRow<'_>,
     col: usize,
     above: &[u32],
     second_above: &[u32],
@@ -63,7 +63,7 @@ fn diamond_steps_of_cell(
 
 // Writes the steps for each cell of a row.
 fn write_diamond_steps_of_row(
-    lines: &PatchNumberRowsAroundRow<'_>,
+    lines: &RowsAroundRow<'_>,
     above: &[u32],
     second_above: &[u32],
     here: &mut [u32],
@@ -79,7 +79,7 @@ fn write_diamond_steps_of_row(
 // Returns the steps of each cell of a row.
 pub(crate) fn diamond_steps_of_row(
     alloc: Global,
-    lines: &PatchNumberRowsAroundRow<'_>,
+    lines: &RowsAroundRow<'_>,
     above: &[u32],
     second_above: &[u32],
 ) -> Result<Vec<u32>, Memory>
@@ -89,13 +89,4 @@ pub(crate) fn diamond_steps_of_row(
     let mut steps = vec![in alloc; 0u32; lines.here.len()]?;
     write_diamond_steps_of_row(lines, above, second_above, steps.as_mut_slice());
     Ok(steps)
-}
-
-// Returns 1 if a diamond has at least `depth` steps, so that its centre is `depth` steps inside the patch, and 0
-// otherwise.
-#[inline(always)]
-pub(crate) fn one_if_diamond_centre_is_core(depth: u32, steps: u32) -> u64
-    ensures { result ≡ (if nat_le depth steps then 1 else 0) }
-{
-    if depth <= steps { 1 } else { 0 }
 }

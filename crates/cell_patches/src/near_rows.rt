@@ -1,15 +1,16 @@
-//! A row of patch numbers and its neighbouring rows.
+//! A row of a map and its neighbouring rows.
 
 ghost use Rattle.std.specs.Prelude.{◌≡◌, ℕ, ◌+◌, ◌<◌, ◌≤◌, length, None, slice_index_or};
 ghost use Rattle.cell_core.specs.Grid.{cell_at};
-ghost use Rattle.cell_patches.specs.parts.Passes.{cell_rows_above_or_null, one_if_side_leaves_patch_of_cell, west_cell_in_row_or_null};
+ghost use Rattle.cell_patches.specs.parts.Passes.{west_cell_in_row_or_null};
+ghost use Rattle.cell_patches.specs.TilePatches.{one_if_side_leaves_category};
 
 use cell_core::cell::Cell;
 use cell_core::map::CellMap;
 
-// A row of patch numbers, the two rows above it and the row below it; null outside the map.
+// A row of a map, the two rows above it and the row below it; null outside the map.
 #[derive(Clone, Copy)]
-pub(crate) struct PatchNumberRowsAroundRow<'a> {
+pub(crate) struct RowsAroundRow<'a> {
     pub(crate) second_above: &'a [Cell],
     pub(crate) above: &'a [Cell],
     pub(crate) here: &'a [Cell],
@@ -25,29 +26,15 @@ fn set_cells_to_null(cells: &mut [Cell])
     }
 }
 
-// Copies the row `steps` rows above `row`, or nulls outside the map.
-pub(crate) fn copy_row_above(numbers: &CellMap, row: u32, steps: u32, cells: &mut [Cell])
-    requires row { row < numbers.now.region.rows }
-    requires wide { length cells.old ≡ numbers.now.region.cols }
-    ensures { (c : ℕ) → slice_index_or cells.new c None
-        ≡ cell_rows_above_or_null steps numbers.now row c }
-{
-    if steps <= row {
-        numbers.copy_row(row - steps, cells);
-    } else {
-        set_cells_to_null(cells);
-    }
-}
-
 // Copies the row below `row`, or nulls outside the map.
-pub(crate) fn copy_row_below(numbers: &CellMap, row: u32, cells: &mut [Cell])
-    requires row { row < numbers.now.region.rows }
-    requires wide { length cells.old ≡ numbers.now.region.cols }
-    ensures { (c : ℕ) → slice_index_or cells.new c None ≡ cell_at numbers.now (row + 1) c }
+pub(crate) fn copy_row_below(map: &CellMap, row: u32, cells: &mut [Cell])
+    requires row { row < map.now.region.rows }
+    requires wide { length cells.old ≡ map.now.region.cols }
+    ensures { (c : ℕ) → slice_index_or cells.new c None ≡ cell_at map.now (row + 1) c }
 {
     let below = row.saturating_add(1);
-    if below < numbers.region().rows() {
-        numbers.copy_row(below, cells);
+    if below < map.region().rows() {
+        map.copy_row(below, cells);
     } else {
         set_cells_to_null(cells);
     }
@@ -64,10 +51,10 @@ pub(crate) fn cell_in_column_or_null(line: &[Cell], col: usize) -> Cell
     }
 }
 
-// Returns 1 if the side between `cell` and `beyond` leads out of the patch of `cell`, otherwise 0.
+// Returns 1 if the side between `cell` and `beyond` leads out of the category of `cell`, otherwise 0.
 #[inline(always)]
-fn one_if_side_leaves_patch_of_cell(cell: Cell, beyond: Cell) -> u64
-    ensures value { result ≡ one_if_side_leaves_patch_of_cell cell beyond }
+fn one_if_side_leaves_category(cell: Cell, beyond: Cell) -> u64
+    ensures value { result ≡ one_if_side_leaves_category cell beyond }
     ensures most { result ≤ 1 }
 {
     if beyond == cell { 0 } else { 1 }
@@ -85,35 +72,31 @@ fn west_cell_in_row_or_null(line: &[Cell], col: usize) -> Cell
     }
 }
 
-// Counts the north and south sides of a cell that lead out of its patch.
+// Counts the north and south sides of a cell that lead out of its category.
 #[inline(always)]
 pub(crate) fn count_outer_north_south_sides(
-    lines: &PatchNumberRowsAroundRow<'_>,
+    lines: &RowsAroundRow<'_>,
     cell: Cell,
     col: usize,
 ) -> u64
-    ensures { result ≡ one_if_side_leaves_patch_of_cell cell
+    ensures { result ≡ one_if_side_leaves_category cell
         (slice_index_or lines.now.above.now col None)
-        + one_if_side_leaves_patch_of_cell cell (slice_index_or lines.now.below.now col None) }
+        + one_if_side_leaves_category cell (slice_index_or lines.now.below.now col None) }
 {
-    let north = one_if_side_leaves_patch_of_cell(cell, cell_in_column_or_null(lines.above, col));
-    let south = one_if_side_leaves_patch_of_cell(cell, cell_in_column_or_null(lines.below, col));
+    let north = one_if_side_leaves_category(cell, cell_in_column_or_null(lines.above, col));
+    let south = one_if_side_leaves_category(cell, cell_in_column_or_null(lines.below, col));
     north + south
 }
 
-// Counts the west and east sides of a cell that lead out of its patch.
+// Counts the west and east sides of a cell that lead out of its category.
 #[inline(always)]
-pub(crate) fn count_outer_west_east_sides(
-    lines: &PatchNumberRowsAroundRow<'_>,
-    cell: Cell,
-    col: usize,
-) -> u64
+pub(crate) fn count_outer_west_east_sides(lines: &RowsAroundRow<'_>, cell: Cell, col: usize) -> u64
     requires { col < length lines.now.here.now }
-    ensures { result ≡ one_if_side_leaves_patch_of_cell cell
+    ensures { result ≡ one_if_side_leaves_category cell
         (west_cell_in_row_or_null lines.now.here.now col)
-        + one_if_side_leaves_patch_of_cell cell (slice_index_or lines.now.here.now (col + 1) None) }
+        + one_if_side_leaves_category cell (slice_index_or lines.now.here.now (col + 1) None) }
 {
-    let west = one_if_side_leaves_patch_of_cell(cell, west_cell_in_row_or_null(lines.here, col));
-    let east = one_if_side_leaves_patch_of_cell(cell, cell_in_column_or_null(lines.here, col + 1));
+    let west = one_if_side_leaves_category(cell, west_cell_in_row_or_null(lines.here, col));
+    let east = one_if_side_leaves_category(cell, cell_in_column_or_null(lines.here, col + 1));
     west + east
 }

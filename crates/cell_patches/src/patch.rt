@@ -54,7 +54,6 @@ impl Patch {
         self.cells += 1;
         self.ends += found.ends;
         self.flanks += found.flanks;
-        self.core += found.core;
         self.first_row = self.first_row.min(found.row);
         self.last_row = self.last_row.max(found.row);
         self.first_col = self.first_col.min(found.col);
@@ -68,7 +67,6 @@ pub(crate) struct CellContribution {
     pub(crate) class: i32,
     pub(crate) ends: u64,
     pub(crate) flanks: u64,
-    pub(crate) core: u64,
     pub(crate) row: u32,
     pub(crate) col: u32,
 }

@@ -3,16 +3,14 @@
 ghost use Rattle.std.specs.Prelude.{◌≡◌, ℕ, ℤ, pos, Some, None, slice_index_or, ◌+◌, ◌-◌, ◌<◌, ◌≤◌, length, max, OnOk, IfOk};
 ghost use Rattle.std.specs.Option.{is_none};
 ghost use Rattle.cell_core.specs.Grid.{cell_at, row_at};
-ghost use Rattle.cell_patches.specs.parts.Passes.{patch_at_index_or_unread, PatchMeasuresCannotOverflow, IsCellAddedToPatch, AreMeasuresOfPatchesUpToCell, IsCellContributionFromRows, CanMeasurePatchesAtCell, CanMeasurePatchesInRow, CanMeasurePatchesFromRow, IsMeasuringStateAfterRow, MapWithPatchNumbers, cell_rows_above_or_null};
+ghost use Rattle.cell_patches.specs.parts.Passes.{patch_at_index_or_unread, PatchMeasuresCannotOverflow, IsCellAddedToPatch, AreMeasuresOfPatchesUpToCell, IsCellContributionFromRows, CanMeasurePatchesAtCell, CanMeasurePatchesInRow, HaveSameCores, TileOfMap, AreRowsAroundRow, AreValidPatchNumbers, tile_rows_before};
 
-use crate::core_steps::{
-    diamond_steps_of_row, diamond_steps_or_0_outside_map, one_if_diamond_centre_is_core,
-};
 use crate::near_rows::{
-    PatchNumberRowsAroundRow, cell_in_column_or_null, copy_row_above, copy_row_below,
-    count_outer_north_south_sides, count_outer_west_east_sides,
+    RowsAroundRow, cell_in_column_or_null, copy_row_below, count_outer_north_south_sides,
+    count_outer_west_east_sides,
 };
 use crate::patch::{CellContribution, Patch};
+use crate::tile_position::TilePosition;
 use cell_core::cell::Cell;
 use cell_core::map::CellMap;
 use cell_core::memory::Memory;
@@ -65,7 +63,7 @@ fn category_or_zero(cell: Cell) -> i32
 
 // Returns the patch number of a cell, or 0 for null.
 #[inline(always)]
-fn patch_number_or_zero(cell: Cell) -> u32
+pub(crate) fn patch_number_or_zero(cell: Cell) -> u32
     ensures { (n : ℕ) → cell ≡ Some (pos n) → result ≡ n }
 {
     match cell.get() {
@@ -76,88 +74,87 @@ fn patch_number_or_zero(cell: Cell) -> u32
 
 // Returns whether a cell is null.
 #[inline(always)]
-fn is_null(cell: Cell) -> bool
+pub(crate) fn is_null(cell: Cell) -> bool
     ensures { result ≡ is_none cell }
 {
     cell.get().is_none()
 }
 
-// Returns the contribution of a cell to its patch.
+// Returns the contribution of the cell at column `at` of a row to its patch. `row` and `col` are its row and column in
+// the full map.
 #[inline(always)]
 fn contribution_of_cell(
-    lines: &PatchNumberRowsAroundRow<'_>,
-    cell: Cell,
-    class: Cell,
-    steps: u32,
-    depth: u32,
+    lines: &RowsAroundRow<'_>,
+    at: usize,
     row: u32,
-    col: usize,
+    col: u32,
 ) -> CellContribution
-    requires width { length lines.now.here.now ≤ 65535 }
-    requires col { col < length lines.now.here.now }
-    ensures { IsCellContributionFromRows lines.now cell class steps depth row col result }
+    requires { at < length lines.now.here.now }
+    ensures { IsCellContributionFromRows lines.now (slice_index_or lines.now.here.now at None) at
+        row col result }
 {
-    let category = category_or_zero(class);
+    let class = cell_in_column_or_null(lines.here, at);
     CellContribution {
-        class: category,
-        ends: count_outer_north_south_sides(lines, cell, col),
-        flanks: count_outer_west_east_sides(lines, cell, col),
-        core: one_if_diamond_centre_is_core(depth, steps),
+        class: category_or_zero(class),
+        ends: count_outer_north_south_sides(lines, class, at),
+        flanks: count_outer_west_east_sides(lines, class, at),
         row,
-        col: col as u32,
+        col,
     }
 }
 
-// Adds a cell to its patch, if it is in one.
+// Adds a cell of a tile to its patch, if it is in one.
 #[inline(always)]
 fn add_cell(
     patches: &mut Vec<Patch>,
-    lines: &PatchNumberRowsAroundRow<'_>,
-    class: Cell,
-    steps: u32,
-    depth: u32,
+    lines: &RowsAroundRow<'_>,
+    number: Cell,
+    position: TilePosition,
     row: u32,
     col: usize,
 ) -> Result<(), Memory>
-    ghost maps: { MapWithPatchNumbers }
-    requires ready { CanMeasurePatchesAtCell maps depth row col lines.now class steps }
-    requires read { AreMeasuresOfPatchesUpToCell maps.map maps.numbers depth row col
-        patches.old.items }
-    ensures { OnOk result
-        (AreMeasuresOfPatchesUpToCell maps.map maps.numbers depth row (col + 1) patches.new.items) }
+    ghost tile: { TileOfMap }
+    requires ready { CanMeasurePatchesAtCell tile position row col lines.now number }
+    requires read { AreMeasuresOfPatchesUpToCell tile row col patches.old.items }
+    ensures read { OnOk result
+        (AreMeasuresOfPatchesUpToCell tile row (col + 1) patches.new.items) }
+    ensures cores { OnOk result (HaveSameCores patches.old.items patches.new.items) }
 {
-    let cell = cell_in_column_or_null(lines.here, col);
-    if is_null(cell) {
+    if is_null(number) {
         return Ok(());
     }
-    let found = contribution_of_cell(lines, cell, class, steps, depth, row, col);
-    add_cell_to_numbered_patch(patches, patch_number_or_zero(cell), found)
+    let found = contribution_of_cell(
+        lines,
+        position.left as usize + col,
+        position.first_row + row,
+        position.first_col + col as u32,
+    );
+    add_cell_to_numbered_patch(patches, patch_number_or_zero(number), found)
 }
 
-// Adds the cells of a row to their patches.
+// Adds the cells of a row of a tile to their patches.
 #[inline(never)]
 fn add_row_of_cells_to_patches(
     patches: &mut Vec<Patch>,
-    lines: &PatchNumberRowsAroundRow<'_>,
-    classes: &[Cell],
-    steps: &[u32],
-    depth: u32,
+    lines: &RowsAroundRow<'_>,
+    numbers: &[Cell],
+    position: TilePosition,
     row: u32,
 ) -> Result<(), Memory>
-    ghost maps: { MapWithPatchNumbers }
-    requires ready { CanMeasurePatchesInRow maps depth row lines.now classes.now steps.now }
-    requires read { AreMeasuresOfPatchesUpToCell maps.map maps.numbers depth row 0
-        patches.old.items }
-    ensures { OnOk result
-        (AreMeasuresOfPatchesUpToCell maps.map maps.numbers depth (row + 1) 0 patches.new.items) }
+    ghost tile: { TileOfMap }
+    requires ready { CanMeasurePatchesInRow tile position row lines.now }
+    requires numbers { numbers.now ≡ row_at tile.numbers row }
+    requires wide { length numbers.now ≡ tile.numbers.region.cols }
+    requires read { AreMeasuresOfPatchesUpToCell tile row 0 patches.old.items }
+    ensures read { OnOk result (AreMeasuresOfPatchesUpToCell tile (row + 1) 0 patches.new.items) }
+    ensures cores { OnOk result (HaveSameCores patches.old.items patches.new.items) }
 {
-    for col in 0..classes.len() {
+    for col in 0..numbers.len() {
         add_cell(
             patches,
             lines,
-            cell_in_column_or_null(classes, col),
-            diamond_steps_or_0_outside_map(steps, col),
-            depth,
+            cell_in_column_or_null(numbers, col),
+            position,
             row,
             col,
         )?;
@@ -176,64 +173,50 @@ pub(crate) fn row_of_map(alloc: Global, map: &CellMap, row: u32) -> Result<Vec<C
     Ok(line)
 }
 
-// Returns the row `steps` rows above `row`, with nulls outside the map.
-fn row_above_or_nulls(
-    alloc: Global,
-    numbers: &CellMap,
-    row: u32,
-    steps: u32,
-) -> Result<Vec<Cell>, Memory>
-    requires { row < numbers.now.region.rows }
-    ensures { IfOk result (λ line. (c : ℕ)
-        → slice_index_or line.items c None ≡ cell_rows_above_or_null steps numbers.now row c) }
-{
-    let mut line = vec![in alloc; Cell::null(); numbers.region().cols() as usize]?;
-    copy_row_above(numbers, row, steps, line.as_mut_slice());
-    Ok(line)
-}
-
 // Returns the row below `row`, with nulls outside the map.
-fn row_below_or_nulls(alloc: Global, numbers: &CellMap, row: u32) -> Result<Vec<Cell>, Memory>
-    requires { row < numbers.now.region.rows }
-    ensures { IfOk result (λ line. (c : ℕ)
-        → slice_index_or line.items c None ≡ cell_at numbers.now (row + 1) c) }
-{
-    let mut line = vec![in alloc; Cell::null(); numbers.region().cols() as usize]?;
-    copy_row_below(numbers, row, line.as_mut_slice());
-    Ok(line)
-}
-
-// Adds the cells of a row of a map to their patches. Returns the steps of these cells, given the steps of the two rows
-// above.
-pub(crate) fn measure_patches_in_row(
+pub(crate) fn row_below_or_nulls(
     alloc: Global,
     map: &CellMap,
-    numbers: &CellMap,
-    patches: &mut Vec<Patch>,
-    above: &[u32],
-    second_above: &[u32],
-    depth: u32,
     row: u32,
-) -> Result<Vec<u32>, Memory>
-    ghost maps: { MapWithPatchNumbers }
-    requires same { maps ≡ record { map = map.now; numbers = numbers.now } }
-    requires ready { CanMeasurePatchesFromRow maps depth row above.now second_above.now
-        patches.old.items }
-    ensures { IfOk result (λ steps. IsMeasuringStateAfterRow maps depth row steps.items
-        patches.new.items) }
+) -> Result<Vec<Cell>, Memory>
+    requires { row < map.now.region.rows }
+    ensures line { IfOk result (λ line. (c : ℕ)
+        → slice_index_or line.items c None ≡ cell_at map.now (row + 1) c) }
+    ensures wide { IfOk result (λ line. length line.items ≡ map.now.region.cols) }
 {
-    let classes = row_of_map(alloc, map, row)?;
-    let second_line = row_above_or_nulls(alloc, numbers, row, 2)?;
-    let above_line = row_above_or_nulls(alloc, numbers, row, 1)?;
-    let here = row_of_map(alloc, numbers, row)?;
-    let below = row_below_or_nulls(alloc, numbers, row)?;
-    let lines = PatchNumberRowsAroundRow {
-        second_above: &second_line,
-        above: &above_line,
-        here: &here,
-        below: &below,
-    };
-    let steps = diamond_steps_of_row(alloc, &lines, above, second_above)?;
-    add_row_of_cells_to_patches(patches, &lines, &classes, &steps, depth, row)?;
-    Ok(steps)
+    let mut line = vec![in alloc; Cell::null(); map.region().cols() as usize]?;
+    copy_row_below(map, row, line.as_mut_slice());
+    Ok(line)
+}
+
+// Adds the cells of a tile in a row of the map to their patches.
+pub(crate) fn add_row_of_map_to_patches(
+    alloc: Global,
+    patches: &mut Vec<Patch>,
+    lines: &RowsAroundRow<'_>,
+    numbers: &CellMap,
+    position: TilePosition,
+    row: u32,
+) -> Result<(), Memory>
+    ghost tile: { TileOfMap }
+    requires numbers { tile.numbers ≡ numbers.now }
+    requires position { tile.position ≡ position }
+    requires valid { AreValidPatchNumbers tile }
+    requires at { AreRowsAroundRow tile.map row lines.now }
+    requires wide { length lines.now.here.now ≡ tile.map.region.cols }
+    requires read { AreMeasuresOfPatchesUpToCell tile
+        (tile_rows_before tile.numbers tile.position.top row) 0 patches.old.items }
+    ensures read { OnOk result (AreMeasuresOfPatchesUpToCell tile
+        (tile_rows_before tile.numbers tile.position.top (row + 1)) 0 patches.new.items) }
+    ensures cores { OnOk result (HaveSameCores patches.old.items patches.new.items) }
+{
+    if row < position.top {
+        return Ok(());
+    }
+    let tile_row = row - position.top;
+    if numbers.region().rows() <= tile_row {
+        return Ok(());
+    }
+    let line = row_of_map(alloc, numbers, tile_row)?;
+    add_row_of_cells_to_patches(patches, lines, &line, position, tile_row)
 }

@@ -4,8 +4,9 @@ use super::maps::filled;
 use cell_clumps::clump::{Joining, clump_with};
 use cell_core_test_maps::assert_same;
 use cell_core_test_maps::maps::NULL_CATEGORY;
-use cell_patches::measuring::patch_measures;
+use cell_patches::measuring::{patch_measures, patch_measures_in_tile};
 use cell_patches::patch::Patch;
+use cell_patches::tile_position::TilePosition;
 use cell_patches::zones::zones_of_patches;
 use std::alloc::AllocGlobal;
 use std::process::Abort;
@@ -118,6 +119,26 @@ fn patches_by_edges_and_corners(rt: HostRuntime) -> Result<(), Fail> {
         ];
         expect_patches(&rt, Joining::EdgesAndCorners, depth, &wanted)?;
     }
+    Ok(())
+}
+
+#[test]
+fn only_tile_has_rows_and_columns_of_full_map(rt: HostRuntime) -> Result<(), Fail> {
+    let map = filled(rt.alloc(), &WORKED, 7)?;
+    let numbers = clump_with(rt.alloc(), &map, Joining::Edges)?;
+    let position = TilePosition {
+        top: 0,
+        left: 0,
+        first_row: 100,
+        first_col: 2000,
+    };
+    let fits = numbers.region().rows() < 1000 && numbers.region().cols() < 1000;
+    if !fits {
+        return Err(Fail::from("a larger map"));
+    }
+    let patches = patch_measures_in_tile(rt.alloc(), &map, position, &numbers, Joining::Edges, 1)?;
+    let wanted = patch(1, [26, 12, 10, 10], [100, 104, 2000, 2005]);
+    assert_same!(rt; patches.first(), Some(&wanted));
     Ok(())
 }
 

@@ -1,4 +1,0 @@
-use Rattle.cell_patches.proofs.read_rows.measure_patches_in_row.Given as goal
-
-abbrev pub ghost-add_row_of_cells_to_patches : goal.ghost-add_row_of_cells_to_patches
-ghost-add_row_of_cells_to_patches g a = g.maps
