@@ -1,5 +1,5 @@
 -- The border of a tile as lists.
-use Rattle.std.specs.Prelude.{ℕ, List, [], map}
+use Rattle.std.specs.Prelude.{ℕ, ◌≡◌, ◌<◌, ◌^◌, List, [], length, map, All}
 use Rattle.cell_core.specs.Grid.{CellValue}
 use Rattle.cell_join_tiles.specs.declared.border.TileSide.{TileSide}
 use Rattle.cell_join_tiles.specs.declared.border.TileBorder.{TileBorder}
@@ -16,6 +16,20 @@ pub record TileBorderValue : Type 0 where
   pub left : TileSideValue
   pub right : TileSideValue
   pub begun : List ℕ
+
+-- a side has this number of cells, and a number for each of them
+pub record TileSideHasLength (count : ℕ) (side : TileSideValue) : Type 0 where
+  pub cells : length side.cells ≡ count
+  pub numbers : length side.numbers ≡ count
+
+-- the border has the lengths of a tile with `rows` × `cols` cells, and its counts fit in 32 bits
+pub record TileBorderHasSize (rows cols : ℕ) (border : TileBorderValue) : Type 0 where
+  pub first : TileSideHasLength cols border.first
+  pub last : TileSideHasLength cols border.last
+  pub left : TileSideHasLength rows border.left
+  pub right : TileSideHasLength rows border.right
+  pub begun : length border.begun ≡ rows
+  pub few : All (λ count. count < 2 ^ 32) border.begun
 
 abbrev pub value_of_tile_side : TileSide → TileSideValue
 value_of_tile_side side = record { cells = side.cells.items; numbers = side.numbers.items }

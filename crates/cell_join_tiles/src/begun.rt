@@ -1,6 +1,6 @@
 //! Counts the clumps that begin in each row of a tile.
 
-ghost use Rattle.std.specs.Prelude.{◌≡◌, ◌<◌, IfOk};
+ghost use Rattle.std.specs.Prelude.{◌≡◌, ◌<◌, ◌≤◌, ◌^◌, All, IfOk, length};
 ghost use Rattle.cell_core.specs.Grid.{row_at};
 ghost use Rattle.cell_join_tiles.specs.parts.Greatest.{greater_of_number_and_cell, greatest_of_number_and_cells};
 ghost use Rattle.cell_join_tiles.specs.Borders.{BegunCountsAreMaximumRises};
@@ -17,7 +17,8 @@ use std::alloc::Global;
 /// Returns [`Memory`] if memory runs out.
 pub fn cells_of_map_row(alloc: Global, map: &CellMap, row: u32) -> Result<Vec<Cell>, Memory>
     requires { row < map.now.region.rows }
-    ensures { IfOk result (λ cells. cells.items ≡ row_at map.now row) }
+    ensures cells { IfOk result (λ cells. cells.items ≡ row_at map.now row) }
+    ensures long { IfOk result (λ cells. length cells.items ≡ map.now.region.cols) }
 {
     let mut cells = vec![in alloc; Cell::null(); map.region().cols() as usize]?;
     map.copy_row(row, cells.as_mut_slice());
@@ -26,7 +27,8 @@ pub fn cells_of_map_row(alloc: Global, map: &CellMap, row: u32) -> Result<Vec<Ce
 
 // Returns the larger of a number and a cell.
 fn greater_of_number_and_cell(most: u64, cell: Cell) -> u64
-    ensures { result ≡ greater_of_number_and_cell most cell }
+    ensures greater { result ≡ greater_of_number_and_cell most cell }
+    ensures small { most ≤ 2147483647 → result ≤ 2147483647 }
 {
     let Some(category) = cell.get() else {
         return most;
@@ -39,7 +41,8 @@ fn greater_of_number_and_cell(most: u64, cell: Cell) -> u64
 
 // Returns the largest of a number and cells.
 fn greatest_of_number_and_cells(most: u64, cells: &[Cell]) -> u64
-    ensures { result ≡ greatest_of_number_and_cells most cells.now }
+    ensures greatest { result ≡ greatest_of_number_and_cells most cells.now }
+    ensures small { most ≤ 2147483647 → result ≤ 2147483647 }
 {
     let mut greatest = most;
     for cell in cells {
@@ -54,8 +57,9 @@ fn greatest_of_number_and_cells(most: u64, cells: &[Cell]) -> u64
 ///
 /// Returns [`Memory`] if memory runs out.
 pub fn begun_clump_counts_by_row(alloc: Global, numbers: &CellMap) -> Result<Vec<u64>, Memory>
-    ensures { IfOk result (λ begun. BegunCountsAreMaximumRises numbers.now.region.rows numbers.now
-        begun.items) }
+    ensures rises { IfOk result (λ begun. BegunCountsAreMaximumRises numbers.now.region.rows
+        numbers.now begun.items) }
+    ensures few { IfOk result (λ begun. All (λ count. count < 2 ^ 32) begun.items) }
 {
     let mut begun = Vec::new(alloc);
     let mut most = 0;

@@ -4,7 +4,7 @@
 //! cells. Memory therefore grows with the seams, not with the clumps.
 //!
 //! - `border`: `TileBorder`: four sides, each with its cells and their clump numbers, and the counts by row; `begun`:
-//!   `begun_clump_counts_by_row` computes these counts
+//!   `begun_clump_counts_by_row` computes these counts; `bordering`: `border_of_tile` makes the border of a map
 //! - `joiner`: `TileJoiner`: `add` accepts a row of tiles from the left, and `finish` returns `JoinedTiles`, the
 //!   numbers in the full map as runs, and the number of clumps
 //! - `law`: from borders to labels, and from labels to numbers; the main law is `joined_tiles_give_clump_numbers`
@@ -28,6 +28,7 @@
 
 pub mod begun;
 pub mod border;
+pub mod bordering;
 pub mod joiner;
 mod label_runs;
 pub mod law;
