@@ -97,7 +97,7 @@ record AreSettled (a b : List Grid) (region : RegionValue) (known : List (List M
   maps : (place : ℕ) → IsSettled a b (needs_of_map_at_place known place) (slice_get x.maps place)
       (slice_get y.maps place)
 
-length-more : {A : Type 0} (xs : List A) (x : A) → length (xs ++ x ∷ []) ≡ suc (length xs)
+pub length-more : {A : Type 0} (xs : List A) (x : A) → length (xs ++ x ∷ []) ≡ suc (length xs)
 length-more [] x = refl
 length-more (y ∷ xs) x = ap suc (length-more xs x)
 
@@ -196,7 +196,8 @@ module _ (a b : List Grid) (region : RegionValue) (known : List (List MapNeed)) 
           (All-get_or (MapFillsRegion region) z.maps place m within all)
       by (inr past) = absurd (cc (is, slice_get_past z.maps place past))
 
-of_map : {H : Grid → Type 0} (o : Option Grid) → MapExistsAndSatisfiesRelation H o → (m : Grid) × ((o ≡ Some m) × H m)
+pub of_map : {H : Grid → Type 0} (o : Option Grid) → MapExistsAndSatisfiesRelation H o
+    → (m : Grid) × ((o ≡ Some m) × H m)
 of_map None h = absurd h
 of_map (Some m) h = (m, (refl, h))
 
@@ -215,12 +216,12 @@ reclass_rows rules rows (pos r) = list.get_or-map (reclassed_row rules) rows r [
 reclass_rows rules rows (negsuc r) = refl
 
 -- a cell of a reclassified map is the new category of the cell
-reclass_cell : (rules : List RuleValue) (g : Grid) (row col : ℤ)
+pub reclass_cell : (rules : List RuleValue) (g : Grid) (row col : ℤ)
     → cell_of_map_or_null (reclassed_map rules g) row col ≡ new_category rules (cell_of_map_or_null g row col)
 reclass_cell rules g row col = ap (λ l. item_at_integer_or_default None l col) (reclass_rows rules g.rows row)
     ∙ reclass_row rules (row_of_map_or_empty g row) col
 
-reclass_of_region : (region : RegionValue) (rules : List RuleValue) (g : Grid) → MapFillsRegion region g
+pub reclass_of_region : (region : RegionValue) (rules : List RuleValue) (g : Grid) → MapFillsRegion region g
     → MapFillsRegion region (reclassed_map rules g)
 reclass_of_region region rules g h = record {
   region_is = h.region_is;

@@ -14,3 +14,4 @@ pub mod NeedLemmas
 pub mod PlanLemmas
 pub mod ReachLemmas
 pub mod ReadLemmas
+pub mod RewriteLemmas

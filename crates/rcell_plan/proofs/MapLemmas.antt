@@ -1,14 +1,12 @@
 -- Two maps with equal cells everywhere are equal.
-use Rattle.std.proofs.Common.{◌≡◌, ℕ, ◌<◌, List, [], Some, None, length, get_or, pos, refl, ap, sym, ◌∙◌, arith}
-use Rattle.std.specs.Option.{option_map_or}
+use Rattle.std.proofs.Common.{◌≡◌, ℕ, ◌<◌, List, [], None, length, get_or, ap, sym, ◌∙◌, arith}
 use Rattle.std.proofs.lemmas.List.{get_or_default, same_lists}
 use Rattle.std.proofs.lemmas.List.Elements.{All-get_or}
 use Rattle.cell_core_values.specs.Region.{RegionValue}
-use Rattle.cell_core.specs.Grid.{Grid, CellValue, RowsFillRegion, cell_at}
+use Rattle.cell_core.specs.Grid.{Grid, CellValue, RowsFillRegion}
 use Rattle.cell_core.specs.Shelf.{ShelfValue}
 use Rattle.cell_calc_language.specs.Applied.{grid_position}
-use Rattle.cell_calc_language.specs.CellOperators.{cell_chosen_by_condition, cell_of_truth_value, is_null}
-use Rattle.cell_calc_language.specs.Formula.{Formula, Map}
+use Rattle.cell_calc_language.specs.Formula.{Formula}
 use Rattle.cell_calc_language.specs.Value.{value}
 use Rattle.rcell.specs.Making.{IsMapOfExpressionValues}
 

@@ -1,23 +1,15 @@
 -- Maps at offsets: the cells that they read, and their number of cells.
-use Rattle.std.proofs.Common.{◌≡◌, ℕ, zero, suc, ℤ, pos, negsuc, ◌≤◌, ◌+ℤ◌, List, [], ◌∷◌, ◌++◌, map, length}
-use Rattle.std.proofs.Common.{get_or, Option, Some, None, All, cond, refl, ap, sym, ◌∙◌, arith, inl, inr, ⊎_elim, ◌⊎◌}
+use Rattle.std.proofs.Common.{◌≡◌, ℕ, zero, suc, ℤ, pos, negsuc, ◌≤◌, ◌+ℤ◌, List, [], ◌∷◌, ◌++◌, length}
+use Rattle.std.proofs.Common.{get_or, Option, Some, None, All, refl, ap, sym, ◌∙◌, arith, inl, inr, ⊎_elim, ◌⊎◌}
 use Rattle.std.specs.Prelude.{slice_get}
-use Rattle.std.specs.List.{range_with_len}
-use Rattle.std.specs.Option.{option_map_or}
-use Rattle.std.specs.Ordering.{eq_by_cmp}
 use Rattle.std.proofs.Math.IntN.{+ℤ_assoc, +ℤ_comm}
 use Rattle.std.proofs.lemmas.Bool.{cases_lt}
 use Rattle.std.proofs.lemmas.List.{get_or_past}
 use Rattle.cell_core_values.specs.Region.{RegionValue}
-use Rattle.cell_core.specs.Grid.{Grid, CellValue, RowsFillRegion, cell_at}
+use Rattle.cell_core.specs.Grid.{Grid, CellValue, RowsFillRegion}
 use Rattle.cell_calc_language.specs.Offsets.{item_at_integer_or_default, cell_of_optional_map, cell_of_map_or_null}
 use Rattle.cell_calc_language.specs.Offsets.{row_of_map_or_empty}
-use Rattle.cell_stats_combinations.specs.Combinations.{Combination, combination_cmp, combination_at_row_and_column}
-use Rattle.cell_stats_combinations.specs.Combinations.{all_combinations}
-use Rattle.cell_stats_counts.specs.Counts.{cell_count_of_combination}
-use Rattle.rcell_plan.specs.LocalLaw.{cells_as_combinations, combinations_of_picked_maps}
 use Rattle.rcell_plan.specs.ShiftLaw.{ShiftsAddUp, NullBeyondTheEdge}
-use Rattle.cell_join_numbers.proofs.SumLemmas.{line, line-same, line-none, count-line, count-lines}
 
 -- ---- offsets add up
 

@@ -75,7 +75,7 @@ module _ (region : RegionValue) (r : Rectangle) (maps : List Grid) (row col : �
   called f xs = refl
 
   mutual
-    placed-reported : (f : Formula) → value (placed region r f) maps here ≡ value_seen_from f maps here there
+    pub placed-reported : (f : Formula) → value (placed region r f) maps here ≡ value_seen_from f maps here there
     placed-reported (Number n) = refl
     placed-reported (Map i down right) = refl
     placed-reported (Negated a) = ap negated_cell (placed-reported a)

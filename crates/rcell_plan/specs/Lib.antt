@@ -9,4 +9,5 @@ pub mod Needs
 pub mod NeedsLaw
 pub mod Plans
 pub mod ReadsLaw
+pub mod Rewriting
 pub mod parts

@@ -1,13 +1,13 @@
 -- Local expressions read only the cell itself, so their values depend only on combinations (r.mapcalc and r.stats
 -- manuals).
-use Rattle.std.specs.Prelude.{ℕ, pos, ◌≡◌, ◌<◌, Bool, true, false, List, [], ◌∷◌, ◌++◌, length, All, Contains, Some, slice_get, map, filter, sum_by}
+use Rattle.std.specs.Prelude.{ℕ, pos, ◌≡◌, Bool, true, false, List, [], ◌∷◌, Contains, filter, sum_by}
 use Rattle.cell_core_values.specs.Cell.{cell_eq}
 use Rattle.cell_core_values.specs.Region.{RegionValue}
-use Rattle.cell_core.specs.Grid.{Grid, CellValue, RowsFillRegion}
+use Rattle.cell_core.specs.Grid.{Grid, CellValue}
 use Rattle.cell_core.specs.Shelf.{ShelfValue}
 use Rattle.cell_calc_grammar.specs.declared.function.Function.{Function}
-use Rattle.cell_calc_grammar.specs.declared.function.Function.TheVariants.{If, IsNull, Row, Column, RowCount, ColumnCount}
-use Rattle.cell_calc_language.specs.Applied.{PositionAndGridSize, grid_position}
+use Rattle.cell_calc_grammar.specs.declared.function.Function.TheVariants.{Row, Column, RowCount, ColumnCount}
+use Rattle.cell_calc_language.specs.Applied.{PositionAndGridSize}
 use Rattle.cell_calc_language.specs.Compact.{ReadsMap}
 use Rattle.cell_calc_language.specs.Formula.{Formula, Number, Map, Negated, Not, Binary, Call, ArgumentFormulas}
 use Rattle.cell_calc_language.specs.Formula.{NoTrees, Then}
@@ -16,7 +16,7 @@ use Rattle.cell_stats_combinations.specs.Combinations.{Combination, combination_
 use Rattle.cell_stats_combinations.specs.declared.skip.Skip.TheVariants.{Nothing}
 use Rattle.cell_stats_counts.specs.Counts.{cell_count_of_combination}
 use Rattle.cell_stats.specs.CategoryTables.{table_of_cells}
-use Rattle.rcell.specs.Making.{IsMapOfExpressionValues, shelf_with_map_at_end}
+use Rattle.rcell.specs.Making.{IsMapOfExpressionValues}
 
 -- the function is row(), col(), nrows() or ncols()
 abbrev pub is_position_function : Function → Bool

@@ -1,12 +1,10 @@
 -- Neighbours are shifts: a map at an offset is a shifted map (r.mapcalc manual; null outside the region is our own
 -- choice).
-use Rattle.std.specs.Prelude.{ℕ, ℤ, pos, ◌≡◌, ◌+ℤ◌, ◌<◌, ◌≤◌, ◌⊎◌, List, [], ◌∷◌, length, All, Some, None}
+use Rattle.std.specs.Prelude.{ℕ, ℤ, pos, ◌≡◌, ◌+ℤ◌, ◌<◌, ◌≤◌, ◌⊎◌, List, length, All, None}
 use Rattle.cell_core.specs.Grid.{Grid, RowsFillRegion, cell_at}
 use Rattle.cell_core.specs.Shelf.{ShelfValue}
 use Rattle.cell_calc_language.specs.Formula.{Map}
-use Rattle.cell_stats_counts.specs.Counts.{cell_count_of_combination}
 use Rattle.rcell.specs.Making.{IsMapOfExpressionValues, shelf_with_map_at_end}
-use Rattle.rcell_plan.specs.LocalLaw.{cells_as_combinations, combinations_of_picked_maps}
 
 -- after `x = g[a,b]`, `y = x[c,d]` and `z = g[a+c,b+d]`, y equals z at each cell from which the step (c,d) stays in the
 -- region

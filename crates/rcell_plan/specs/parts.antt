@@ -1,3 +1,4 @@
 -- Definitions that only bodies and proofs use.
 pub mod Places
 pub mod PositionSteps
+pub mod RewrittenSteps

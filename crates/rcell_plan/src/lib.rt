@@ -28,4 +28,5 @@ pub mod law;
 pub mod needs;
 pub mod planning;
 pub mod reads;
+pub mod rewriting;
 pub mod values_law;

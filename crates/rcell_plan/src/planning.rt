@@ -104,8 +104,8 @@ fn plan_of_statement(
     })
 }
 
-// Returns whether a command makes a map.
-fn command_makes_map(command: &Command) -> bool
+/// Returns whether a command makes a map.
+pub fn command_makes_map(command: &Command) -> bool
     ensures { result ≡ command_makes_map command.now }
 {
     match command {

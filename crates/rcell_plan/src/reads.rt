@@ -101,7 +101,11 @@ fn needs_of_places_at_own_cell(alloc: Global, places: &[usize]) -> Result<MapNee
 }
 
 /// Returns the maps that a command reads, each once.
-pub(crate) fn maps_read_by_command(alloc: Global, command: &Command) -> Result<MapNeeds, Memory>
+///
+/// # Errors
+///
+/// Returns [`Memory`] if memory runs out.
+pub fn maps_read_by_command(alloc: Global, command: &Command) -> Result<MapNeeds, Memory>
     ensures { IfOk result (λ reads. reads ≡ maps_read_by_command command.now) }
 {
     match command {
