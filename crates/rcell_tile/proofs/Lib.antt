@@ -1,0 +1,11 @@
+pub mod ShelfLemmas
+pub mod TileMapLemmas
+pub mod LimitLemmas
+pub mod AgreeLemmas
+pub mod MarginLemmas
+pub mod ExpressionLemmas
+pub mod CutLemmas
+pub mod StatementLemmas
+pub mod TileRunLemmas
+pub mod TileCoverLemmas
+pub mod TileTableLemmas
