@@ -9,8 +9,9 @@ use Rattle.cell_core_devices.specs.Device.{ComingBytes}
 use Rattle.cell_clumps.specs.declared.clump.Joining.{Joining}
 use Rattle.cell_clumps.specs.declared.clump.Joining.TheVariants.{Edges, EdgesAndCorners}
 use Rattle.rcell_pipe_request.specs.Feeds.{after}
-use Rattle.rcell_pipe_request.specs.Questions.{PatchQuestionValue, joining_of_code, question_kind_reading}
-use Rattle.rcell_pipe_request.specs.Questions.{joining_reading, depth_reading}
+use Rattle.rcell_pipe_request.specs.declared.question.WantedFrames.{WantedFrames}
+use Rattle.rcell_pipe_request.specs.Questions.{PatchQuestionValue, frames_wanted_by_kind, joining_of_code}
+use Rattle.rcell_pipe_request.specs.Questions.{question_kind_reading, joining_reading, depth_reading}
 use Rattle.rcell_pipe_request.specs.Questions.{zone_map_name_reading, zone_map_name_of_text, question_reading}
 use Rattle.rcell_pipe_request.specs.Questions.{next_question_reading, questions_reading}
 use Rattle.rcell_pipe_request.specs.Questions.{questions_to_request_end_reading}
@@ -19,16 +20,41 @@ use Rattle.rcell_pipe_law.specs.RequestLaw.{source_of_bytes}
 use Rattle.rcell_pipe_law.specs.SentBytes.{text_with_length_bytes}
 use Rattle.rcell_pipe_law.specs.SentQuestions.{IsSendableQuestion, SentQuestion, question_with_number, code_of_joining}
 use Rattle.rcell_pipe_law.specs.SentQuestions.{questions_with_numbers}
-use Rattle.rcell_pipe_law.specs.SentQuestions.{kind_code_of_question, question_bytes, questions_bytes}
+use Rattle.rcell_pipe_law.specs.SentQuestions.{kind_code_of_wanted_frames, question_bytes, questions_bytes}
 use Rattle.rcell_pipe_law.proofs.SentFieldLemmas.{after-append, name_short, text_8}
 use Rattle.rcell_pipe_law.proofs.SentMapLemmas.{head_of, tail_of}
 use Rattle.rcell_pipe_law.proofs.SentNumberLemmas.{reads_8, reads_32}
 
-kind_reads : (with_numbers : Bool) (rest : ComingBytes)
-    → question_kind_reading (after (to_le_bytes w8 (kind_code_of_question with_numbers)) rest) ≡ Ok (with_numbers, rest)
+kind_small : (p n b : Bool) → kind_code_of_wanted_frames (record { patches = p; numbers = n; border = b }) < 2 ^ 8
+kind_small false false false = omega arith
+kind_small false false true = omega arith
+kind_small false true false = omega arith
+kind_small false true true = omega arith
+kind_small true false false = omega arith
+kind_small true false true = omega arith
+kind_small true true false = omega arith
+kind_small true true true = omega arith
+
+-- the kind of a question that asks for a frame means the frames that it asks for
+kind_is : (p n b : Bool) → 1 ≤ kind_code_of_wanted_frames (record { patches = p; numbers = n; border = b })
+    → frames_wanted_by_kind (kind_code_of_wanted_frames (record { patches = p; numbers = n; border = b }))
+    ≡ Some (record { patches = p; numbers = n; border = b })
+kind_is false false false some = absurd (omega (arith, some))
+kind_is false false true some = refl
+kind_is false true false some = refl
+kind_is false true true some = refl
+kind_is true false false some = refl
+kind_is true false true some = refl
+kind_is true true false some = refl
+kind_is true true true some = refl
+
+kind_reads : (wanted : WantedFrames) (rest : ComingBytes) → 1 ≤ kind_code_of_wanted_frames wanted
+    → question_kind_reading (after (to_le_bytes w8 (kind_code_of_wanted_frames wanted)) rest) ≡ Ok (wanted, rest)
 unfolding question_kind_reading
-kind_reads false rest = rw (reads_8 1 rest (omega arith)) refl
-kind_reads true rest = rw (reads_8 2 rest (omega arith)) refl
+kind_reads wanted rest some = rw (
+  reads_8 (kind_code_of_wanted_frames wanted) rest (kind_small wanted.patches wanted.numbers wanted.border),
+  kind_is wanted.patches wanted.numbers wanted.border some,
+) refl
 
 code_small : (joining : Joining) → code_of_joining joining < 2 ^ 8
 code_small Edges = omega arith
@@ -55,44 +81,51 @@ unfolding depth_reading
 depth_reads depth rest deep fits = rw (reads_32 depth rest fits, deep_enough depth deep) refl
 
 -- the name of the zones is short
-zones_short : (zones : Option (List ℕ)) → IfSome zones (λ name. is_name name ≡ true)
+abbrev ZonesCanBeSent : WantedFrames → Option (List ℕ) → Type 0
+ZonesCanBeSent wanted zones = IfSome zones (λ name. (wanted.patches ≡ true) × (is_name name ≡ true))
+
+zones_short : (wanted : WantedFrames) (zones : Option (List ℕ)) → ZonesCanBeSent wanted zones
     → length (unwrap_or zones []) < 2 ^ 8
-zones_short None is = omega arith
-zones_short (Some name) is = name_short name is
+zones_short wanted None is = omega arith
+zones_short wanted (Some name) is = name_short name is.1
 
-main_zone_of_each_patch : (name : List ℕ) → is_name name ≡ true → zone_map_name_of_text name ≡ Some (Some name)
-main_zone_of_each_patch [] is = cc
-main_zone_of_each_patch (b ∷ bs) is = rw is refl
+main_zone_of_each_patch : (wanted : WantedFrames) (name : List ℕ) → wanted.patches ≡ true → is_name name ≡ true
+    → zone_map_name_of_text wanted name ≡ Some (Some name)
+main_zone_of_each_patch wanted [] asked is = cc
+main_zone_of_each_patch wanted (b ∷ bs) asked is = rw (asked, is) refl
 
-zones_are : (zones : Option (List ℕ)) → IfSome zones (λ name. is_name name ≡ true)
-    → zone_map_name_of_text (unwrap_or zones []) ≡ Some zones
-zones_are None is = refl
-zones_are (Some name) is = main_zone_of_each_patch name is
+zones_are : (wanted : WantedFrames) (zones : Option (List ℕ)) → ZonesCanBeSent wanted zones
+    → zone_map_name_of_text wanted (unwrap_or zones []) ≡ Some zones
+zones_are wanted None is = refl
+zones_are wanted (Some name) is = main_zone_of_each_patch wanted name is.0 is.1
 
-zones_read : (zones : Option (List ℕ)) (rest : ComingBytes) → IfSome zones (λ name. is_name name ≡ true)
-    → zone_map_name_reading (after (text_with_length_bytes w8 (unwrap_or zones [])) rest) ≡ Ok (zones, rest)
+zones_read : (wanted : WantedFrames) (zones : Option (List ℕ)) (rest : ComingBytes) → ZonesCanBeSent wanted zones
+    → zone_map_name_reading wanted (after (text_with_length_bytes w8 (unwrap_or zones [])) rest) ≡ Ok (zones, rest)
 unfolding zone_map_name_reading
-zones_read zones rest is = rw (text_8 (unwrap_or zones []) rest (zones_short zones is), zones_are zones is) refl
+zones_read wanted zones rest is = rw (
+  text_8 (unwrap_or zones []) rest (zones_short wanted zones is),
+  zones_are wanted zones is,
+) refl
 
 question_reads : (number : ℕ) (question : SentQuestion) (rest : ComingBytes) → IsSendableQuestion question
     → question_reading number (after (question_bytes question) rest) ≡ Ok (question_with_number question number, rest)
 unfolding question_reading
 question_reads number question rest is =
-    let kind = to_le_bytes w8 (kind_code_of_question question.with_numbers) in
+    let kind = to_le_bytes w8 (kind_code_of_wanted_frames question.wanted) in
     let code = to_le_bytes w8 (code_of_joining question.joining) in
     let depth = to_le_bytes w32 question.depth in
     let zones = text_with_length_bytes w8 (unwrap_or question.zones []) in
     rw (
       after-append kind (text_with_length_bytes w8 question.map ++ (code ++ (depth ++ zones))) rest,
-      kind_reads question.with_numbers (after (text_with_length_bytes w8 question.map
-          ++ (code ++ (depth ++ zones))) rest),
+      kind_reads question.wanted (after (text_with_length_bytes w8 question.map
+          ++ (code ++ (depth ++ zones))) rest) is.some,
       after-append (text_with_length_bytes w8 question.map) (code ++ (depth ++ zones)) rest,
       text_8 question.map (after (code ++ (depth ++ zones)) rest) is.short,
       after-append code (depth ++ zones) rest,
       joining_reads question.joining (after (depth ++ zones) rest),
       after-append depth zones rest,
       depth_reads question.depth (after zones rest) is.deep is.fits,
-      zones_read question.zones rest is.zones,
+      zones_read question.wanted question.zones rest is.zones,
     ) refl
 
 all_read : (maps : ℕ) (so_far : List PatchQuestionValue) (questions : List SentQuestion) (rest : ComingBytes)

@@ -16,7 +16,7 @@ use Rattle.rcell_pipe_request.specs.Feeds.{after}
 use Rattle.rcell_pipe_request.specs.Heads.{is_new_map_name, is_region_of_shelf}
 use Rattle.rcell_pipe_request.specs.RequestFields.{reading_repeated_n_times}
 use Rattle.rcell_pipe_request.specs.Requests.{map_count_reading, first_map_reading, next_map_reading}
-use Rattle.rcell_pipe_request.specs.Requests.{run_request_reading}
+use Rattle.rcell_pipe_request.specs.Requests.{maps_reading, run_over_shelves_reading, run_request_reading}
 use Rattle.rcell_pipe_request.specs.Requests.{script_bytes_reading}
 use Rattle.rcell_pipe_request.proofs.FeedLemmas.{bytes_reading-all}
 use Rattle.rcell_pipe_law.specs.RequestLaw.{IsSendableRequest, SentRequest, SentRequestsAreRead}
@@ -156,7 +156,7 @@ parts_read : (r : SentRequest) → IsSendableRequest r
     (after (questions_bytes r.questions)
     (source_of_bytes []))))))
     ≡ Ok (meaning_of_sent_request r, source_of_bytes [])
-unfolding run_request_reading
+unfolding run_request_reading maps_reading run_over_shelves_reading
 parts_read r is =
     let n = length (r.first ∷ r.others) in
     let shelf : ShelfValue = record {

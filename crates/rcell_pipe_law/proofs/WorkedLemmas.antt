@@ -138,7 +138,8 @@ worked = record {
       short = omega arith;
       deep = omega arith;
       fits = omega arith;
-      zones = refl;
+      some = omega arith;
+      zones = (refl, refl);
     });
     count = omega arith;
   };

@@ -5,6 +5,7 @@ use Rattle.cell_core_devices.specs.Device.{ComingBytes}
 use Rattle.cell_core_values.specs.Name.{AreDistinctNames}
 use Rattle.rcell_pipe_request.specs.RequestFields.{bytes_reading}
 use Rattle.rcell_pipe_request.specs.Requests.{RunRequestValue, run_request_reading}
+use Rattle.rcell_tile.specs.TileRuns.{shelves_of_full_maps}
 use Rattle.rcell_pipe_law.specs.SentBytes.{bytes_of_sent_maps, text_with_length_bytes}
 use Rattle.rcell_pipe_law.specs.SentMaps.{IsSendableMap, SentMap, shelf_of_sent_maps}
 use Rattle.rcell_pipe_law.specs.SentQuestions.{IsSendableQuestion, SentQuestion, questions_with_numbers}
@@ -35,7 +36,7 @@ request_bytes r = bytes_of_sent_maps r.first r.others ++ (text_with_length_bytes
 -- the maps, the script and the questions that the bytes denote
 abbrev pub meaning_of_sent_request : SentRequest → RunRequestValue
 meaning_of_sent_request r = record {
-  shelf = shelf_of_sent_maps r.first r.others;
+  shelves = shelves_of_full_maps (shelf_of_sent_maps r.first r.others);
   script = r.script;
   questions = questions_with_numbers 0 r.questions;
 }

@@ -52,7 +52,7 @@ example_heat_question = record {
   joining = EdgesAndCorners;
   depth = 2;
   zones = Some (codes "land");
-  with_numbers = true;
+  wanted = record { patches = true; numbers = true; border = false };
 }
 
 abbrev pub example_heat_request : SentRequest
@@ -85,7 +85,7 @@ example_heat_request_bytes =
     ++ (1 ∷ 0 ∷ 0 ∷ 0 ∷ 254 ∷ 255 ∷ 255 ∷ 255 ∷ 4 ∷ 0 ∷ []) ++ codes "cold"
     ++ (254 ∷ 255 ∷ 7 ∷ 0 ∷ 3 ∷ 0 ∷ 0 ∷ 1 ∷ 0 ∷ []) ++ (3 ∷ 0 ∷ 3 ∷ 0 ∷ 212 ∷ 254 ∷ 0 ∷ 0 ∷ 0 ∷ [])
     ++ (22 ∷ 0 ∷ 0 ∷ 0 ∷ []) ++ codes "r.stats -c input=land\n"
-    ++ (1 ∷ 0 ∷ 0 ∷ 0 ∷ 2 ∷ 4 ∷ []) ++ codes "heat" ++ (8 ∷ 2 ∷ 0 ∷ 0 ∷ 0 ∷ 4 ∷ []) ++ codes "land"
+    ++ (1 ∷ 0 ∷ 0 ∷ 0 ∷ 3 ∷ 4 ∷ []) ++ codes "heat" ++ (8 ∷ 2 ∷ 0 ∷ 0 ∷ 0 ∷ 4 ∷ []) ++ codes "land"
 
 -- the cells that the numbers denote: 255 and cells that the mask hides are null
 abbrev pub docs_example_map_cells : List (List CellValue)

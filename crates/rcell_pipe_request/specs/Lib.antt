@@ -7,6 +7,7 @@ pub mod RequestFields
 pub mod Heads
 pub mod Rows
 pub mod Questions
+pub mod RequestPlaces
 pub mod Requests
 pub mod Supposed
 pub mod Feeds

@@ -7,6 +7,7 @@ use Rattle.std.specs.Int.{w32}
 use Rattle.cell_core_devices.specs.Device.{ComingBytes}
 use Rattle.cell_core.specs.Grid.{CellValue, Grid, empty_category_labels}
 use Rattle.cell_core.specs.Shelf.{ShelfValue}
+use Rattle.rcell_tile.specs.TileRuns.{RunShelvesValue, shelves_of_full_maps}
 use Rattle.rcell_pipe_request.specs.declared.error.ErrorKind.{ErrorKind}
 use Rattle.rcell_pipe_request.specs.declared.error.ErrorKind.TheVariants as kinds
 use Rattle.rcell_pipe_request.specs.declared.error.RequestError.{RequestError}
@@ -22,7 +23,8 @@ use Rattle.rcell_pipe_request.specs.RequestFields.{bytes_reading, unsigned_numbe
 use Rattle.rcell_pipe_request.specs.RequestFields.{reading_repeated_n_times}
 use Rattle.rcell_pipe_request.specs.Questions.{PatchQuestionValue, questions_to_request_end_reading}
 use Rattle.rcell_pipe_request.specs.Questions.{questions_as_values}
-use Rattle.rcell_pipe_request.specs.Heads.{LabelValue, map_head_reading}
+use Rattle.rcell_pipe_request.specs.Heads.{LabelValue, map_head_reading, reading_of_value_or_error_kind}
+use Rattle.rcell_pipe_request.specs.RequestPlaces.{place_reading, shelves_of_tile_if_it_fits}
 use Rattle.rcell_pipe_request.specs.Rows.{row_cells_reading}
 use Rattle.rcell_pipe_request.specs.declared.head.RawFormat.{RawFormat}
 
@@ -93,9 +95,9 @@ script_to_request_end_reading c = do
   end ← end_of_request_reading script.1
   Ok (script.0, end.1)
 
--- maps, a script, and questions about the maps that exist at its end
+-- maps, full or of a tile with its halo; a script; and questions about the maps that exist at its end
 pub record RunRequestValue : Type 0 where
-  pub shelf : ShelfValue
+  pub shelves : RunShelvesValue
   pub script : List ℕ
   pub questions : List PatchQuestionValue
 
@@ -106,21 +108,42 @@ first_map_reading c = do
   first ← map_reading 0 None count.1
   Ok ((count.0, shelf_of_first_map first.0), first.1)
 
--- the maps, the script and the questions
-unfoldable pub run_request_reading : ComingBytes → PositionedReading RunRequestValue
-run_request_reading c = do
+-- the number of maps, and all maps
+unfoldable pub maps_reading : ComingBytes → PositionedReading (ℕ × ShelfValue)
+maps_reading c = do
   first ← first_map_reading c
   shelf ← reading_repeated_n_times next_map_reading first.0.1 (first.0.0 - 1) first.1
-  script ← result_with_error_position first.0.0 0 (script_bytes_reading shelf.1)
-  questions ← questions_to_request_end_reading first.0.0 script.1
-  Ok (record { shelf = shelf.0; script = script.0; questions = questions.0 }, questions.1)
+  Ok ((first.0.0, shelf.0), shelf.1)
+
+-- the script and the questions of a run over these maps, which end the request
+unfoldable pub run_over_shelves_reading : ℕ → RunShelvesValue → ComingBytes → PositionedReading RunRequestValue
+run_over_shelves_reading maps shelves c = do
+  script ← result_with_error_position maps 0 (script_bytes_reading c)
+  questions ← questions_to_request_end_reading maps script.1
+  Ok (record { shelves = shelves; script = script.0; questions = questions.0 }, questions.1)
+
+-- full maps, the script and the questions
+unfoldable pub run_request_reading : ComingBytes → PositionedReading RunRequestValue
+run_request_reading c = do
+  maps ← maps_reading c
+  run_over_shelves_reading maps.0.0 (shelves_of_full_maps maps.0.1) maps.1
+
+-- the place of a tile, its maps with their halo, the script and the questions; if the place does not fit the maps, the
+-- error follows the maps
+unfoldable pub tile_run_request_reading : ComingBytes → PositionedReading RunRequestValue
+tile_run_request_reading c = do
+  place ← result_with_error_position 0 0 (place_reading c)
+  maps ← maps_reading place.1
+  shelves ← result_with_error_position maps.0.0 0
+      (reading_of_value_or_error_kind kinds.BadPlace maps.1 (shelves_of_tile_if_it_fits place.0 maps.0.1))
+  run_over_shelves_reading maps.0.0 shelves.0 shelves.1
 
 abbrev pub named_map_as_value : NamedMap → NamedMapValue
 named_map_as_value named = record { name = named.name; grid = named.map }
 
 abbrev pub run_request_as_value : Request → RunRequestValue
 run_request_as_value request = record {
-  shelf = request.shelf;
+  shelves = request.shelves;
   script = request.script.items;
   questions = questions_as_values request.questions.items;
 }

@@ -16,6 +16,8 @@ pub enum ErrorKind {
     Short,
     /// The request could not be read to its end.
     ReadFailed,
+    /// The place is not in a full map, or the maps or the tile do not fit into it.
+    BadPlace,
     /// There is no map, or there are more than 65535.
     BadCount,
     /// A name is not the name of a map.
@@ -68,8 +70,18 @@ pub enum ErrorKind {
     BadTableCount,
     /// The count of an entry of a table is 0.
     ZeroCount,
-    /// The counts of the tables add up to 2^64 or more.
+    /// The counts of the tables, or the measures of a patch's parts, add up to 2^64 or more.
     TooManyCells,
+    /// A run of a numbering has no patch, does not follow the run before it, or has numbers of 2^64 or more.
+    BadRun,
+    /// A patch does not follow the patch before it, in the order of tiles and their patches.
+    PatchOrder,
+    /// No run contains the patch.
+    UnknownPatch,
+    /// The class is null, there are no cells, or a map has no such rows or columns.
+    BadPatch,
+    /// Two parts of a patch have different classes.
+    OtherClass,
     /// There are bytes after the request.
     Trailing,
 }

@@ -1,11 +1,13 @@
 //! Requests to `rcell-pipe`: parses bytes into maps, a script and questions, or reports the first error. docs/pipe.md
 //! defines the bytes (profile).
 //!
-//! - `request`: `read_run_request` reads a `Request`: maps of one region, a script, and questions
+//! - `request`: `read_run_request` and `read_tile_run_request` read a `Request`: maps of one region, a script, and
+//!   questions
 //! - `question`: `Question`, about the patches of a map; private `questions` reads them
 //! - `error`: `RequestError`, the first error, with the number of maps before it and its row
 //! - `feed`: `Feed` reads a source in blocks: numbers with their lowest byte first, and texts
 //! - `head`: `read_map_head` reads everything before the rows of a map; private `named_map` reads the map
+//! - `place`: `StatedPlace`, where the maps of a tile are in a full map
 //! - `kind`: `CellType`, the seven types of numbers
 //! - `raw_row`: `read_row` converts a row of bytes to cells; `packed_row` does so in place for `u8`
 //!
@@ -22,6 +24,7 @@ pub mod head;
 pub mod kind;
 mod named_map;
 pub mod packed_row;
+pub mod place;
 pub mod question;
 mod questions;
 pub mod raw_row;

@@ -5,6 +5,17 @@ ghost use Rattle.std.specs.Prelude.{◌<◌};
 use cell_clumps::clump::Joining;
 use cell_core::name::Name;
 
+/// The frames that a question asks for.
+#[derive(Clone, Copy, Debug)]
+pub struct WantedFrames {
+    /// Whether the measures of the patches are wanted.
+    pub patches: bool,
+    /// Whether the map of the patches' numbers is wanted.
+    pub numbers: bool,
+    /// Whether the map's border is wanted, with the numbers of its patches.
+    pub border: bool,
+}
+
 /// A question about the patches of a map that exists at the end of the script.
 #[derive(Debug, Drop)]
 pub struct Question {
@@ -18,7 +29,7 @@ pub struct Question {
     pub depth: u32,
     /// The name of a map of zones, if each patch's main zone is wanted.
     pub zones: Option<Name>,
-    /// Whether the map of the patches' numbers is wanted as well.
-    pub with_numbers: bool,
+    /// The frames that the question asks for.
+    pub wanted: WantedFrames,
     pub ghost positive: { 0 < depth },
 }

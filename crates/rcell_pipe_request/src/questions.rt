@@ -7,23 +7,27 @@ ghost use Rattle.rcell_pipe_request.specs.Questions.{question_kind_reading, join
 
 use crate::error::{ErrorKind, FieldReadingStop, RequestStop};
 use crate::feed::{Feed, check_request_ends, read_text_with_u8_length, read_u8, read_u32};
-use crate::question::Question;
+use crate::question::{Question, WantedFrames};
 use cell_clumps::clump::Joining;
 use cell_core::name::{Name, NameFault};
 use std::alloc::Global;
 use std::io::Read;
 
-// Reads the kind of a question, and returns whether it asks for the patches' numbers as well.
+// Reads the kind of a question, and returns the frames that it asks for.
 #[tactic(auto, unfolding(crate::specs::Questions::question_kind_reading))]
-fn read_question_kind<R: Read>(feed: &mut Feed<R>) -> Result<bool, FieldReadingStop>
-    ensures { ReadsRequestFieldAndStaysOpen (λ with_numbers. with_numbers) feed.old result feed.new
+fn read_question_kind<R: Read>(feed: &mut Feed<R>) -> Result<WantedFrames, FieldReadingStop>
+    ensures { ReadsRequestFieldAndStaysOpen (λ wanted. wanted) feed.old result feed.new
         question_kind_reading }
 {
-    match read_u8(feed)? {
-        1 => Ok(false),
-        2 => Ok(true),
-        _ => Err(FieldReadingStop::Error(ErrorKind::BadQuestion)),
+    let kind = read_u8(feed)?;
+    if kind < 1 || 7 < kind {
+        return Err(FieldReadingStop::Error(ErrorKind::BadQuestion));
     }
+    Ok(WantedFrames {
+        patches: kind % 2 == 1,
+        numbers: kind / 2 % 2 == 1,
+        border: 4 <= kind,
+    })
 }
 
 #[tactic(auto, unfolding(crate::specs::Questions::joining_reading))]
@@ -51,18 +55,22 @@ fn read_core_depth<R: Read>(feed: &mut Feed<R>) -> Result<u32, FieldReadingStop>
     Err(FieldReadingStop::Error(ErrorKind::BadDepth))
 }
 
-// Reads the name of a map of zones, or `None` if it is empty.
+// Reads the name of a map of zones, or `None` if it is empty. Zones are an error in a question without patches.
 #[tactic(auto, unfolding(crate::specs::Questions::zone_map_name_reading))]
 fn read_zone_map_name<R: Read>(
     alloc: Global,
     feed: &mut Feed<R>,
+    wanted: WantedFrames,
 ) -> Result<Option<Name>, FieldReadingStop>
     ensures { ReadsRequestFieldAndStaysOpen (λ zones. zones) feed.old result feed.new
-        zone_map_name_reading }
+        (zone_map_name_reading wanted) }
 {
     let text = read_text_with_u8_length(alloc, feed)?;
     if text.is_empty() {
         return Ok(None);
+    }
+    if !wanted.patches {
+        return Err(FieldReadingStop::Error(ErrorKind::BadZones));
     }
     match Name::read(alloc, &text) {
         Ok(name) => Ok(Some(name)),
@@ -81,18 +89,18 @@ fn read_question<R: Read>(
     ensures { ReadsRequestFieldAndStaysOpen question_as_value feed.old result feed.new
         (question_reading number) }
 {
-    let with_numbers = read_question_kind(feed)?;
+    let wanted = read_question_kind(feed)?;
     let map = read_text_with_u8_length(alloc, feed)?;
     let joining = read_joining(feed)?;
     let depth = read_core_depth(feed)?;
-    let zones = read_zone_map_name(alloc, feed)?;
+    let zones = read_zone_map_name(alloc, feed, wanted)?;
     Ok(Question {
         number,
         map,
         joining,
         depth,
         zones,
-        with_numbers,
+        wanted,
     })
 }
 

@@ -3,21 +3,23 @@
 ghost use Rattle.std.specs.Prelude.{◌≡◌, ◌+◌, ◌<◌, ◌≤◌, length, OnOk, IfOk, IfErr};
 ghost use Rattle.rcell_pipe_request.specs.RequestFields.{reading_repeated_n_times};
 ghost use Rattle.rcell_pipe_request.specs.Feeds.{ReadsRequestFieldAndStaysOpen, ReadsRequestFieldToSourceEnd, ReadsWithErrorPosition, ReadsToEndWithErrorPosition};
-ghost use Rattle.rcell_pipe_request.specs.Requests.{shelf_of_first_map, shelf_with_named_map, map_count_reading, script_bytes_reading, script_to_request_end_reading, first_map_reading, next_map_reading, run_request_reading, named_map_as_value, run_request_as_value};
+ghost use Rattle.rcell_pipe_request.specs.Requests.{shelf_of_first_map, shelf_with_named_map, map_count_reading, script_bytes_reading, script_to_request_end_reading, first_map_reading, next_map_reading, maps_reading, run_over_shelves_reading, run_request_reading, tile_run_request_reading, named_map_as_value, run_request_as_value};
 
 use crate::error::{ErrorKind, FieldReadingStop, RequestStop};
 use crate::feed::{Feed, check_request_ends, read_bytes, read_u32};
 use crate::named_map::{NamedMap, read_named_map};
+use crate::place::{read_place, shelves_of_tile_if_it_fits};
 use crate::question::Question;
 use crate::questions::read_questions_to_request_end;
 use cell_core::shelf::Shelf;
+use rcell_tile::run_shelves::RunShelves;
 use std::alloc::Global;
 use std::io::Read;
 
-/// Maps, a script, and questions about the maps that exist at its end.
+/// Maps, full or of a tile with its halo; a script; and questions about the maps that exist at its end.
 #[derive(Debug, Drop)]
 pub struct Request {
-    pub shelf: Shelf,
+    pub shelves: RunShelves,
     pub script: Vec<u8>,
     pub questions: Vec<Question>,
 }
@@ -130,9 +132,9 @@ fn read_more_maps_onto_shelf<R: Read>(
     Ok(())
 }
 
-// The number of maps, and a shelf with the first map.
+// The number of maps, and a shelf with the maps that have been read.
 #[derive(Drop)]
-struct MapCountAndFirstShelf {
+struct MapCountAndShelf {
     count: u32,
     shelf: Shelf,
 }
@@ -141,7 +143,7 @@ struct MapCountAndFirstShelf {
 fn read_map_count_and_first_map<R: Read>(
     alloc: Global,
     feed: &mut Feed<R>,
-) -> Result<MapCountAndFirstShelf, RequestStop>
+) -> Result<MapCountAndShelf, RequestStop>
     ensures reads { ReadsWithErrorPosition (λ first.
         (first.count, first.shelf)) feed.old result feed.new
         first_map_reading }
@@ -157,13 +159,55 @@ fn read_map_count_and_first_map<R: Read>(
         Err(stop) => return Err(stop),
     };
     match shelf_of_first_map(alloc, named) {
-        Ok(shelf) => Ok(MapCountAndFirstShelf { count, shelf }),
+        Ok(shelf) => Ok(MapCountAndShelf { count, shelf }),
         Err(stop) => Err(stop),
     }
 }
 
-/// Reads the maps, script and questions of a run, to the end of the source. Memory grows only with the bytes that have
-/// arrived.
+// Reads the number of maps, and all maps.
+#[tactic(auto, unfolding(crate::specs::Requests::maps_reading))]
+fn read_maps<R: Read>(alloc: Global, feed: &mut Feed<R>) -> Result<MapCountAndShelf, RequestStop>
+    ensures { ReadsWithErrorPosition (λ maps. (maps.count, maps.shelf)) feed.old result feed.new
+        maps_reading }
+{
+    let first = match read_map_count_and_first_map(alloc, feed) {
+        Ok(first) => first,
+        Err(stop) => return Err(stop),
+    };
+    let MapCountAndShelf { count, mut shelf } = first;
+    match read_more_maps_onto_shelf(alloc, feed, &mut shelf, count - 1) {
+        Ok(()) => Ok(MapCountAndShelf { count, shelf }),
+        Err(stop) => Err(stop),
+    }
+}
+
+// Reads the script and questions of a run over `count` maps, to the end of the source.
+#[tactic(auto, unfolding(crate::specs::Requests::run_over_shelves_reading))]
+fn read_run_over_shelves<R: Read>(
+    alloc: Global,
+    feed: &mut Feed<R>,
+    count: u32,
+    shelves: RunShelves,
+) -> Result<Request, RequestStop>
+    ensures { ReadsToEndWithErrorPosition run_request_as_value feed.old result feed.new
+        (run_over_shelves_reading count shelves) }
+{
+    let script = match read_script(alloc, feed) {
+        Ok(script) => script,
+        Err(stop) => return Err(stop.at(count, 0)),
+    };
+    match read_questions_to_request_end(alloc, feed, count) {
+        Ok(questions) => Ok(Request {
+            shelves,
+            script,
+            questions,
+        }),
+        Err(stop) => Err(stop),
+    }
+}
+
+/// Reads the maps, script and questions of a run over full maps, to the end of the source. Memory grows only with the
+/// bytes that have arrived.
 ///
 /// # Errors
 ///
@@ -173,25 +217,40 @@ pub fn read_run_request<R: Read>(alloc: Global, feed: &mut Feed<R>) -> Result<Re
     ensures { ReadsToEndWithErrorPosition run_request_as_value feed.old result feed.new
         run_request_reading }
 {
-    let first = match read_map_count_and_first_map(alloc, feed) {
-        Ok(first) => first,
+    let maps = match read_maps(alloc, feed) {
+        Ok(maps) => maps,
         Err(stop) => return Err(stop),
     };
-    let MapCountAndFirstShelf { count, mut shelf } = first;
-    match read_more_maps_onto_shelf(alloc, feed, &mut shelf, count - 1) {
-        Ok(()) => {}
-        Err(stop) => return Err(stop),
-    }
-    let script = match read_script(alloc, feed) {
-        Ok(script) => script,
-        Err(stop) => return Err(stop.at(count, 0)),
+    let MapCountAndShelf { count, shelf } = maps;
+    read_run_over_shelves(alloc, feed, count, RunShelves::new(shelf))
+}
+
+/// Reads the place of a tile, its maps with their halo, and the script and questions of a run over the tile, to the end
+/// of the source. Memory grows only with the bytes that have arrived.
+///
+/// # Errors
+///
+/// Returns the first error in the bytes, or [`RequestStop::Memory`] if memory runs out.
+#[tactic(auto, unfolding(crate::specs::Requests::tile_run_request_reading))]
+pub fn read_tile_run_request<R: Read>(
+    alloc: Global,
+    feed: &mut Feed<R>,
+) -> Result<Request, RequestStop>
+    ensures { ReadsToEndWithErrorPosition run_request_as_value feed.old result feed.new
+        tile_run_request_reading }
+{
+    let place = match read_place(feed) {
+        Ok(place) => place,
+        Err(place_stop) => return Err(place_stop.at(0, 0)),
     };
-    match read_questions_to_request_end(alloc, feed, count) {
-        Ok(questions) => Ok(Request {
-            shelf,
-            script,
-            questions,
-        }),
-        Err(stop) => Err(stop),
+    let maps = match read_maps(alloc, feed) {
+        Ok(maps) => maps,
+        Err(stop) => return Err(stop),
+    };
+    let MapCountAndShelf { count, shelf } = maps;
+    match shelves_of_tile_if_it_fits(alloc, place, shelf) {
+        Ok(Some(shelves)) => read_run_over_shelves(alloc, feed, count, shelves),
+        Ok(None) => Err(FieldReadingStop::Error(ErrorKind::BadPlace).at(count, 0)),
+        Err(_) => Err(RequestStop::Memory),
     }
 }
