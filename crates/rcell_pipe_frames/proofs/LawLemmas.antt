@@ -1,5 +1,6 @@
 -- The text of a statement's frames is the statement's output.
-use Rattle.std.proofs.Common.{◌≡◌, ℕ, Bool, true, false, [], ◌∷◌, ◌++◌, List, Option, Some, None, map, flat_map, refl, ap, sym, ◌∙◌, append-nil, if◌then◌else◌}
+use Rattle.std.proofs.Common.{◌≡◌, ℕ, Bool, true, false, [], ◌∷◌, ◌++◌, List, Option, Some, None, map, flat_map, refl}
+use Rattle.std.proofs.Common.{ap, sym, subst, ◌∙◌, append-nil, if◌then◌else◌}
 use Rattle.std.specs.Prelude.{slice_get}
 use Rattle.std.specs.Option.{option_map_or}
 use Rattle.std.specs.List.{zip}
@@ -19,6 +20,8 @@ use Rattle.rcell.specs.Output.{StatementsWriteTextAndLeaveShelf, combinations_at
 use Rattle.rcell.specs.Output.{stats_text}
 use Rattle.rcell.specs.Output.{table_format_of_stats_options}
 use Rattle.rcell_pipe_frames.specs.Frames.{OutputFrame, Cells, Table, printed_cell_and_label, printed_table_line, frame_text, combination_labels, printed_table_entries, cells_as_entries_with_count_one, entries_of_single_printed_cells, format_of_single_cell_lines, table_frame, stats_frame, out_ascii_frames, command_frames, StatementsGiveFrames}
+use Rattle.rcell_tile.specs.TilePlaces.{TilePlaceValue}
+use Rattle.rcell_tile.specs.TileRuns.{RunShelvesValue, AreShelvesAfterCommand, shelves_of_full_maps}
 use Rattle.rcell_pipe_frames.specs.FrameLaw.{FrameTextsAreProgramOutput, ProgramOutputIsTextOfFrames}
 
 -- the fields of a combination's cells, paired with their labels, are its printed fields
@@ -74,22 +77,45 @@ text-of shelf s frames rest same =
     ap (flat_map frame_text) same ∙ flat_map-append frame_text (command_frames shelf s.line s.command) rest
     ∙ ap (λ (l : List ℕ). l ++ flat_map frame_text rest) (command-same shelf s.line s.command)
 
-output-of : (statements : List Statement) (shelf : ShelfValue) (frames : List OutputFrame) (after : ShelfValue) → StatementsGiveFrames shelf statements frames after → StatementsWriteTextAndLeaveShelf shelf statements (flat_map frame_text frames) after
-output-of [] shelf frames after given = (ap (flat_map frame_text) given.0, given.1)
+-- a statement over full maps leaves full maps
+full-maps-after : (shelf : ShelfValue) (command : Command) (next : RunShelvesValue)
+    → AreShelvesAfterCommand (shelves_of_full_maps shelf) command next → next ≡ shelves_of_full_maps next.outer
+full-maps-after shelf command next are =
+    ap (λ (place : Option TilePlaceValue). record { outer = next.outer; place = place }) are.place
+
+output-of : (statements : List Statement) (shelf : ShelfValue) (frames : List OutputFrame) (after : ShelfValue)
+    → StatementsGiveFrames (shelves_of_full_maps shelf) statements frames (shelves_of_full_maps after)
+    → StatementsWriteTextAndLeaveShelf shelf statements (flat_map frame_text frames) after
+output-of [] shelf frames after given =
+    (ap (flat_map frame_text) given.0, ap (λ (shelves : RunShelvesValue). shelves.outer) given.1)
 output-of (s ∷ ss) shelf frames after given =
-    (given.0, (flat_map frame_text given.1.0, (given.1.1.0, (output-of ss given.0 given.1.0 after given.1.1.1.0, text-of shelf s frames given.1.0 given.1.1.1.1))))
+    let rest =
+    subst (λ (next : RunShelvesValue). StatementsGiveFrames next ss given.1.0 (shelves_of_full_maps after))
+    (full-maps-after shelf s.command given.0 given.1.1.0) given.1.1.1.0 in (
+      given.0.outer,
+      (
+        flat_map frame_text given.1.0,
+        (
+          given.1.1.0.outer,
+          (output-of ss given.0.outer given.1.0 after rest, text-of shelf s frames given.1.0 given.1.1.1.1),
+        ),
+      ),
+    )
 
 pub frame_texts_are_program_output : FrameTextsAreProgramOutput
 frame_texts_are_program_output shelf statements frames after given = output-of statements shelf frames after given
 
-frames-of : (statements : List Statement) (shelf : ShelfValue) (text : List ℕ) (after : ShelfValue) → StatementsWriteTextAndLeaveShelf shelf statements text after → (frames : List OutputFrame) × (StatementsGiveFrames shelf statements frames after × (text ≡ flat_map frame_text frames))
-frames-of [] shelf text after done = ([], ((refl, done.1), done.0))
+frames-of : (statements : List Statement) (shelf : ShelfValue) (text : List ℕ) (after : ShelfValue)
+    → StatementsWriteTextAndLeaveShelf shelf statements text after → (frames : List OutputFrame)
+    × (StatementsGiveFrames (shelves_of_full_maps shelf) statements frames (shelves_of_full_maps after)
+    × (text ≡ flat_map frame_text frames))
+frames-of [] shelf text after done = ([], ((refl, ap shelves_of_full_maps done.1), done.0))
 frames-of (s ∷ ss) shelf text after done =
     let others = frames-of ss done.0 done.1.0 after done.1.1.1.0 in
     let frames : List OutputFrame = command_frames shelf s.line s.command ++ others.0 in (
       frames,
       (
-        (done.0, (others.0, (done.1.1.0, (others.1.0, refl)))),
+        (shelves_of_full_maps done.0, (others.0, (record { place = refl; outer = done.1.1.0 }, (others.1.0, refl)))),
         done.1.1.1.1 ∙ ap (λ (l : List ℕ). command_output_text shelf s.command ++ l) others.1.1 ∙ sym (text-of shelf s frames others.0 refl),
       ),
     )

@@ -10,8 +10,9 @@ use Rattle.cell_clumps.specs.declared.clump.Joining.TheVariants.{Edges, EdgesAnd
 use Rattle.cell_patches.specs.declared.patch.Patch.{Patch}
 use Rattle.cell_stats.specs.CategoryTables.{CombinationsWithCounts}
 use Rattle.cell_stats.specs.TableText.{TableFormatValue}
-use Rattle.rcell_pipe_frames.specs.Frames.{TableFrame, GridFrame, PatchesFrame, PatchNumbersFrame}
-use Rattle.rcell_pipe_frames.specs.Frames.{OutputFrame, Table, Cells, Map, Patches, PatchNumbers}
+use Rattle.cell_join_tiles.specs.Values.{TileSideValue, TileBorderValue}
+use Rattle.rcell_pipe_frames.specs.Frames.{TableFrame, GridFrame, PatchesFrame, PatchNumbersFrame, BorderFrame}
+use Rattle.rcell_pipe_frames.specs.Frames.{OutputFrame, Table, Cells, Map, Patches, PatchNumbers, Border}
 
 -- a number in eight bytes, lowest byte first
 abbrev pub eight_bytes_of_number : ℕ → List ℕ
@@ -122,12 +123,30 @@ patch_numbers_frame_bytes n =
     codes "NUMB" ++ eight_bytes_of_number n.question ++ (eight_bytes_of_number n.rows ++ eight_bytes_of_number n.cols)
     ++ cell_size_and_map_rows_bytes n.cells
 
+-- the cells of a side of a tile, then their numbers
+abbrev pub tile_side_bytes : TileSideValue → List ℕ
+tile_side_bytes side = flat_map four_bytes_of_cell side.cells ++ flat_map four_bytes_of_cell side.numbers
+
+-- the four sides of a tile, and the counts by row in four bytes each
+abbrev pub border_fields_bytes : TileBorderValue → List ℕ
+border_fields_bytes border = tile_side_bytes border.first ++ (tile_side_bytes border.last
+    ++ (tile_side_bytes border.left ++ (tile_side_bytes border.right ++ flat_map (to_le_bytes w32) border.begun)))
+
+-- a tile as in a join request: the numbers of rows and columns, and the border
+abbrev pub tile_bytes : (rows cols : ℕ) → TileBorderValue → List ℕ
+tile_bytes rows cols border = to_le_bytes w32 rows ++ (to_le_bytes w32 cols ++ border_fields_bytes border)
+
+-- the border of a map: the question's index, and the map as a tile in a join request
+abbrev pub border_frame_bytes : BorderFrame → List ℕ
+border_frame_bytes b = codes "BORD" ++ (eight_bytes_of_number b.question ++ tile_bytes b.rows b.cols b.border)
+
 abbrev pub frame_bytes : OutputFrame → List ℕ
 frame_bytes (Table t) = table_frame_bytes (codes "TABL") t
 frame_bytes (Cells t) = table_frame_bytes (codes "CELL") t
 frame_bytes (Map g) = grid_frame_bytes g
 frame_bytes (Patches p) = patches_frame_bytes p
 frame_bytes (PatchNumbers n) = patch_numbers_frame_bytes n
+frame_bytes (Border b) = border_frame_bytes b
 
 -- the bytes of all frames
 abbrev pub frames_bytes : List OutputFrame → List ℕ

@@ -6,6 +6,7 @@ use Rattle.cell_core.specs.Grid.{Grid, CellValue}
 use Rattle.cell_core.specs.Shelf.{ShelfValue}
 use Rattle.cell_core.specs.Text.{cell_text}
 use Rattle.cell_clumps.specs.declared.clump.Joining.{Joining}
+use Rattle.cell_join_tiles.specs.Values.{TileBorderValue}
 use Rattle.cell_patches.specs.declared.patch.Patch.{Patch}
 use Rattle.cell_ascii_meaning.specs.Writing.{coordinate_text, key_line, null_text_header_line, row_text}
 use Rattle.cell_stats_combinations.specs.Combinations.{Combination}
@@ -16,8 +17,8 @@ use Rattle.rcell_script.specs.declared.statement.Statement.{Statement}
 use Rattle.rcell_script.specs.declared.command.Command.{Command}
 use Rattle.rcell_script.specs.declared.command.Command.TheVariants.{Mapcalc, Reclass, Clump, Stats, OutAscii}
 use Rattle.rcell_script.specs.declared.command.StatsOptions.{StatsOptions}
-use Rattle.rcell.specs.After.{IsShelfAfterCommand}
 use Rattle.rcell.specs.Output.{combinations_at_all_cells, table_format_of_stats_options}
+use Rattle.rcell_tile.specs.TileRuns.{RunShelvesValue, AreShelvesAfterCommand, inner_shelf}
 
 -- a table: its statement's line, the output format, its maps' names, its combinations with their counts, and a label
 -- for each cell of each combination
@@ -57,6 +58,14 @@ pub record PatchNumbersFrame : Type 0 where
   pub cols : ℕ
   pub cells : List (List CellValue)
 
+-- the border of a map: the question's index, from 0, the numbers of rows and columns, and the border with the patches'
+-- numbers
+pub record BorderFrame : Type 0 where
+  pub question : ℕ
+  pub rows : ℕ
+  pub cols : ℕ
+  pub border : TileBorderValue
+
 -- a result of a question, or of a statement that writes
 pub data OutputFrame : Type 0 where
   Table : TableFrame → OutputFrame
@@ -64,6 +73,7 @@ pub data OutputFrame : Type 0 where
   Map : GridFrame → OutputFrame
   Patches : PatchesFrame → OutputFrame
   PatchNumbers : PatchNumbersFrame → OutputFrame
+  Border : BorderFrame → OutputFrame
 
 -- a cell and its label, as printed
 abbrev pub printed_cell_and_label : TableFormatValue → CellValue × List ℕ → List (List ℕ)
@@ -94,6 +104,7 @@ frame_text (Cells t) = printed_table_lines t
 frame_text (Map g) = grid_text_header g ++ null_text_header_line g.null_text ++ flat_map (row_text g.null_text) g.cells
 frame_text (Patches p) = []
 frame_text (PatchNumbers n) = []
+frame_text (Border b) = []
 
 -- the name of the map at index `place`, or an empty name if there is none
 abbrev pub map_name_at_place : ShelfValue → ℕ → List ℕ
@@ -165,9 +176,11 @@ command_frames shelf line (Clump place target joining) = []
 command_frames shelf line (Stats places options) = stats_frame shelf line places options ∷ []
 command_frames shelf line (OutAscii place null_text) = out_ascii_frames shelf line place null_text (slice_get shelf.maps place)
 
--- executed over `shelf`, the statements produce these frames and leave the shelf `after`; each statement runs over the
--- shelf that the previous statements have left
-abbrev pub StatementsGiveFrames : ShelfValue → List Statement → List OutputFrame → ShelfValue → Type 0
-StatementsGiveFrames shelf [] frames after = (frames ≡ []) × (after ≡ shelf)
-StatementsGiveFrames shelf (s ∷ ss) frames after =
-    (next : ShelfValue) × ((rest : List OutputFrame) × (IsShelfAfterCommand shelf s.command next × (StatementsGiveFrames next ss rest after × (frames ≡ command_frames shelf s.line s.command ++ rest))))
+-- executed over `shelves`, the statements produce these frames and leave the shelves `after`; each statement runs over
+-- the shelves that the previous statements have left, and its frames show the maps without their halo
+abbrev pub StatementsGiveFrames : RunShelvesValue → List Statement → List OutputFrame → RunShelvesValue → Type 0
+StatementsGiveFrames shelves [] frames after = (frames ≡ []) × (after ≡ shelves)
+StatementsGiveFrames shelves (s ∷ ss) frames after =
+    (next : RunShelvesValue) × ((rest : List OutputFrame) × (AreShelvesAfterCommand shelves s.command next
+    × (StatementsGiveFrames next ss rest after
+    × (frames ≡ command_frames (inner_shelf shelves) s.line s.command ++ rest))))

@@ -78,6 +78,7 @@ fn push_run_of_equal_entries<W: Sink>(
 }
 
 // Writes the entries of a row.
+#[tactic(auto, using(cell_stats::proofs::CellsLemmas::stands_none, cell_stats::proofs::CellsLemmas::stands_picks, cell_stats::proofs::CellsLemmas::stands_fits, cell_stats::proofs::CellsLemmas::stands_cells, cell_stats::proofs::CellsLemmas::stands_smaller))]
 fn push_row_entries<'a, W: Sink>(
     out: &mut W,
     block: &mut OutputBlock,
