@@ -5,7 +5,6 @@ use Rattle.cell_core_devices.specs.Device.{SinkFaults, append_if_known, faults_a
 use Rattle.cell_core_devices.specs.Device.{has_failed}
 use Rattle.cell_core_devices.specs.Blocks.{capped_byte_count, OutputBlockValue, IsTextAppendedToSink}
 use Rattle.cell_core_devices.specs.Blocks.{IsTextAppendedThroughBlock}
-use Rattle.cell_core.specs.Shelf.{ShelfValue}
 use Rattle.rcell_script.specs.ReadScripts.{IsScriptFault}
 use Rattle.rcell_script.specs.declared.script_fault.ScriptFault.{ScriptFault}
 use Rattle.rcell_script.specs.declared.script_fault.ScriptKind.{ScriptKind}
@@ -13,6 +12,7 @@ use Rattle.rcell_script.specs.declared.script_fault.ScriptKind.TheVariants as sc
 use Rattle.rcell_pipe_response.specs.parts.ScriptKinds.{is_memory_error}
 use Rattle.rcell_script.specs.declared.statement.Statement.{Statement}
 use Rattle.cell_ascii_writer.proofs.PutLemmas.{appended_put}
+use Rattle.rcell_tile.specs.TileRuns.{RunShelvesValue}
 use Rattle.rcell_pipe_request.specs.declared.error.RequestError.{RequestError}
 use Rattle.rcell_pipe_request.specs.Questions.{PatchQuestionValue}
 use Rattle.rcell_pipe_request.specs.Requests.{RunRequestValue}
@@ -112,20 +112,20 @@ ends_as says {before} {now} {start} {after} reported {text} {outcome} is fine fi
 
 -- the sink failed in a statement of the run
 pub end_broken : (form : ResponseForm) (read : Result RunRequestValue RequestError) {before now : Option (List ℕ)}
-    {start after : SinkFaults} {outcome : PipeOutcome} (shelf : ShelfValue) (first others : List Statement)
+    {start after : SinkFaults} {outcome : PipeOutcome} (shelves : RunShelvesValue) (first others : List Statement)
     (answered unanswered : List PatchQuestionValue) (text : List ℕ)
     → outcome.reported ≡ Some errors.Write → outcome.error ≡ Some errors.Write
     → outcome.status ≡ exit_status_of_pipe_run outcome.error
-    → IsRunRequestAccepted form read shelf (first ++ others) (answered ++ unanswered)
-    → (others ≡ []) ⊎ (answered ≡ []) → IsPartialResponseBeforeEnd form shelf first answered text
+    → IsRunRequestAccepted form read shelves (first ++ others) (answered ++ unanswered)
+    → (others ≡ []) ⊎ (answered ≡ []) → IsPartialResponseBeforeEnd form shelves first answered text
     → after ≡ faults_after_put start true → IsTextPrefixWritten before now text outcome.written
     → IsEndOfResponseSent (IsResponseToRunRequest form read) before start now after outcome
-end_broken form read shelf first others answered unanswered text reported error status accepted order gives failed
+end_broken form read shelves first others answered unanswered text reported error status accepted order gives failed
     cut = record {
       text = text;
       is = subst (IsResponseToRunRequest form read text) (sym reported)
           (record {
-            shelf = shelf;
+            shelves = shelves;
             first = first;
             others = others;
             answered = answered;
@@ -139,20 +139,22 @@ end_broken form read shelf first others answered unanswered text reported error 
     }
 
 -- a run that writes text finishes, runs out of memory at a statement or is cut by the sink
-module _ (read : Result RunRequestValue RequestError) (shelf : ShelfValue) (statements : List Statement)
-    (questions : List PatchQuestionValue) (accepted : IsRunRequestAccepted Text read shelf statements questions) (written : ℕ) where
-  accepted_parts : (parts : List Statement) → parts ≡ statements → IsRunRequestAccepted Text read shelf parts questions
+module _ (read : Result RunRequestValue RequestError) (shelves : RunShelvesValue) (statements : List Statement)
+    (questions : List PatchQuestionValue) (accepted : IsRunRequestAccepted Text read shelves statements questions)
+    (written : ℕ) where
+  accepted_parts : (parts : List Statement) → parts ≡ statements
+      → IsRunRequestAccepted Text read shelves parts questions
   accepted_parts parts whole =
-      subst (λ (s : List Statement). IsRunRequestAccepted Text read shelf s questions) (sym whole) accepted
+      subst (λ (s : List Statement). IsRunRequestAccepted Text read shelves s questions) (sym whole) accepted
 
   pub text_done : {before between now : Option (List ℕ)} {start middle after : SinkFaults} {outcome : PipeOutcome}
-      (done : IsFullOutputWritten shelf statements before between written) → middle ≡ start
+      (done : IsFullOutputWritten shelves.outer statements before between written) → middle ≡ start
       → IsTextSentWithOutcome before middle now after None done.text outcome
       → IsEndOfResponseSent (IsResponseToRunRequest Text read) before start now after outcome
   text_done {before} {between} {now} {start} {middle} {after} {outcome} done same finished =
       ends_as (IsResponseToRunRequest Text read) None
       (record {
-        shelf = shelf;
+        shelves = shelves;
         statements = statements;
         questions = questions;
         accepted = accepted;
@@ -161,13 +163,13 @@ module _ (read : Result RunRequestValue RequestError) (shelf : ShelfValue) (stat
       (subst (λ (f : SinkFaults). IsTextSentWithOutcome before f now after None done.text outcome) same finished)
 
   pub text_stopped : {before between now : Option (List ℕ)} {start middle after : SinkFaults} {outcome : PipeOutcome}
-      (line : ℕ) (s : IsStoppedBeforeStatement shelf statements before between written line) → middle ≡ start
+      (line : ℕ) (s : IsStoppedBeforeStatement shelves.outer statements before between written line) → middle ≡ start
       → IsTextSentWithOutcome before middle now after (Some (errors.MemoryAt line)) s.text outcome
       → IsEndOfResponseSent (IsResponseToRunRequest Text read) before start now after outcome
   text_stopped {before} {between} {now} {start} {middle} {after} {outcome} line s same finished =
       ends_as (IsResponseToRunRequest Text read) (Some (errors.MemoryAt line))
       (record {
-        shelf = shelf;
+        shelves = shelves;
         first = s.first;
         statement = s.statement;
         others = s.others;
@@ -181,12 +183,12 @@ module _ (read : Result RunRequestValue RequestError) (shelf : ShelfValue) (stat
       (Some (errors.MemoryAt line)) s.text outcome) same finished)
 
   pub text_failed : {before now : Option (List ℕ)} {start after : SinkFaults} {outcome : PipeOutcome}
-      (w : IsOutputPrefixWritten shelf statements before now written) → after ≡ faults_after_put start true
+      (w : IsOutputPrefixWritten shelves.outer statements before now written) → after ≡ faults_after_put start true
       → outcome.reported ≡ Some errors.Write → outcome.error ≡ Some errors.Write
       → outcome.status ≡ exit_status_of_pipe_run outcome.error
       → outcome.written ≡ written → IsEndOfResponseSent (IsResponseToRunRequest Text read) before start now after
       outcome
-  text_failed w failed reported error status count = end_broken Text read shelf w.first w.others [] questions
+  text_failed w failed reported error status count = end_broken Text read shelves w.first w.others [] questions
       (w.prefix ++ w.rest) reported error status (accepted_parts (w.first ++ w.others) w.whole) (inr refl)
       (w.after, w.executed) failed
       (record { front = w.prefix; rest = w.rest; whole = refl; taken = w.taken; count = count ∙ w.count })
@@ -195,35 +197,38 @@ module _ (read : Result RunRequestValue RequestError) (shelf : ShelfValue) (stat
 pub not_memory : (kind : ScriptKind) → is_memory_error kind ≡ false → kind ≢ script_kinds.Memory
 not_memory kind not same = absurd (cc (not, ap is_memory_error same))
 
-abbrev pub of_run : ShelfValue → List ℕ → List PatchQuestionValue → RunRequestValue
-of_run shelf script questions = record { shelf = shelf; script = script; questions = questions }
+abbrev pub of_run : RunShelvesValue → List ℕ → List PatchQuestionValue → RunRequestValue
+of_run shelves script questions = record { shelves = shelves; script = script; questions = questions }
 
 -- a script that is rejected has its response
-pub rejection : (form : ResponseForm) (shelf : ShelfValue) (script : List ℕ) (questions : List PatchQuestionValue)
+pub rejection : (form : ResponseForm) (shelves : RunShelvesValue) (script : List ℕ)
+    (questions : List PatchQuestionValue)
     (fault : ScriptFault) (error : PipeError) (end : RunEndValue)
-    → IsScriptFault shelf.names script fault → IsErrorOfRejectedScript fault error end
-    → IsResponseToRunRequest form (Ok (of_run shelf script questions)) (response_bytes [] end) (Some error)
-rejection form shelf script questions fault (errors.Script error) end first is = record {
-  shelf = shelf;
+    → IsScriptFault shelves.outer.names script fault → IsErrorOfRejectedScript fault error end
+    → IsResponseToRunRequest form (Ok (of_run shelves script questions)) (response_bytes [] end) (Some error)
+rejection form shelves script questions fault (errors.Script error) end first is = record {
+  shelves = shelves;
   script = script;
   questions = questions;
   request = refl;
-  first = subst (λ (f : ScriptFault). IsScriptFault shelf.names script f) (sym is.0) first;
+  first = subst (λ (f : ScriptFault). IsScriptFault shelves.outer.names script f) (sym is.0) first;
   bytes = ap (λ (e : RunEndValue). response_bytes [] e) (is.1 ∙ ap end_frame_of_rejected_script (sym is.0));
 }
-rejection form shelf script questions fault errors.Memory end first is = ap
+rejection form shelves script questions fault errors.Memory end first is = ap
     (λ (e : RunEndValue). response_bytes [] e) is
-rejection form shelf script questions fault (errors.Request error) end first is = absurd is
-rejection form shelf script questions fault (errors.Question error) end first is = absurd is
-rejection form shelf script questions fault (errors.MemoryAt line) end first is = absurd is
-rejection form shelf script questions fault errors.MemoryAtQuestion end first is = absurd is
-rejection form shelf script questions fault errors.Write end first is = absurd is
+rejection form shelves script questions fault (errors.Request error) end first is = absurd is
+rejection form shelves script questions fault (errors.Halo halo) end first is = absurd is
+rejection form shelves script questions fault (errors.Question error) end first is = absurd is
+rejection form shelves script questions fault (errors.MemoryAt line) end first is = absurd is
+rejection form shelves script questions fault errors.MemoryAtQuestion end first is = absurd is
+rejection form shelves script questions fault errors.Write end first is = absurd is
 
 -- a rejection is not a failed write
 pub not_write : (fault : ScriptFault) (error : PipeError) (end : RunEndValue) → IsErrorOfRejectedScript fault error end → Some error ≡ Some errors.Write → ⊥
 not_write fault (errors.Script error) end is same = cc
 not_write fault errors.Memory end is same = cc
 not_write fault (errors.Request error) end is same = is
+not_write fault (errors.Halo halo) end is same = is
 not_write fault (errors.Question error) end is same = is
 not_write fault (errors.MemoryAt line) end is same = is
 not_write fault errors.MemoryAtQuestion end is same = is
@@ -239,6 +244,7 @@ taken_whole : (error : Option PipeError) (before : Option (List ℕ)) (text : Li
 taken_whole None before text fine all count = (all, count)
 taken_whole (Some (errors.Request error)) before text fine all count = (all, count)
 taken_whole (Some (errors.Script error)) before text fine all count = (all, count)
+taken_whole (Some (errors.Halo fault)) before text fine all count = (all, count)
 taken_whole (Some (errors.Question error)) before text fine all count = (all, count)
 taken_whole (Some errors.Memory) before text fine all count = (all, count)
 taken_whole (Some (errors.MemoryAt line)) before text fine all count = (all, count)
@@ -251,6 +257,7 @@ used_well : (error : Option PipeError) (start : SinkFaults) {after : SinkFaults}
 used_well None start fine flushed = flushed
 used_well (Some (errors.Request error)) start fine flushed = flushed
 used_well (Some (errors.Script error)) start fine flushed = flushed
+used_well (Some (errors.Halo fault)) start fine flushed = flushed
 used_well (Some (errors.Question error)) start fine flushed = flushed
 used_well (Some errors.Memory) start fine flushed = flushed
 used_well (Some (errors.MemoryAt line)) start fine flushed = flushed
@@ -357,6 +364,7 @@ pub only_end_of_run : (form : ResponseForm) (read : Result RunRequestValue Reque
 only_end_of_run form read response None is = tt
 only_end_of_run form read response (Some (errors.Request error)) is = is.1
 only_end_of_run form read response (Some (errors.Script error)) is = is.bytes
+only_end_of_run form read response (Some (errors.Halo fault)) is = is.bytes
 only_end_of_run form read response (Some (errors.Question error)) is = is.bytes
 only_end_of_run form read response (Some errors.Memory) is = is
 only_end_of_run form read response (Some (errors.MemoryAt line)) is = tt

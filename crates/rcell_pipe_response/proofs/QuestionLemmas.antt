@@ -10,7 +10,7 @@ use Rattle.cell_core_devices.specs.Device.{SinkFaults}
 use Rattle.cell_core_devices.specs.Blocks.{OutputBlockValue, IsTextAppendedToSink, IsTextAppendedThroughBlock}
 use Rattle.cell_core_devices.proofs.BlockLemmas.{appends_none, appends_then}
 use Rattle.cell_core.specs.Shelf.{ShelfValue}
-use Rattle.rcell.proofs.OutputLemmas.{names_after}
+use Rattle.rcell_tile.specs.TileRuns.{RunShelvesValue}
 use Rattle.rcell_script.specs.declared.statement.Statement.{Statement}
 use Rattle.rcell_pipe_request.specs.declared.question.Question.{Question}
 use Rattle.rcell_pipe_request.specs.Questions.{PatchQuestionValue, question_as_value, questions_as_values}
@@ -26,6 +26,7 @@ use Rattle.rcell_pipe_response.specs.QuestionFrames.{AreFramesForQuestion, AreFr
 use Rattle.rcell_pipe_response.specs.RunEnds.{AreFramesOfStatementsAndQuestions}
 use Rattle.rcell_pipe_response.specs.parts.Answering.{AreQuestionFramesAppended, AreAllQuestionFramesAppended}
 use Rattle.rcell_pipe_response.specs.parts.Answering.{AreFirstQuestionFramesAppended}
+use Rattle.rcell_pipe_response.proofs.ExecutionLemmas.{outer_names_after}
 
 -- the questions from place i on are the question there and those after it
 next_at : (questions : List Question) (i : ℕ) (q : Question) → i < length questions → q ≡ get_or questions i q
@@ -182,17 +183,19 @@ module _ {S : Type 0} {taken : S → Option (List ℕ)} {faults : S → SinkFaul
 -- ---- after the frames of statements
 
 -- the names on the shelf after all statements are all names
-pub names_at_end : (statements : List Statement) (shelf after : ShelfValue) (frames : List OutputFrame)
-    → StatementsGiveFrames shelf statements frames after → after.names ≡ names_of_all_maps shelf.names statements
-names_at_end [] shelf after frames x = ap (λ (s : ShelfValue). s.names) x.1
-names_at_end (s ∷ ss) shelf after frames x =
-    names_at_end ss x.0 after x.1.0 x.1.1.1.0
-    ∙ ap (λ (names : List (List ℕ)). names_of_all_maps names ss) (names_after shelf s.command x.0 x.1.1.0)
+pub names_at_end : (statements : List Statement) (shelves after : RunShelvesValue) (frames : List OutputFrame)
+    → StatementsGiveFrames shelves statements frames after
+    → after.outer.names ≡ names_of_all_maps shelves.outer.names statements
+names_at_end [] shelves end frames x = ap (λ (s : RunShelvesValue). s.outer.names) x.1
+names_at_end (s ∷ ss) shelves end frames x =
+    names_at_end ss x.0 end x.1.0 x.1.1.1.0
+    ∙ ap (λ (names : List (List ℕ)). names_of_all_maps names ss) (outer_names_after shelves s.command x.0 x.1.1.0)
 
 -- statements without questions give only their own frames
-pub gives_none : (shelf after : ShelfValue) (statements : List Statement) (frames : List OutputFrame)
-    → StatementsGiveFrames shelf statements frames after → AreFramesOfStatementsAndQuestions shelf statements [] frames
-gives_none shelf after statements frames given = record {
+pub gives_none : (shelves after : RunShelvesValue) (statements : List Statement) (frames : List OutputFrame)
+    → StatementsGiveFrames shelves statements frames after
+    → AreFramesOfStatementsAndQuestions shelves statements [] frames
+gives_none shelves after statements frames given = record {
   frames = frames;
   after = after;
   given = given;

@@ -3,9 +3,13 @@ use Rattle.std.specs.Prelude.{ℕ, ◌+◌, ◌≡◌, Bool, true, false, ◌||�
 use Rattle.std.specs.Prelude.{Option, Some, None, if◌then◌else◌}
 use Rattle.std.specs.Option.{is_none}
 use Rattle.cell_core_values.specs.Name.{place_of_name}
+use Rattle.cell_core_values.specs.Region.{RegionValue}
 use Rattle.cell_core.specs.Grid.{Grid, CellValue}
 use Rattle.cell_core.specs.Shelf.{ShelfValue}
 use Rattle.cell_clumps.specs.Clumps.{IsClumpMapOf}
+use Rattle.cell_clumps.specs.declared.clump.Joining.{Joining}
+use Rattle.cell_join_tiles.specs.JoinedBorders.{TileHasBorder}
+use Rattle.cell_join_tiles.specs.Values.{TileBorderValue, TileBorderHasSize}
 use Rattle.cell_patches.specs.declared.patch.Patch.{Patch}
 use Rattle.cell_patches.specs.Patches.{AreMeasuresOfAllPatches}
 use Rattle.cell_patches.specs.Zones.{AreMainZones}
@@ -17,7 +21,7 @@ use Rattle.rcell_pipe_response.specs.declared.frame_run.ResponseForm.TheVariants
 use Rattle.rcell_pipe_response.specs.declared.question_error.QuestionErrorKind.{QuestionErrorKind}
 use Rattle.rcell_pipe_response.specs.declared.question_error.QuestionErrorKind.TheVariants.{UnknownMap, OfText}
 use Rattle.rcell_pipe_response.specs.declared.question_error.QuestionError.{QuestionError}
-use Rattle.rcell_pipe_frames.specs.Frames.{OutputFrame, Patches, PatchNumbers, patch_numbers_frame}
+use Rattle.rcell_pipe_frames.specs.Frames.{OutputFrame, Patches, PatchNumbers, Border, patch_numbers_frame}
 
 -- the names of all maps: the given maps and the maps that statements make
 abbrev pub names_of_all_maps : List (List ℕ) → List Statement → List (List ℕ)
@@ -68,25 +72,59 @@ abbrev pub patch_numbers_frame_if_wanted : Bool → ℕ → Grid → List Output
 patch_numbers_frame_if_wanted false place numbers = []
 patch_numbers_frame_if_wanted true place numbers = PatchNumbers (patch_numbers_frame place numbers) ∷ []
 
--- the frames for the question at index `place`: the numbers of the patches of the named map, if they are wanted, and
--- the measures of these patches, with their zones
+-- the border of a map with these patch numbers, if it is wanted
+abbrev pub IsBorderOfMapIfWanted : Bool → Joining → Grid → Grid → Option TileBorderValue → Type 0
+IsBorderOfMapIfWanted false joining map numbers border = border ≡ None
+IsBorderOfMapIfWanted true joining map numbers None = ⊥
+IsBorderOfMapIfWanted true joining map numbers (Some border) =
+    TileHasBorder joining map.region.rows map.region.cols map numbers border
+    × TileBorderHasSize map.region.rows map.region.cols border
+
+-- the frame of the border, if it is wanted
+abbrev pub border_frame_if_wanted : ℕ → RegionValue → Option TileBorderValue → List OutputFrame
+border_frame_if_wanted place region None = []
+border_frame_if_wanted place region (Some border) = Border
+    (record { question = place; rows = region.rows; cols = region.cols; border = border }) ∷ []
+
+-- the measures of a map's patches, and the patches' zones if a map of zones is named
+pub record PatchMeasuresValue : Type 0 where
+  pub patches : List Patch
+  pub zones : Option (List CellValue)
+
+-- the measures and zones of a map's patches, if they are wanted
+abbrev pub ArePatchMeasuresIfWanted : Bool → ShelfValue → PatchQuestionValue → Grid → Grid → Option PatchMeasuresValue
+    → Type 0
+ArePatchMeasuresIfWanted false shelf question map numbers measures = measures ≡ None
+ArePatchMeasuresIfWanted true shelf question map numbers None = ⊥
+ArePatchMeasuresIfWanted true shelf question map numbers (Some measures) =
+    AreMeasuresOfAllPatches map numbers question.depth measures.patches
+    × AreMainZonesOfPatchesIfNamed shelf numbers (length measures.patches) question.zones measures.zones
+
+-- the frame of the measures, if they are wanted
+abbrev pub patches_frame_if_wanted : ℕ → PatchQuestionValue → Option PatchMeasuresValue → List OutputFrame
+patches_frame_if_wanted place question None = []
+patches_frame_if_wanted place question (Some measures) = Patches (record {
+  question = place;
+  joining = question.joining;
+  depth = question.depth;
+  patches = measures.patches;
+  zones = measures.zones;
+}) ∷ []
+
+-- the frames for the question at index `place`, if they are wanted: the numbers of the patches of the named map, the
+-- map's border, and the measures of the patches, with their zones
 pub record AreFramesForQuestion (shelf : ShelfValue) (place : ℕ) (question : PatchQuestionValue)
     (frames : List OutputFrame) : Type 0 where
   pub map : Grid
   pub named : IsShelfMapWithName shelf question.map map
   pub numbers : Grid
   pub clumping : IsClumpMapOf question.joining map numbers
-  pub patches : List Patch
-  pub measured : AreMeasuresOfAllPatches map numbers question.depth patches
-  pub zones : Option (List CellValue)
-  pub zoned : AreMainZonesOfPatchesIfNamed shelf numbers (length patches) question.zones zones
-  pub is : frames ≡ patch_numbers_frame_if_wanted question.with_numbers place numbers ++ Patches (record {
-    question = place;
-    joining = question.joining;
-    depth = question.depth;
-    patches = patches;
-    zones = zones;
-  }) ∷ []
+  pub border : Option TileBorderValue
+  pub bordered : IsBorderOfMapIfWanted question.wanted.border question.joining map numbers border
+  pub measures : Option PatchMeasuresValue
+  pub measured : ArePatchMeasuresIfWanted question.wanted.patches shelf question map numbers measures
+  pub is : frames ≡ patch_numbers_frame_if_wanted question.wanted.numbers place numbers
+      ++ (border_frame_if_wanted place map.region border ++ patches_frame_if_wanted place question measures)
 
 -- the frames for each question, in order; the first has the index `place`
 abbrev pub AreFramesForAllQuestions : ShelfValue → ℕ → List PatchQuestionValue → List OutputFrame → Type 0

@@ -1,9 +1,9 @@
 -- What a run of `rcell-pipe` has written when it ends (profile).
 use Rattle.std.specs.Prelude.{ℕ, ◌≡◌, ◌⊎◌, ◌++◌, ⊤, Bool, true, false, List, [], ◌∷◌, length, codes, Option, Some, None}
 use Rattle.std.specs.Prelude.{Result, Ok, Err, if◌then◌else◌}
+use Rattle.std.specs.Option.{option_and_then}
 use Rattle.cell_core_devices.specs.Device.{SinkFaults, append_if_known, faults_after_put, faults_after_flush}
 use Rattle.cell_core_devices.specs.Blocks.{capped_byte_count}
-use Rattle.cell_core.specs.Shelf.{ShelfValue}
 use Rattle.rcell_script.specs.Scripts.{IsScript}
 use Rattle.rcell_script.specs.ReadScripts.{IsScriptFault}
 use Rattle.rcell_script.specs.declared.statement.Statement.{Statement}
@@ -12,6 +12,11 @@ use Rattle.rcell_script.specs.declared.script_fault.ScriptKind.{ScriptKind}
 use Rattle.rcell_script.specs.declared.script_fault.ScriptKind.TheVariants as script_kinds
 use Rattle.rcell_script.specs.ScriptTexts.{script_error_text}
 use Rattle.rcell.specs.Output.{IsOutputOfStatements}
+use Rattle.rcell_tile.specs.TileRuns.{RunShelvesValue, inner_shelf}
+use Rattle.rcell_tile.specs.HaloMargins.{first_halo_fault}
+use Rattle.rcell_tile.specs.declared.halo_margins.HaloFault.{HaloFault}
+use Rattle.rcell_tile.specs.declared.halo_margins.HaloFaultKind.{HaloFaultKind}
+use Rattle.rcell_tile.specs.declared.halo_margins.HaloFaultKind.TheVariants as halo_kinds
 use Rattle.rcell_pipe_request.specs.declared.error.ErrorKind.{ErrorKind}
 use Rattle.rcell_pipe_request.specs.declared.error.ErrorKind.TheVariants as kinds
 use Rattle.rcell_pipe_request.specs.declared.error.RequestError.{RequestError}
@@ -38,6 +43,7 @@ abbrev pub request_error_text : ErrorKind → List ℕ
 request_error_text kinds.BadMagic = codes "bad magic"
 request_error_text kinds.Short = codes "request too short"
 request_error_text kinds.ReadFailed = codes "read failed"
+request_error_text kinds.BadPlace = codes "bad place"
 request_error_text kinds.BadCount = codes "bad number of maps"
 request_error_text kinds.BadName = codes "bad name"
 request_error_text kinds.NameTwice = codes "name used twice"
@@ -65,6 +71,11 @@ request_error_text kinds.BadWidth = codes "bad width"
 request_error_text kinds.BadTableCount = codes "bad number of tables"
 request_error_text kinds.ZeroCount = codes "bad count"
 request_error_text kinds.TooManyCells = codes "too many cells"
+request_error_text kinds.BadRun = codes "bad run"
+request_error_text kinds.PatchOrder = codes "patch order"
+request_error_text kinds.UnknownPatch = codes "unknown patch"
+request_error_text kinds.BadPatch = codes "bad patch"
+request_error_text kinds.OtherClass = codes "other class"
 request_error_text kinds.Trailing = codes "bytes after the request"
 
 -- 4 if a read failed, 1 if the bytes are not a request
@@ -89,6 +100,16 @@ request_end error = record { status = exit_status_of_request_error error.kind; s
 abbrev pub end_frame_of_rejected_script : ScriptFault → RunEndValue
 end_frame_of_rejected_script error = record { status = 1; source = 2; maps = 0; line = error.line; column = column_of_script_error error.kind; text = script_error_text error.kind }
 
+-- the text for an error of a halo
+abbrev pub halo_error_text : HaloFaultKind → List ℕ
+halo_error_text halo_kinds.TooSmall = codes "halo too small"
+halo_error_text halo_kinds.Labels = codes "labels in a tile"
+
+-- the end if the halo does not allow a statement
+abbrev pub end_frame_of_rejected_halo : HaloFault → RunEndValue
+end_frame_of_rejected_halo fault =
+    record { status = 1; source = 2; maps = 0; line = fault.line; column = 0; text = halo_error_text fault.kind }
+
 -- the text for an error of a question
 abbrev pub question_error_text : QuestionErrorKind → List ℕ
 question_error_text question_kinds.UnknownMap = codes "unknown map"
@@ -106,6 +127,7 @@ memory_end line = record { status = 3; source = 0; maps = 0; line = line; column
 abbrev pub exit_status_of_pipe_error : PipeError → ℕ
 exit_status_of_pipe_error (errors.Request error) = exit_status_of_request_error error.kind
 exit_status_of_pipe_error (errors.Script error) = 1
+exit_status_of_pipe_error (errors.Halo fault) = 1
 exit_status_of_pipe_error (errors.Question error) = 1
 exit_status_of_pipe_error errors.Memory = 3
 exit_status_of_pipe_error (errors.MemoryAt line) = 3
@@ -116,107 +138,127 @@ abbrev pub exit_status_of_pipe_run : Option PipeError → ℕ
 exit_status_of_pipe_run None = 0
 exit_status_of_pipe_run (Some error) = exit_status_of_pipe_error error
 
--- the bytes are a request, its script denotes statements over its maps, and no question is rejected
-pub record IsRunRequestAccepted (form : ResponseForm) (read : Result RunRequestValue RequestError) (shelf : ShelfValue)
-    (statements : List Statement) (questions : List PatchQuestionValue) : Type 0 where
-  pub script : List ℕ
-  pub request : read ≡ Ok (record { shelf = shelf; script = script; questions = questions })
-  pub denoted : IsScript shelf.names script statements
-  pub known : first_question_error form (names_of_all_maps shelf.names statements) questions ≡ None
+-- the first statement that the halo of a tile does not allow; full maps allow every statement
+abbrev pub halo_fault_of_statements : RunShelvesValue → List Statement → Option HaloFault
+halo_fault_of_statements shelves statements =
+    option_and_then (λ place. first_halo_fault place (length shelves.outer.names) statements) shelves.place
 
--- the frames of statements over a shelf, and of questions about the maps that the statements leave
-pub record AreFramesOfStatementsAndQuestions (shelf : ShelfValue) (statements : List Statement)
+-- the bytes are a request, its script denotes statements over its maps, their halo is large enough for each statement,
+-- and no question is rejected
+pub record IsRunRequestAccepted (form : ResponseForm) (read : Result RunRequestValue RequestError)
+    (shelves : RunShelvesValue) (statements : List Statement) (questions : List PatchQuestionValue) : Type 0 where
+  pub script : List ℕ
+  pub request : read ≡ Ok (record { shelves = shelves; script = script; questions = questions })
+  pub denoted : IsScript shelves.outer.names script statements
+  pub enough : halo_fault_of_statements shelves statements ≡ None
+  pub known : first_question_error form (names_of_all_maps shelves.outer.names statements) questions ≡ None
+
+-- the frames of statements over maps, and of questions about the maps that the statements leave, without their halo
+pub record AreFramesOfStatementsAndQuestions (shelves : RunShelvesValue) (statements : List Statement)
     (questions : List PatchQuestionValue)
     (all : List OutputFrame) : Type 0 where
   pub frames : List OutputFrame
-  pub after : ShelfValue
-  pub given : StatementsGiveFrames shelf statements frames after
+  pub after : RunShelvesValue
+  pub given : StatementsGiveFrames shelves statements frames after
   pub answers : List OutputFrame
-  pub answered : AreFramesForAllQuestions after 0 questions answers
+  pub answered : AreFramesForAllQuestions (inner_shelf after) 0 questions answers
   pub both : all ≡ frames ++ answers
 
 -- the response to statements and questions: their frames and an end, or the text that rcell prints for the statements
-abbrev pub StatementsAndQuestionsGiveResponse : ResponseForm → ShelfValue → List Statement → List PatchQuestionValue
-    → RunEndValue → List ℕ
+abbrev pub StatementsAndQuestionsGiveResponse : ResponseForm → RunShelvesValue → List Statement
+    → List PatchQuestionValue → RunEndValue → List ℕ
     → Type 0
-StatementsAndQuestionsGiveResponse Frames shelf statements questions end response =
-    (frames : List OutputFrame) × (AreFramesOfStatementsAndQuestions shelf statements questions frames
+StatementsAndQuestionsGiveResponse Frames shelves statements questions end response =
+    (frames : List OutputFrame) × (AreFramesOfStatementsAndQuestions shelves statements questions frames
     × (response ≡ response_bytes frames end))
-StatementsAndQuestionsGiveResponse Text shelf statements questions end response = IsOutputOfStatements shelf
-    statements response
+StatementsAndQuestionsGiveResponse Text shelves statements questions end response = IsOutputOfStatements
+    shelves.outer statements response
 
 -- the request is accepted, and its statements and questions produce this response
 pub record IsResponseOfAcceptedRequest (form : ResponseForm) (read : Result RunRequestValue RequestError)
     (response : List ℕ) : Type 0 where
-  pub shelf : ShelfValue
+  pub shelves : RunShelvesValue
   pub statements : List Statement
   pub questions : List PatchQuestionValue
-  pub accepted : IsRunRequestAccepted form read shelf statements questions
-  pub gives : StatementsAndQuestionsGiveResponse form shelf statements questions end_frame_of_successful_run response
+  pub accepted : IsRunRequestAccepted form read shelves statements questions
+  pub gives : StatementsAndQuestionsGiveResponse form shelves statements questions end_frame_of_successful_run response
 
 -- the script is rejected for its first error: the response is only the end
 pub record IsResponseToRejectedScript (read : Result RunRequestValue RequestError) (response : List ℕ) (error : ScriptFault) : Type 0 where
-  pub shelf : ShelfValue
+  pub shelves : RunShelvesValue
   pub script : List ℕ
   pub questions : List PatchQuestionValue
-  pub request : read ≡ Ok (record { shelf = shelf; script = script; questions = questions })
-  pub first : IsScriptFault shelf.names script error
+  pub request : read ≡ Ok (record { shelves = shelves; script = script; questions = questions })
+  pub first : IsScriptFault shelves.outer.names script error
   pub bytes : response ≡ response_bytes [] (end_frame_of_rejected_script error)
+
+-- the halo of a tile is rejected: the response is only the end, which names the first statement that it does not allow
+pub record IsResponseToRejectedHalo (read : Result RunRequestValue RequestError) (response : List ℕ)
+    (fault : HaloFault) : Type 0 where
+  pub shelves : RunShelvesValue
+  pub script : List ℕ
+  pub questions : List PatchQuestionValue
+  pub request : read ≡ Ok (record { shelves = shelves; script = script; questions = questions })
+  pub statements : List Statement
+  pub denoted : IsScript shelves.outer.names script statements
+  pub first : halo_fault_of_statements shelves statements ≡ Some fault
+  pub bytes : response ≡ response_bytes [] (end_frame_of_rejected_halo fault)
 
 -- a question is rejected: the response is only the end, which names the first rejected question
 pub record IsResponseToRejectedQuestion (form : ResponseForm) (read : Result RunRequestValue RequestError)
     (response : List ℕ)
     (error : QuestionError) : Type 0 where
-  pub shelf : ShelfValue
+  pub shelves : RunShelvesValue
   pub script : List ℕ
   pub questions : List PatchQuestionValue
-  pub request : read ≡ Ok (record { shelf = shelf; script = script; questions = questions })
+  pub request : read ≡ Ok (record { shelves = shelves; script = script; questions = questions })
   pub statements : List Statement
-  pub denoted : IsScript shelf.names script statements
-  pub first : first_question_error form (names_of_all_maps shelf.names statements) questions ≡ Some error
+  pub denoted : IsScript shelves.outer.names script statements
+  pub enough : halo_fault_of_statements shelves statements ≡ None
+  pub first : first_question_error form (names_of_all_maps shelves.outer.names statements) questions ≡ Some error
   pub bytes : response ≡ response_bytes [] (end_frame_of_rejected_question error)
 
 -- memory ran out at a statement: the statements before it produce this response
 pub record IsResponseStoppedAtStatement (form : ResponseForm) (read : Result RunRequestValue RequestError) (response : List ℕ) (line : ℕ) : Type 0 where
-  pub shelf : ShelfValue
+  pub shelves : RunShelvesValue
   pub first : List Statement
   pub statement : Statement
   pub others : List Statement
   pub questions : List PatchQuestionValue
-  pub accepted : IsRunRequestAccepted form read shelf (first ++ statement ∷ others) questions
+  pub accepted : IsRunRequestAccepted form read shelves (first ++ statement ∷ others) questions
   pub line_is : line ≡ statement.line
-  pub gives : StatementsAndQuestionsGiveResponse form shelf first [] (memory_end line) response
+  pub gives : StatementsAndQuestionsGiveResponse form shelves first [] (memory_end line) response
 
 -- memory ran out at a question: the statements and the questions before it produce this response
 pub record IsResponseStoppedAtQuestion (form : ResponseForm) (read : Result RunRequestValue RequestError) (response : List ℕ) : Type 0 where
-  pub shelf : ShelfValue
+  pub shelves : RunShelvesValue
   pub statements : List Statement
   pub first : List PatchQuestionValue
   pub others : List PatchQuestionValue
-  pub accepted : IsRunRequestAccepted form read shelf statements (first ++ others)
-  pub gives : StatementsAndQuestionsGiveResponse form shelf statements first (memory_end 0) response
+  pub accepted : IsRunRequestAccepted form read shelves statements (first ++ others)
+  pub gives : StatementsAndQuestionsGiveResponse form shelves statements first (memory_end 0) response
 
 -- the response before its end: the frames or the text of the first statements, or of all statements and the first
 -- questions
-abbrev pub IsPartialResponseBeforeEnd : ResponseForm → ShelfValue → List Statement → List PatchQuestionValue → List ℕ
-    → Type 0
-IsPartialResponseBeforeEnd Frames shelf first answered text =
+abbrev pub IsPartialResponseBeforeEnd : ResponseForm → RunShelvesValue → List Statement → List PatchQuestionValue
+    → List ℕ → Type 0
+IsPartialResponseBeforeEnd Frames shelves first answered text =
     (frames : List OutputFrame) ×
-    (AreFramesOfStatementsAndQuestions shelf first answered frames × (text ≡ response_magic ++ frames_bytes frames))
-IsPartialResponseBeforeEnd Text shelf first answered text = IsOutputOfStatements shelf first text
+    (AreFramesOfStatementsAndQuestions shelves first answered frames × (text ≡ response_magic ++ frames_bytes frames))
+IsPartialResponseBeforeEnd Text shelves first answered text = IsOutputOfStatements shelves.outer first text
 
 -- a write failed at a statement or question: the response up to and including it; questions follow the execution of all
 -- statements
 pub record IsResponseUpToFailedWrite (form : ResponseForm) (read : Result RunRequestValue RequestError)
     (text : List ℕ) : Type 0 where
-  pub shelf : ShelfValue
+  pub shelves : RunShelvesValue
   pub first : List Statement
   pub others : List Statement
   pub answered : List PatchQuestionValue
   pub unanswered : List PatchQuestionValue
-  pub accepted : IsRunRequestAccepted form read shelf (first ++ others) (answered ++ unanswered)
+  pub accepted : IsRunRequestAccepted form read shelves (first ++ others) (answered ++ unanswered)
   pub in_order : (others ≡ []) ⊎ (answered ≡ [])
-  pub gives : IsPartialResponseBeforeEnd form shelf first answered text
+  pub gives : IsPartialResponseBeforeEnd form shelves first answered text
 
 -- the complete response of a run, for the error that it reports; or, if a write failed at a statement or question, the
 -- response up to and including it
@@ -225,6 +267,7 @@ abbrev pub IsResponseToRunRequest : ResponseForm → Result RunRequestValue Requ
 IsResponseToRunRequest form read response None = IsResponseOfAcceptedRequest form read response
 IsResponseToRunRequest form read response (Some (errors.Request error)) = (read ≡ Err error) × (response ≡ response_bytes [] (request_end error))
 IsResponseToRunRequest form read response (Some (errors.Script error)) = IsResponseToRejectedScript read response error
+IsResponseToRunRequest form read response (Some (errors.Halo fault)) = IsResponseToRejectedHalo read response fault
 IsResponseToRunRequest form read response (Some (errors.Question error)) = IsResponseToRejectedQuestion form read
     response error
 IsResponseToRunRequest form read response (Some errors.Memory) = response ≡ response_bytes [] (memory_end 0)
@@ -264,12 +307,13 @@ AreSinkCallsForError (Some errors.Write) old new = (put : Bool)
     × (new ≡ (if put then faults_after_put old true else faults_after_flush old true))
 AreSinkCallsForError error old new = new ≡ faults_after_flush old false
 
--- the response is only the end, if it reports an error of the request, its script or a question, or that memory ran out
--- before the first statement
+-- the response is only the end, if it reports an error of the request, its script, its halo or a question, or that
+-- memory ran out before the first statement
 abbrev pub ResponseIsOnlyEndForError : PipeError → List ℕ → Type 0
 ResponseIsOnlyEndForError (errors.Request error) response = response ≡ response_bytes [] (request_end error)
 ResponseIsOnlyEndForError (errors.Script error) response = response
     ≡ response_bytes [] (end_frame_of_rejected_script error)
+ResponseIsOnlyEndForError (errors.Halo fault) response = response ≡ response_bytes [] (end_frame_of_rejected_halo fault)
 ResponseIsOnlyEndForError (errors.Question error) response = response
     ≡ response_bytes [] (end_frame_of_rejected_question error)
 ResponseIsOnlyEndForError errors.Memory response = response ≡ response_bytes [] (memory_end 0)

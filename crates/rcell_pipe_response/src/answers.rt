@@ -1,24 +1,32 @@
 //! Writes the frames for the questions about the maps that exist at the end of a script, in order.
 
-ghost use Rattle.std.specs.Prelude.{◌≡◌, false, length, None, OnOk, OnErr, IfErr, IfOk, IfSome};
+ghost use Rattle.std.specs.Prelude.{◌≡◌, ◌<◌, ◌^◌, All, false, length, None, OnOk, OnErr, IfErr, IfOk, IfSome};
 ghost use Rattle.std.specs.Option.{is_none, option_map};
 ghost use Rattle.cell_core_values.specs.Name.{place_of_name};
 ghost use Rattle.cell_core_devices.specs.Blocks.{IsTextAppendedThroughBlock};
+ghost use Rattle.cell_clumps.specs.declared.clump.Joining.{Joining};
+ghost use Rattle.cell_clumps.specs.Clumps.{IsClumpMapOf};
+ghost use Rattle.cell_join_tiles.specs.Values.{value_of_tile_border};
 ghost use Rattle.rcell_pipe_frames.specs.FrameBytes.{frames_bytes};
 ghost use Rattle.rcell_pipe_request.specs.Questions.{question_as_value, questions_as_values};
 ghost use Rattle.rcell_pipe_response.specs.declared.frame_run.ResponseForm.TheVariants.{Frames};
-ghost use Rattle.rcell_pipe_response.specs.QuestionFrames.{AreMainZonesOfPatchesIfNamed, IsShelfMapWithName, question_has_unknown_zone_map, patch_numbers_frame_if_wanted, question_error_kind_if_rejected, first_question_error};
-ghost use Rattle.rcell_pipe_response.specs.parts.Answering.{AreQuestionFramesAppended, AreAllQuestionFramesAppended, StopsAfterFirstQuestionFrames};
+ghost use Rattle.rcell_pipe_response.specs.QuestionFrames.{AreMainZonesOfPatchesIfNamed, ArePatchMeasuresIfWanted, IsBorderOfMapIfWanted, IsShelfMapWithName, question_has_unknown_zone_map, border_frame_if_wanted, patch_numbers_frame_if_wanted, patches_frame_if_wanted, question_error_kind_if_rejected, first_question_error};
+ghost use Rattle.rcell_pipe_response.specs.parts.Answering.{AreQuestionFramesAppended, AreAllQuestionFramesAppended, StopsAfterFirstQuestionFrames, patch_measures_as_value};
 
 use cell_clumps::clump::clump_with;
 use cell_core::block::OutputBlock;
 use cell_core::map::CellMap;
 use cell_core::memory::Memory;
 use cell_core::name::Name;
+use cell_core::region::Region;
 use cell_core::shelf::Shelf;
 use cell_core::sink::Sink;
+use cell_join_tiles::border::TileBorder;
+use cell_join_tiles::bordering::border_of_tile;
 use cell_patches::measuring::patch_measures;
+use cell_patches::patch::Patch;
 use cell_patches::zones::zones_of_patches;
+use rcell_pipe_frames::border_frame::push_border_frame;
 use rcell_pipe_frames::numbers_frame::push_patch_numbers_frame;
 use rcell_pipe_frames::patches_frame::push_patches_frame;
 use rcell_pipe_request::question::Question;
@@ -89,6 +97,106 @@ fn push_patch_numbers_if_wanted<W: Sink>(
     Ok(())
 }
 
+// The measures of a map's patches, and the patches' zones if a map of zones is named.
+#[derive(Drop)]
+pub(crate) struct PatchMeasures {
+    pub(crate) patches: Vec<Patch>,
+    pub(crate) zones: Option<Vec<Option<i32>>>,
+}
+
+// Returns the border of a map with these patch numbers, if it is wanted.
+fn border_if_wanted(
+    alloc: Global,
+    wanted: bool,
+    map: &CellMap,
+    numbers: &CellMap,
+) -> Result<Option<TileBorder>, Memory>
+    requires { numbers.now.region ≡ map.now.region }
+    ensures border { IfOk result (λ border. (joining : Joining)
+        → IsClumpMapOf joining map.now numbers.now
+        → IsBorderOfMapIfWanted wanted joining map.now numbers.now
+        (option_map value_of_tile_border border)) }
+    ensures few { IfOk result (λ border. IfSome border (λ border. All (λ count. count < 2 ^ 32)
+        border.begun.items)) }
+{
+    if !wanted {
+        return Ok(None);
+    }
+    let border = border_of_tile(alloc, map, numbers)?;
+    Ok(Some(border))
+}
+
+// Returns the measures and zones of a map's patches, if they are wanted.
+fn patch_measures_if_wanted(
+    alloc: Global,
+    shelf: &Shelf,
+    question: &Question,
+    map: &CellMap,
+    numbers: &CellMap,
+) -> Result<Option<PatchMeasures>, Memory>
+    requires known { question_has_unknown_zone_map shelf.now.names
+        (question_as_value question.now).zones ≡ false }
+    requires region { map.now.region ≡ shelf.now.region }
+    requires clumping { IsClumpMapOf question.now.joining map.now numbers.now }
+    ensures measures { IfOk result (λ measures. ArePatchMeasuresIfWanted
+        question.now.wanted.patches shelf.now (question_as_value question.now) map.now numbers.now
+        (option_map patch_measures_as_value measures)) }
+    ensures long { IfOk result (λ measures. IfSome measures (λ measures. IfSome measures.zones
+        (λ zones. length zones.items ≡ length measures.patches.items))) }
+{
+    if !question.wanted.patches {
+        return Ok(None);
+    }
+    let patches = patch_measures(alloc, map, numbers, question.joining, question.depth)?;
+    let zones = main_zone_of_each_patch(alloc, shelf, &question.zones, numbers, patches.len())?;
+    Ok(Some(PatchMeasures { patches, zones }))
+}
+
+// Writes the frame of the border of a map with this region, if it is wanted.
+fn push_border_if_wanted<W: Sink>(
+    place: u64,
+    region: Region,
+    border: &Option<TileBorder>,
+    block: &mut OutputBlock,
+    out: &mut W,
+)
+    requires { IfSome border.now (λ border. All (λ count. count < 2 ^ 32) border.begun.items) }
+    ensures { IsTextAppendedThroughBlock W.taken W.faults out.old block.old
+        (frames_bytes (border_frame_if_wanted place region
+        (option_map value_of_tile_border border.now))) out.new block.new }
+{
+    if let Some(border) = border {
+        push_border_frame(out, block, place, region, border);
+    }
+}
+
+// Writes the frame of the measures of a map's patches, if they are wanted.
+fn push_patches_if_wanted<W: Sink>(
+    place: u64,
+    question: &Question,
+    measures: &Option<PatchMeasures>,
+    block: &mut OutputBlock,
+    out: &mut W,
+)
+    requires { IfSome measures.now (λ measures. IfSome measures.zones
+        (λ zones. length zones.items ≡ length measures.patches.items)) }
+    ensures { IsTextAppendedThroughBlock W.taken W.faults out.old block.old
+        (frames_bytes (patches_frame_if_wanted place (question_as_value question.now)
+        (option_map patch_measures_as_value measures.now))) out.new block.new }
+{
+    if let Some(found) = measures {
+        push_patches_frame(
+            out,
+            block,
+            place,
+            question.joining,
+            question.depth,
+            &found.patches,
+            &found.zones,
+        );
+    }
+}
+
 // Writes the frames for the question at index `place`. Allocates all memory before it writes the first byte.
 fn answer<W: Sink>(
     alloc: Global,
@@ -104,19 +212,15 @@ fn answer<W: Sink>(
         (question_as_value question.now) out.old block.old out.new block.new) }
     ensures err { OnErr result ((out.new ≡ out.old) × (block.new ≡ block.old)) }
 {
-    let Question {
-        joining,
-        depth,
-        with_numbers,
-        ..
-    } = *question;
+    let wanted = question.wanted;
     let map = map_named(shelf, &question.map);
-    let numbers = clump_with(alloc, map, joining)?;
-    let patches = patch_measures(alloc, map, &numbers, joining, depth)?;
-    let zones = main_zone_of_each_patch(alloc, shelf, &question.zones, &numbers, patches.len())?;
+    let numbers = clump_with(alloc, map, question.joining)?;
+    let border = border_if_wanted(alloc, wanted.border, map, &numbers)?;
+    let measures = patch_measures_if_wanted(alloc, shelf, question, map, &numbers)?;
     // The numbers come first: only their frame needs memory, so a question that runs out of it has written nothing.
-    push_patch_numbers_if_wanted(alloc, with_numbers, place, &numbers, block, out)?;
-    push_patches_frame(out, block, place, joining, depth, &patches, &zones);
+    push_patch_numbers_if_wanted(alloc, wanted.numbers, place, &numbers, block, out)?;
+    push_border_if_wanted(place, map.region(), &border, block, out);
+    push_patches_if_wanted(place, question, &measures, block, out);
     Ok(())
 }
 

@@ -3,7 +3,7 @@
 ghost use Rattle.std.specs.Prelude.{◌≡◌};
 ghost use Rattle.cell_core_devices.specs.Blocks.{IsTextAppendedThroughBlock};
 ghost use Rattle.rcell_pipe_frames.specs.FrameBytes.{run_end_frame_bytes};
-ghost use Rattle.rcell_pipe_response.specs.RunEnds.{request_error_text, exit_status_of_request_error, column_of_script_error, end_frame_of_successful_run, request_end, end_frame_of_rejected_script, question_error_text, end_frame_of_rejected_question, memory_end, exit_status_of_pipe_error, exit_status_of_pipe_run, end_frame_as_value};
+ghost use Rattle.rcell_pipe_response.specs.RunEnds.{request_error_text, exit_status_of_request_error, column_of_script_error, end_frame_of_successful_run, request_end, end_frame_of_rejected_script, halo_error_text, end_frame_of_rejected_halo, question_error_text, end_frame_of_rejected_question, memory_end, exit_status_of_pipe_error, exit_status_of_pipe_run, end_frame_as_value};
 ghost use Rattle.rcell_pipe_response.specs.parts.ScriptKinds.{is_memory_error};
 ghost use Rattle.rcell_script.specs.ScriptTexts.{script_error_text};
 
@@ -13,6 +13,7 @@ use cell_core::sink::Sink;
 use rcell_pipe_frames::bytes::{push_eight_byte_number, push_length_and_text};
 use rcell_pipe_request::error::{ErrorKind, RequestError};
 use rcell_script::script_fault::{ScriptFault, ScriptKind};
+use rcell_tile::halo_margins::{HaloFault, HaloFaultKind};
 
 /// Why a run of `rcell-pipe` failed.
 #[derive(Clone, Copy, Debug, PartialEq, Eq)]
@@ -21,6 +22,8 @@ pub enum PipeError {
     Request(RequestError),
     /// The script was rejected.
     Script(ScriptFault),
+    /// The halo of a tile does not allow a statement.
+    Halo(HaloFault),
     /// A question was rejected.
     Question(QuestionError),
     /// Memory ran out before the script was accepted.
@@ -51,6 +54,7 @@ fn request_error_text(kind: ErrorKind) -> &'static [u8]
         ErrorKind::BadMagic => b"bad magic",
         ErrorKind::Short => b"request too short",
         ErrorKind::ReadFailed => b"read failed",
+        ErrorKind::BadPlace => b"bad place",
         ErrorKind::BadCount => b"bad number of maps",
         ErrorKind::BadName => b"bad name",
         ErrorKind::NameTwice => b"name used twice",
@@ -78,6 +82,11 @@ fn request_error_text(kind: ErrorKind) -> &'static [u8]
         ErrorKind::BadTableCount => b"bad number of tables",
         ErrorKind::ZeroCount => b"bad count",
         ErrorKind::TooManyCells => b"too many cells",
+        ErrorKind::BadRun => b"bad run",
+        ErrorKind::PatchOrder => b"patch order",
+        ErrorKind::UnknownPatch => b"unknown patch",
+        ErrorKind::BadPatch => b"bad patch",
+        ErrorKind::OtherClass => b"other class",
         ErrorKind::Trailing => b"bytes after the request",
     }
 }
@@ -153,6 +162,29 @@ pub fn end_frame_of_rejected_script<'a>(error: ScriptFault, text: &'a [u8]) -> E
     }
 }
 
+fn halo_error_text(kind: HaloFaultKind) -> &'static [u8]
+    ensures { result.now ≡ halo_error_text kind }
+{
+    match kind {
+        HaloFaultKind::TooSmall => b"halo too small",
+        HaloFaultKind::Labels => b"labels in a tile",
+    }
+}
+
+/// The last frame if the halo of a tile does not allow a statement.
+pub(crate) fn end_frame_of_rejected_halo(fault: HaloFault) -> End<'static>
+    ensures { end_frame_as_value result ≡ end_frame_of_rejected_halo fault }
+{
+    End {
+        status: 1,
+        source: 2,
+        maps: 0,
+        line: fault.line,
+        column: 0,
+        text: halo_error_text(fault.kind),
+    }
+}
+
 fn question_error_text(kind: QuestionErrorKind) -> &'static [u8]
     ensures { result.now ≡ question_error_text kind }
 {
@@ -197,6 +229,7 @@ fn exit_status_of_pipe_error(error: PipeError) -> u8
     match error {
         PipeError::Request(error) => exit_status_of_request_error(error.kind),
         PipeError::Script(_) => 1,
+        PipeError::Halo(_) => 1,
         PipeError::Question(_) => 1,
         PipeError::Memory => 3,
         PipeError::MemoryAt { .. } => 3,

@@ -4,7 +4,7 @@ ghost use Rattle.std.specs.Prelude.{◌≡◌, ◌<◌, ◌≤◌, All, length, 
 ghost use Rattle.cell_core_devices.specs.Blocks.{IsTextAppendedThroughBlock};
 ghost use Rattle.rcell_script.specs.FittingCommands.{CommandFitsKnownMaps};
 ghost use Rattle.rcell_script.specs.FittingScripts.{StatementsFitKnownMaps};
-ghost use Rattle.rcell.specs.After.{IsShelfAfterCommand};
+ghost use Rattle.rcell_tile.specs.TileRuns.{AreShelvesAfterCommand, inner_shelf};
 ghost use Rattle.rcell_pipe_frames.specs.Frames.{command_frames, stats_frame};
 ghost use Rattle.rcell_pipe_frames.specs.FrameBytes.{frame_bytes, frames_bytes};
 ghost use Rattle.rcell_pipe_response.specs.parts.FrameExecution.{AreStatementFramesAppended, IsStoppedFrameExecution};
@@ -14,11 +14,12 @@ use cell_core::memory::Memory;
 use cell_core::shelf::Shelf;
 use cell_core::sink::Sink;
 use cell_stats::tallying::tally;
-use rcell::making::add_map_made_by_command;
 use rcell_pipe_frames::cells_frame::push_frame_of_single_cells;
 use rcell_pipe_frames::map_frame::push_grid_frame;
 use rcell_pipe_frames::table_frame::push_table_frame;
 use rcell_script::statement::{Command, Statement, StatsOptions};
+use rcell_tile::making_in_tiles::add_map_made_by_command_to_shelves;
+use rcell_tile::run_shelves::RunShelves;
 use std::alloc::Global;
 
 /// Why an execution stopped.
@@ -28,6 +29,14 @@ pub(crate) enum FrameExecutionStop {
     Memory { line: u64 },
     /// A write failed.
     Write,
+}
+
+/// Returns the maps whose cells are counted and written.
+pub(crate) fn maps_without_halo(shelves: &RunShelves) -> &Shelf
+    ensures value { result.now ≡ inner_shelf shelves.now }
+    ensures names { result.now.names ≡ shelves.now.outer.names }
+{
+    shelves.inner()
 }
 
 // Writes the frame of r.stats. Allocates all memory before it writes the first byte.
@@ -61,19 +70,21 @@ fn push_stats_frame<W: Sink>(
 // Executes a statement. Allocates all memory before it writes the first byte.
 fn execute_statement<W: Sink>(
     alloc: Global,
-    shelf: &mut Shelf,
+    shelves: &mut RunShelves,
     statement: &Statement,
     block: &mut OutputBlock,
     out: &mut W,
 ) -> Result<(), Memory>
-    requires { CommandFitsKnownMaps shelf.old.names statement.now.command }
-    ensures after { OnOk result (IsShelfAfterCommand shelf.old statement.now.command shelf.new) }
+    requires { CommandFitsKnownMaps shelves.old.outer.names statement.now.command }
+    ensures after { OnOk result
+        (AreShelvesAfterCommand shelves.old statement.now.command shelves.new) }
     ensures ok { OnOk result
         (IsTextAppendedThroughBlock W.taken W.faults out.old block.old
-        (frames_bytes (command_frames shelf.old statement.now.line statement.now.command))
+        (frames_bytes (command_frames (inner_shelf shelves.old) statement.now.line statement.now.command))
         out.new block.new) }
     ensures err { OnErr result ((out.new ≡ out.old) × (block.new ≡ block.old)) }
 {
+    let shelf = maps_without_halo(shelves);
     let _maps = shelf.len();
     let line = statement.line;
     match &statement.command {
@@ -89,9 +100,15 @@ fn execute_statement<W: Sink>(
             shelf.name(*place).bytes(),
             shelf.map(*place),
         ),
-        Command::Mapcalc { .. } => add_map_made_by_command(alloc, shelf, &statement.command),
-        Command::Reclass { .. } => add_map_made_by_command(alloc, shelf, &statement.command),
-        Command::Clump { .. } => add_map_made_by_command(alloc, shelf, &statement.command),
+        Command::Mapcalc { .. } => {
+            add_map_made_by_command_to_shelves(alloc, shelves, &statement.command)
+        }
+        Command::Reclass { .. } => {
+            add_map_made_by_command_to_shelves(alloc, shelves, &statement.command)
+        }
+        Command::Clump { .. } => {
+            add_map_made_by_command_to_shelves(alloc, shelves, &statement.command)
+        }
     }
 }
 
@@ -103,21 +120,20 @@ fn execute_statement<W: Sink>(
 /// nothing, or [`FrameExecutionStop::Write`] if the sink fails.
 pub(crate) fn execute_statements_into_frames<W: Sink>(
     alloc: Global,
-    shelf: &mut Shelf,
+    shelves: &mut RunShelves,
     statements: &[Statement],
     block: &mut OutputBlock,
     out: &mut W,
 ) -> Result<(), FrameExecutionStop>
-    requires { StatementsFitKnownMaps shelf.old.names statements.now }
-    ensures ok { OnOk result (AreStatementFramesAppended W.taken W.faults shelf.old statements.now
-        out.old block.old
-        out.new block.new shelf.new) }
+    requires { StatementsFitKnownMaps shelves.old.outer.names statements.now }
+    ensures ok { OnOk result (AreStatementFramesAppended W.taken W.faults shelves.old
+        statements.now out.old block.old out.new block.new shelves.new) }
     ensures err { IfErr result
-        (IsStoppedFrameExecution W.taken W.faults shelf.old statements.now out.old block.old
+        (IsStoppedFrameExecution W.taken W.faults shelves.old statements.now out.old block.old
         out.new block.new) }
 {
     for statement in statements {
-        match execute_statement(alloc, shelf, statement, block, out) {
+        match execute_statement(alloc, shelves, statement, block, out) {
             Ok(()) => block.empty(out),
             Err(_) => {
                 return Err(FrameExecutionStop::Memory {

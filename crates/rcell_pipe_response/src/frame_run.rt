@@ -4,11 +4,11 @@ ghost use Rattle.std.specs.Prelude.{ℕ, ◌≡◌, List, [], ◌++◌, length, 
 ghost use Rattle.std.specs.String.{string_bytes};
 ghost use Rattle.cell_core_devices.specs.Device.{SinkFaults, append_if_known};
 ghost use Rattle.cell_core_devices.specs.Blocks.{capped_byte_count, IsTextAppendedToSink};
-ghost use Rattle.cell_core.specs.Shelf.{ShelfValue};
 ghost use Rattle.rcell_script.specs.FittingScripts.{StatementsFitKnownMaps};
 ghost use Rattle.rcell_script.specs.Scripts.{IsScript};
 ghost use Rattle.rcell_script.specs.declared.statement.Statement.{Statement};
 ghost use Rattle.rcell_script.specs.ScriptTexts.{script_error_text};
+ghost use Rattle.rcell_tile.specs.TileRuns.{RunShelvesValue, inner_shelf};
 ghost use Rattle.rcell_pipe_request.specs.declared.error.RequestError.{RequestError};
 ghost use Rattle.rcell_pipe_request.specs.Requests.{RunRequestValue, run_request_as_value};
 ghost use Rattle.rcell_pipe_request.specs.Questions.{PatchQuestionValue, questions_as_values};
@@ -16,22 +16,24 @@ ghost use Rattle.rcell_pipe_response.specs.declared.frame_run.ResponseForm.TheVa
 ghost use Rattle.rcell_pipe_frames.specs.Frames.{OutputFrame, StatementsGiveFrames};
 ghost use Rattle.rcell_pipe_frames.specs.FrameBytes.{response_magic, frames_bytes, response_bytes, run_end_frame_bytes};
 ghost use Rattle.rcell_pipe_response.specs.QuestionFrames.{names_of_all_maps, first_question_error};
-ghost use Rattle.rcell_pipe_response.specs.RunEnds.{exit_status_of_pipe_run, IsRunRequestAccepted, IsResponseToRunRequest, end_frame_as_value};
+ghost use Rattle.rcell_pipe_response.specs.RunEnds.{exit_status_of_pipe_run, IsRunRequestAccepted, IsResponseToRunRequest, end_frame_as_value, halo_fault_of_statements};
 ghost use Rattle.rcell_pipe_response.specs.FrameEndings.{run_error_with_sink_state, IsTextSentWithOutcome, Rejected, IsEndOfResponseSent};
 ghost use Rattle.rcell_pipe_response.specs.parts.Flushed.{IsSinkFlushedOnce};
 
 use crate::answers::{AnswerWritingStop, push_frames_for_all_questions};
 use crate::end::{
-    End, PipeError, end_frame_of_rejected_question, end_frame_of_rejected_script,
-    end_frame_of_successful_run, exit_status_of_pipe_run, is_memory_error, memory_end,
-    push_end_frame,
+    End, PipeError, end_frame_of_rejected_halo, end_frame_of_rejected_question,
+    end_frame_of_rejected_script, end_frame_of_successful_run, exit_status_of_pipe_run,
+    is_memory_error, memory_end, push_end_frame,
 };
-use crate::frame_execution::{FrameExecutionStop, execute_statements_into_frames};
+use crate::frame_execution::{
+    FrameExecutionStop, execute_statements_into_frames, maps_without_halo,
+};
 use crate::made_names::names_of_all_maps;
 use crate::question_error::first_question_error;
 use cell_core::block::OutputBlock;
+use cell_core::memory::Memory;
 use cell_core::name::Names;
-use cell_core::shelf::Shelf;
 use cell_core::sink::Sink;
 use rcell::execution::{ExecutionStopReason, execute as execute_as_text};
 use rcell::loading::map_names_on_shelf;
@@ -40,6 +42,8 @@ use rcell_pipe_request::request::Request;
 use rcell_script::script_fault::{ScriptFault, ScriptKind};
 use rcell_script::script_parsing::parse_script;
 use rcell_script::statement::Script;
+use rcell_tile::halo_margins::{HaloFault, first_halo_fault};
+use rcell_tile::run_shelves::RunShelves;
 use std::alloc::{AllocError, Global};
 
 /// The form of a run's response.
@@ -193,28 +197,34 @@ pub fn reject_script<W: Sink>(alloc: Global, out: &mut W, error: ScriptFault) ->
     }
 }
 
-// Writes the frames of questions about the maps that the statements have left on the shelf.
+// Writes the frames of questions about the maps that the statements have left.
 fn answer_questions<W: Sink>(
     alloc: Global,
-    shelf: &Shelf,
+    shelves: &RunShelves,
     questions: &[Question],
     mut block: OutputBlock,
     out: &mut W,
 ) -> PipeOutcome
-    requires { first_question_error Frames shelf.now.names (questions_as_values questions.now)
-        ≡ None }
+    requires { first_question_error Frames (inner_shelf shelves.now).names
+        (questions_as_values questions.now) ≡ None }
     ensures { (before : Option (List ℕ)) (start : SinkFaults)
         (read : Result RunRequestValue RequestError)
-        (given : ShelfValue) (statements : List Statement) (frames : List OutputFrame)
+        (given : RunShelvesValue) (statements : List Statement) (frames : List OutputFrame)
         → IsRunRequestAccepted Frames read given statements (questions_as_values questions.now)
-        → StatementsGiveFrames given statements frames shelf.now
+        → StatementsGiveFrames given statements frames shelves.now
         → IsTextAppendedToSink before start (response_magic
         ++ frames_bytes frames) (W.taken out.old)
         (W.faults out.old) block
         → IsEndOfResponseSent (IsResponseToRunRequest Frames read) before start (W.taken out.new)
         (W.faults out.new) result }
 {
-    match push_frames_for_all_questions(alloc, shelf, questions, &mut block, out) {
+    match push_frames_for_all_questions(
+        alloc,
+        maps_without_halo(shelves),
+        questions,
+        &mut block,
+        out,
+    ) {
         Ok(()) => end_response_and_flush(out, block, None, &end_frame_of_successful_run()),
         Err(stop) => match stop {
             AnswerWritingStop::Memory => end_response_and_flush(
@@ -228,27 +238,34 @@ fn answer_questions<W: Sink>(
     }
 }
 
-// Runs statements over the maps on a shelf, and writes their frames and the frames of the questions.
+// Runs statements over maps, and writes their frames and the frames of the questions.
 fn run_statements_and_questions<W: Sink>(
     alloc: Global,
-    mut shelf: Shelf,
+    mut shelves: RunShelves,
     script: &Script,
     questions: &[Question],
     out: &mut W,
 ) -> PipeOutcome
-    requires fits { StatementsFitKnownMaps shelf.names script.now }
-    requires known { first_question_error Frames (names_of_all_maps shelf.names script.now)
-        (questions_as_values questions.now) ≡ None }
+    requires fits { StatementsFitKnownMaps shelves.outer.names script.now }
+    requires known { first_question_error Frames
+        (names_of_all_maps shelves.outer.names script.now) (questions_as_values questions.now)
+        ≡ None }
     ensures { (read : Result RunRequestValue RequestError)
-        → IsRunRequestAccepted Frames read shelf script.now (questions_as_values questions.now)
+        → IsRunRequestAccepted Frames read shelves script.now (questions_as_values questions.now)
         → IsEndOfResponseSent (IsResponseToRunRequest Frames read) (W.taken out.old)
         (W.faults out.old)
         (W.taken out.new)
         (W.faults out.new) result }
 {
     let mut block = begin_response(out);
-    match execute_statements_into_frames(alloc, &mut shelf, script.statements(), &mut block, out) {
-        Ok(()) => answer_questions(alloc, &shelf, questions, block, out),
+    match execute_statements_into_frames(
+        alloc,
+        &mut shelves,
+        script.statements(),
+        &mut block,
+        out,
+    ) {
+        Ok(()) => answer_questions(alloc, &shelves, questions, block, out),
         Err(stop) => match stop {
             FrameExecutionStop::Memory { line } => end_response_and_flush(
                 out,
@@ -276,21 +293,22 @@ fn flush_sink_after_text<W: Sink>(
     outcome_of_full_response(reported, flush_sink(out), written)
 }
 
-// Runs statements over the maps on a shelf, and writes their output as text. There are no questions.
+// Runs statements over maps, and writes their output as text. There is no halo, and there are no questions.
 fn run_statements_as_text<W: Sink>(
     alloc: Global,
-    mut shelf: Shelf,
+    shelves: RunShelves,
     script: &Script,
     out: &mut W,
 ) -> PipeOutcome
-    requires { StatementsFitKnownMaps shelf.names script.now }
+    requires { StatementsFitKnownMaps shelves.outer.names script.now }
     ensures { (read : Result RunRequestValue RequestError) (questions : List PatchQuestionValue)
-        → IsRunRequestAccepted Text read shelf script.now questions
+        → IsRunRequestAccepted Text read shelves script.now questions
         → IsEndOfResponseSent (IsResponseToRunRequest Text read) (W.taken out.old)
         (W.faults out.old)
         (W.taken out.new)
         (W.faults out.new) result }
 {
+    let mut shelf = shelves.into_outer();
     match execute_as_text(alloc, &mut shelf, script.statements(), out) {
         Ok(written) => flush_sink_after_text(out, None, written),
         Err(stopped) => match stopped.stop {
@@ -302,21 +320,22 @@ fn run_statements_as_text<W: Sink>(
     }
 }
 
-// Runs a script over the maps on a shelf, unless a question is rejected.
+// Runs a script over maps, unless a question is rejected.
 fn run_script<W: Sink>(
     alloc: Global,
-    shelf: Shelf,
+    shelves: RunShelves,
     names: Names,
     script: &Script,
     questions: &[Question],
     form: ResponseForm,
     out: &mut W,
 ) -> PipeOutcome
-    requires same { names ≡ shelf.names }
+    requires same { names ≡ shelves.outer.names }
     requires fits { StatementsFitKnownMaps names script.now }
-    ensures { (text : List ℕ) → IsScript shelf.names text script.now
+    requires enough { halo_fault_of_statements shelves script.now ≡ None }
+    ensures { (text : List ℕ) → IsScript shelves.outer.names text script.now
         → IsEndOfResponseSent (IsResponseToRunRequest form (Ok (record {
-          shelf = shelf;
+          shelves = shelves;
           script = text;
           questions = questions_as_values questions.now;
         }))) (W.taken out.old) (W.faults out.old) (W.taken out.new) (W.faults out.new) result }
@@ -332,10 +351,55 @@ fn run_script<W: Sink>(
         ),
         None => match form {
             ResponseForm::Frames => run_statements_and_questions(
-                alloc, shelf, script, questions, out,
+                alloc, shelves, script, questions, out,
             ),
-            ResponseForm::Text => run_statements_as_text(alloc, shelf, script, out),
+            ResponseForm::Text => run_statements_as_text(alloc, shelves, script, out),
         },
+    }
+}
+
+// Returns the first statement that the halo of a tile does not allow.
+fn halo_fault_of_script(
+    alloc: Global,
+    shelves: &RunShelves,
+    script: &Script,
+) -> Result<Option<HaloFault>, Memory>
+    ensures { IfOk result (λ fault. fault ≡ halo_fault_of_statements shelves.now script.now) }
+{
+    let count = shelves.outer().len();
+    match shelves.place() {
+        Some(place) => first_halo_fault(alloc, &place, count, script.statements()),
+        None => Ok(None),
+    }
+}
+
+// Runs a script over maps, unless their halo does not allow a statement or a question is rejected.
+fn run_script_within_halo<W: Sink>(
+    alloc: Global,
+    shelves: RunShelves,
+    names: Names,
+    script: &Script,
+    questions: &[Question],
+    form: ResponseForm,
+    out: &mut W,
+) -> PipeOutcome
+    requires same { names ≡ shelves.outer.names }
+    requires fits { StatementsFitKnownMaps names script.now }
+    ensures { (text : List ℕ) → IsScript shelves.outer.names text script.now
+        → IsEndOfResponseSent (IsResponseToRunRequest form (Ok (record {
+          shelves = shelves;
+          script = text;
+          questions = questions_as_values questions.now;
+        }))) (W.taken out.old) (W.faults out.old) (W.taken out.new) (W.faults out.new) result }
+{
+    match halo_fault_of_script(alloc, &shelves, script) {
+        Ok(None) => run_script(alloc, shelves, names, script, questions, form, out),
+        Ok(Some(fault)) => reject(
+            out,
+            PipeError::Halo(fault),
+            &end_frame_of_rejected_halo(fault),
+        ),
+        Err(_) => reject(out, PipeError::Memory, &memory_end(0)),
     }
 }
 
@@ -351,17 +415,17 @@ pub fn run_request<W: Sink>(
         (W.faults out.old) (W.taken out.new) (W.faults out.new) result }
 {
     let Request {
-        shelf,
+        shelves,
         script,
         questions,
     } = request;
-    let Ok(names) = map_names_on_shelf(alloc, &shelf) else {
+    let Ok(names) = map_names_on_shelf(alloc, shelves.outer()) else {
         return reject(out, PipeError::Memory, &memory_end(0));
     };
     match parse_script(alloc, &script, &names) {
-        Ok(statements) => run_script(
+        Ok(statements) => run_script_within_halo(
             alloc,
-            shelf,
+            shelves,
             names,
             &statements,
             questions.as_slice(),

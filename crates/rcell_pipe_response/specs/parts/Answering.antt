@@ -1,14 +1,23 @@
 -- What has been written when the frames of questions stop.
 use Rattle.std.specs.Prelude.{ℕ, ◌≡◌, true, List, ◌++◌, Option}
+use Rattle.std.specs.Option.{option_map}
 use Rattle.cell_core_devices.specs.Device.{SinkFaults}
 use Rattle.cell_core_devices.specs.Blocks.{OutputBlockValue, IsTextAppendedThroughBlock}
 use Rattle.cell_core.specs.Shelf.{ShelfValue}
 use Rattle.rcell_pipe_request.specs.Questions.{PatchQuestionValue}
 use Rattle.rcell_pipe_response.specs.declared.answers.AnswerWritingStop.{AnswerWritingStop}
 use Rattle.rcell_pipe_response.specs.declared.answers.AnswerWritingStop.TheVariants as stops
+use Rattle.rcell_pipe_response.specs.declared.answers.PatchMeasures.{PatchMeasures}
 use Rattle.rcell_pipe_frames.specs.Frames.{OutputFrame}
 use Rattle.rcell_pipe_frames.specs.FrameBytes.{frames_bytes}
-use Rattle.rcell_pipe_response.specs.QuestionFrames.{AreFramesForQuestion, AreFramesForAllQuestions}
+use Rattle.rcell_pipe_response.specs.QuestionFrames.{AreFramesForQuestion, AreFramesForAllQuestions, PatchMeasuresValue}
+
+-- the measures and zones of patches as lists
+abbrev pub patch_measures_as_value : PatchMeasures → PatchMeasuresValue
+patch_measures_as_value measures = record {
+  patches = measures.patches.items;
+  zones = option_map (λ z. z.items) measures.zones;
+}
 
 -- the frames for a question were appended
 pub record AreQuestionFramesAppended {S : Type 0} (taken : S → Option (List ℕ)) (faults : S

@@ -8,6 +8,7 @@ use Rattle.rcell_script.specs.declared.command.Command.TheVariants.{Stats, OutAs
 use Rattle.rcell_script.specs.declared.command.StatsOptions.{StatsOptions}
 use Rattle.rcell_pipe_frames.specs.Frames.{command_frames, grid_frame, stats_frame}
 use Rattle.rcell_pipe_frames.specs.FrameBytes.{frame_bytes, frames_bytes, grid_frame_bytes}
+use Rattle.rcell_pipe_response.proofs.ExecutionLemmas.{unchanged_by_stats, unchanged_by_out_ascii}
 use Rattle.rcell_pipe_response.proofs.frame_execution.execute_statement.Goals as goal
 
 whenever_ok : {T E : Type 0} (r : Result T E) (P : Type 0) → P → OnOk r P
@@ -24,24 +25,33 @@ grid_command : (shelf : ShelfValue) (line : ℕ) (command : Command) (place : �
 grid_command shelf line command place null_text name grid is map named = rw (is, map, named) (sym (append-nil (grid_frame_bytes (grid_frame line null_text name grid))))
 
 pub returns-in-Stats-clause-after : goal.returns-in-Stats-clause-after
-returns-in-Stats-clause-after g c = whenever_ok c.push_stats_frame.result _ (rw c.in-Stats.is refl)
+returns-in-Stats-clause-after g c = whenever_ok c.push_stats_frame.result _
+    (rw c.in-Stats.is (unchanged_by_stats c.args.shelves.now _ _))
 
 pub returns-in-Stats-clause-ok : goal.returns-in-Stats-clause-ok
 returns-in-Stats-clause-ok g c =
-    let same : frame_bytes (stats_frame c.args.shelf.now c.args.statement.now.line c.as_slice.result.now c.in-Stats.options) ≡ frames_bytes (command_frames c.args.shelf.now c.args.statement.now.line c.args.statement.now.command) =
-    rw c.as_slice.ensures (stats_command c.args.shelf.now c.args.statement.now.line c.args.statement.now.command _ _ c.in-Stats.is) in
-    rw (← same) c.push_stats_frame.ensures.ok
+    let shelf = c.maps_without_halo-shelf.result.now in
+    let same : frame_bytes (stats_frame shelf c.args.statement.now.line c.as_slice.result.now c.in-Stats.options)
+    ≡ frames_bytes (command_frames shelf c.args.statement.now.line c.args.statement.now.command) =
+    rw c.as_slice.ensures
+    (stats_command shelf c.args.statement.now.line c.args.statement.now.command _ _ c.in-Stats.is) in
+    rw (same, c.maps_without_halo-shelf.ensures.value) at c.push_stats_frame.ensures.ok
 
 pub returns-in-Stats-clause-err : goal.returns-in-Stats-clause-err
 returns-in-Stats-clause-err g c = c.push_stats_frame.ensures.err
 
 pub returns-in-OutAscii-clause-after : goal.returns-in-OutAscii-clause-after
-returns-in-OutAscii-clause-after g c = whenever_ok c.push_grid_frame.result _ (rw c.in-OutAscii.is refl)
+returns-in-OutAscii-clause-after g c = whenever_ok c.push_grid_frame.result _
+    (rw c.in-OutAscii.is (unchanged_by_out_ascii c.args.shelves.now _ _))
 
 pub returns-in-OutAscii-clause-ok : goal.returns-in-OutAscii-clause-ok
 returns-in-OutAscii-clause-ok g c =
-    let same = grid_command c.args.shelf.now c.args.statement.now.line c.args.statement.now.command _ _ _ _ c.in-OutAscii.is c.map.ensures.value c.name.ensures.value in
-    rw (← same, ← c.bytes.ensures.value, ← c.bytes-in-OutAscii.ensures.value) c.push_grid_frame.ensures.ok
+    let shelf = c.maps_without_halo-shelf.result.now in
+    let same =
+    grid_command shelf c.args.statement.now.line c.args.statement.now.command _ _ _ _ c.in-OutAscii.is
+    c.map.ensures.value c.name.ensures.value in
+    rw (c.bytes.ensures.value, c.bytes-in-OutAscii.ensures.value, same, c.maps_without_halo-shelf.ensures.value) at
+    c.push_grid_frame.ensures.ok
 
 pub returns-in-OutAscii-clause-err : goal.returns-in-OutAscii-clause-err
 returns-in-OutAscii-clause-err g c = c.push_grid_frame.ensures.err

@@ -2,10 +2,11 @@ use Rattle.std.proofs.Common.{◌∙◌, ◌+◌, append-nil, refl, sym}
 use Rattle.cell_core_devices.proofs.BlockLemmas.{appends_then}
 use Rattle.rcell_script.specs.KnownMaps.{known_names_after_command}
 use Rattle.rcell.proofs.runs.ExecutionLemmas.{fits_more}
-use Rattle.rcell.proofs.OutputLemmas.{names_after}
+use Rattle.rcell_tile.specs.TileRuns.{inner_shelf}
 use Rattle.rcell_pipe_frames.specs.Frames.{command_frames}
 use Rattle.rcell_pipe_frames.specs.FrameBytes.{frames_bytes}
-use Rattle.rcell_pipe_response.proofs.ExecutionLemmas.{given_none, given_more, given_before, given_within}
+use Rattle.rcell_pipe_response.proofs.ExecutionLemmas.{outer_names_after, given_none, given_more, given_before}
+use Rattle.rcell_pipe_response.proofs.ExecutionLemmas.{given_within}
 use Rattle.rcell_pipe_response.proofs.frame_execution.execute_statements_into_frames.Goals as goal
 
 pub loop-statement-init : goal.loop-statement-init
@@ -13,7 +14,7 @@ loop-statement-init g c = record { given = given_none _ _ _; fits = c.requires }
 
 pub execute_statement-requires : goal.execute_statement-requires
 execute_statement-requires g c =
-    let known = c.loop-statement.shelf.names in
+    let known = c.loop-statement.shelves.outer.names in
     let s = c.statement-item.result in
     (fits_more c.args.statements.now c.loop-statement.statement-index s c.loop-statement-test.true c.statement-item.is known (known_names_after_command known s.command) c.loop-statement.invariant.fits refl).0
 
@@ -24,8 +25,15 @@ loop-statement-preserved g c =
     let s = c.statement-item.result in
     let both = appends_then c.in-Ok.ensures.ok c.empty.ensures.appends in
     record {
-      given = given_more statements i s c.loop-statement-test.true c.statement-item.is c.loop-statement.invariant.given _ _ _ c.in-Ok.ensures.after (rw (append-nil (frames_bytes (command_frames c.loop-statement.shelf s.line s.command))) at both);
-      fits = (fits_more statements i s c.loop-statement-test.true c.statement-item.is c.loop-statement.shelf.names c.execute_statement.new.shelf.names c.loop-statement.invariant.fits (names_after c.loop-statement.shelf s.command c.execute_statement.new.shelf c.in-Ok.ensures.after)).1;
+      given = given_more statements i s c.loop-statement-test.true c.statement-item.is c.loop-statement.invariant.given
+          _ _ _ c.in-Ok.ensures.after
+          (rw (append-nil (frames_bytes (command_frames (inner_shelf c.loop-statement.shelves) s.line s.command)))
+          at both);
+      fits = (fits_more statements i s c.loop-statement-test.true c.statement-item.is
+          c.loop-statement.shelves.outer.names c.execute_statement.new.shelves.outer.names
+          c.loop-statement.invariant.fits
+          (outer_names_after c.loop-statement.shelves s.command c.execute_statement.new.shelves
+          c.in-Ok.ensures.after)).1;
     }
 
 pub returns-in-Err-clause-err : goal.returns-in-Err-clause-err
@@ -38,4 +46,9 @@ returns-then-has_failed-clause-err g c =
     let i = c.loop-statement.statement-index in
     let s = c.statement-item.result in
     let both = appends_then c.in-Ok.ensures.ok c.empty.ensures.appends in
-    given_within statements (i + 1) (given_more statements i s c.loop-statement-test.true c.statement-item.is c.loop-statement.invariant.given _ _ _ c.in-Ok.ensures.after (rw (append-nil (frames_bytes (command_frames c.loop-statement.shelf s.line s.command))) at both)) (sym c.has_failed.ensures ∙ c.if-has_failed.true)
+    given_within statements (i + 1)
+    (given_more statements i s c.loop-statement-test.true c.statement-item.is c.loop-statement.invariant.given _ _
+    _ c.in-Ok.ensures.after
+    (rw (append-nil
+    (frames_bytes (command_frames (inner_shelf c.loop-statement.shelves) s.line s.command))) at both))
+    (sym c.has_failed.ensures ∙ c.if-has_failed.true)

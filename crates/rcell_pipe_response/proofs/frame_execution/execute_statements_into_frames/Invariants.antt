@@ -5,7 +5,7 @@ use Rattle.rcell_pipe_response.proofs.frame_execution.execute_statements_into_fr
 
 abbrev pub invariant-loop-statement : goal.invariant-loop-statement
 invariant-loop-statement g l = record {
-  given : AreStatementFramesAppended g.W.Sink.taken g.W.Sink.faults l.fn.shelf
-      (take l.statement-index l.statements) l.fn.out l.fn.block l.out l.block l.shelf;
-  fits : StatementsFitKnownMaps l.shelf.names (drop l.statement-index l.statements);
+  given : AreStatementFramesAppended g.W.Sink.taken g.W.Sink.faults l.fn.shelves
+      (take l.statement-index l.statements) l.fn.out l.fn.block l.out l.block l.shelves;
+  fits : StatementsFitKnownMaps l.shelves.outer.names (drop l.statement-index l.statements);
 }

@@ -11,12 +11,12 @@ use Rattle.rcell_pipe_response.proofs.QuestionLemmas.{answered_after}
 use Rattle.rcell_pipe_response.proofs.frame_run.answer_questions.Goals as goal
 
 pub returns-in-Ok : goal.returns-in-Ok
-returns-in-Ok g c = λ before start read shelf statements frames accepted given appended.
+returns-in-Ok g c = λ before start read shelves statements frames accepted given appended.
     let answered = c.in-Ok.ensures.ok in
     let all = frames ++ answered.frames in
     let text = answered_after before start frames answered.frames appended answered.appends in
     ends_as (IsResponseToRunRequest Frames read) None (record {
-      shelf = shelf;
+      shelves = shelves;
       statements = statements;
       questions = _;
       accepted = accepted;
@@ -25,10 +25,10 @@ returns-in-Ok g c = λ before start read shelf statements frames accepted given 
         (
           record {
             frames = frames;
-            after = c.args.shelf.now;
+            after = c.args.shelves.now;
             given = given;
             answers = answered.frames;
-            answered = answered.answers;
+            answered = rw c.maps_without_halo.ensures.value at answered.answers;
             both = refl;
           },
           refl,
@@ -40,27 +40,27 @@ returns-in-Ok g c = λ before start read shelf statements frames accepted given 
     (c.end_response_and_flush.ensures before start (response_magic ++ frames_bytes all) text))
 
 pub returns-in-Memory : goal.returns-in-Memory
-returns-in-Memory g c = λ before start read shelf statements frames accepted given appended.
+returns-in-Memory g c = λ before start read shelves statements frames accepted given appended.
     let stopped = c.in-Err.ensures.err.so_far in
     let answered = stopped.answered in
     let all = frames ++ answered.frames in
     let text = answered_after before start frames answered.frames appended answered.appends in
     ends_as (IsResponseToRunRequest Frames read) (Some errors.MemoryAtQuestion) (record {
-      shelf = shelf;
+      shelves = shelves;
       statements = statements;
       first = stopped.first;
       others = stopped.others;
-      accepted = subst (λ (l : List PatchQuestionValue). IsRunRequestAccepted Frames read shelf statements l)
+      accepted = subst (λ (l : List PatchQuestionValue). IsRunRequestAccepted Frames read shelves statements l)
           (sym stopped.whole) accepted;
       gives = (
         all,
         (
           record {
             frames = frames;
-            after = c.args.shelf.now;
+            after = c.args.shelves.now;
             given = given;
             answers = answered.frames;
-            answered = answered.answers;
+            answered = rw c.maps_without_halo.ensures.value at answered.answers;
             both = refl;
           },
           refl,
@@ -71,15 +71,16 @@ returns-in-Memory g c = λ before start read shelf statements frames accepted gi
     (c.end_response_and_flush-in-Memory.ensures before start (response_magic ++ frames_bytes all) text))
 
 pub returns-in-Write : goal.returns-in-Write
-returns-in-Write g c = λ before start read shelf statements frames accepted given appended.
+returns-in-Write g c = λ before start read shelves statements frames accepted given appended.
     let stop = rw c.in-Write.is at c.in-Err.ensures.err in
     let answered = stop.so_far.answered in
     let all = frames ++ answered.frames in
     let text = answered_after before start frames answered.frames appended answered.appends in
-    end_broken Frames read shelf statements [] stop.so_far.first stop.so_far.others (response_magic ++ frames_bytes all)
+    end_broken Frames read shelves statements [] stop.so_far.first stop.so_far.others
+    (response_magic ++ frames_bytes all)
     c.outcome_after_failed_write.ensures.reported c.outcome_after_failed_write.ensures.error
     c.outcome_after_failed_write.ensures.status
-    (rw (append-nil statements) (subst (λ (l : List PatchQuestionValue). IsRunRequestAccepted Frames read shelf
+    (rw (append-nil statements) (subst (λ (l : List PatchQuestionValue). IsRunRequestAccepted Frames read shelves
     statements l)
     (sym stop.so_far.whole) accepted))
     (inl refl) (
@@ -87,10 +88,10 @@ returns-in-Write g c = λ before start read shelf statements frames accepted giv
       (
         record {
           frames = frames;
-          after = c.args.shelf.now;
+          after = c.args.shelves.now;
           given = given;
           answers = answered.frames;
-          answered = answered.answers;
+          answered = rw c.maps_without_halo.ensures.value at answered.answers;
           both = refl;
         },
         refl,

@@ -13,8 +13,8 @@ returns-in_default g c = ends_as (IsResponseToRunRequest c.args.form (Ok (run_re
 pub returns-in-Ok-parse_script : goal.returns-in-Ok-parse_script
 returns-in-Ok-parse_script g c =
     rw c.as_slice.ensures.value at
-    (c.run_script.ensures c.args.request.script.items
-    (rw (c.in-Ok.ensures.names, c.deref.ensures.value) at c.in-Ok-parse_script.ensures.ok))
+    (c.run_script_within_halo.ensures c.args.request.script.items
+    (rw (c.in-Ok.ensures.names, c.outer.ensures, c.deref.ensures.value) at c.in-Ok-parse_script.ensures.ok))
 
 pub returns-then-is_memory_error : goal.returns-then-is_memory_error
 returns-then-is_memory_error g c = ends_as (IsResponseToRunRequest c.args.form (Ok (run_request_as_value c.args.request))) (Some errors.Memory) refl (λ write. cc) (finished_frames [] (end_frame_as_value c.memory_end-then-is_memory_error.result) (memory_end 0) c.memory_end-then-is_memory_error.ensures c.reject-then-is_memory_error.ensures)
@@ -22,9 +22,12 @@ returns-then-is_memory_error g c = ends_as (IsResponseToRunRequest c.args.form (
 pub returns : goal.returns
 returns g c =
     let rejected = c.reject_script.ensures in
-    let first : IsScriptFault c.args.request.shelf.names c.args.request.script.items c.in-Err.error = rw (c.in-Ok.ensures.names, c.deref.ensures.value) at (c.in-Err.ensures.err (not_memory c.in-Err.error.kind (sym c.is_memory_error.ensures ∙ c.if-is_memory_error.false))) in
+    let first : IsScriptFault c.args.request.shelves.outer.names c.args.request.script.items c.in-Err.error =
+    rw (c.in-Ok.ensures.names, c.outer.ensures, c.deref.ensures.value) at
+    (c.in-Err.ensures.err
+    (not_memory c.in-Err.error.kind (sym c.is_memory_error.ensures ∙ c.if-is_memory_error.false))) in
     ends_as (IsResponseToRunRequest c.args.form (Ok (run_request_as_value c.args.request))) (Some rejected.error)
-    (rejection c.args.form c.args.request.shelf c.args.request.script.items
+    (rejection c.args.form c.args.request.shelves c.args.request.script.items
     (questions_as_values c.args.request.questions.items) c.in-Err.error rejected.error rejected.end first
     rejected.rejects)
     (not_write c.in-Err.error rejected.error rejected.end rejected.rejects) rejected.finished
