@@ -7,6 +7,8 @@ pub mod CountLemmas
 pub mod TableSumLemmas
 pub mod PatchSumLemmas
 pub mod BorderLemmas
+pub mod BorderFrameLemmas
 pub mod TableLemmas
 pub mod EndLemmas
 pub mod PatchLemmas
+pub mod RunSumLemmas

@@ -2,8 +2,11 @@
 use Rattle.std.specs.Prelude.{ℕ, ◌≡◌, List, [], Option, Some, None, Result, Ok, Err}
 use Rattle.cell_clumps.specs.declared.clump.Joining.{Joining}
 use Rattle.cell_join_numbers.specs.declared.stretch.ConsecutiveClumps.{ConsecutiveClumps}
+use Rattle.cell_join_patches.specs.declared.part.PatchOfTile.{PatchOfTile}
+use Rattle.cell_join_patches.specs.JoinedPatches.{AreJoinedPatches}
 use Rattle.cell_join_tiles.specs.JoinedTiles.{AreConsecutiveClumpsOfTiles, IsClumpCountOfTileGrid}
 use Rattle.cell_join_tiles.specs.Values.{TileBorderValue}
+use Rattle.cell_patches.specs.declared.patch.Patch.{Patch}
 use Rattle.cell_stats_combinations.specs.Listed.{CombinationCounts}
 use Rattle.rcell_pipe_request.specs.declared.error.RequestError.{RequestError}
 use Rattle.rcell_pipe_response.specs.declared.end.PipeError.{PipeError}
@@ -12,7 +15,8 @@ use Rattle.rcell_pipe_frames.specs.FrameBytes.{response_bytes}
 use Rattle.rcell_pipe_response.specs.RunEnds.{end_frame_of_successful_run, request_end, memory_end}
 use Rattle.rcell_pipe_join.specs.TableEntries.{AreSumsOfTables}
 use Rattle.rcell_pipe_join.specs.JoinFrames.{one_frame_response, numbering_bytes, table_sums_bytes}
-use Rattle.rcell_pipe_join.specs.JoinRequests.{JoinRequestValue, BorderGrid, TableList}
+use Rattle.rcell_pipe_join.specs.JoinFrames.{joined_patches_bytes}
+use Rattle.rcell_pipe_join.specs.JoinRequests.{JoinRequestValue, BorderGrid, TableList, PatchList}
 
 -- the runs and the number of patches of each map that is cut into tiles with these borders
 pub record IsTileNumberingResponse (joining : Joining) (grid : List (List TileBorderValue))
@@ -29,10 +33,17 @@ pub record IsTableSumsResponse (width : ℕ) (tables : List CombinationCounts) (
   pub are : AreSumsOfTables tables sums
   pub bytes : response ≡ one_frame_response (table_sums_bytes width sums) end_frame_of_successful_run
 
+-- the patches of the full map, joined from their parts
+pub record IsJoinedPatchesResponse (parts : List PatchOfTile) (response : List ℕ) : Type 0 where
+  pub patches : List (ℕ × Patch)
+  pub are : AreJoinedPatches parts patches
+  pub bytes : response ≡ one_frame_response (joined_patches_bytes patches) end_frame_of_successful_run
+
 -- the response contains what the request asks for
 abbrev pub ResponseFulfillsJoinRequest : JoinRequestValue → List ℕ → Type 0
 ResponseFulfillsJoinRequest (BorderGrid joining grid) response = IsTileNumberingResponse joining grid response
 ResponseFulfillsJoinRequest (TableList width tables) response = IsTableSumsResponse width tables response
+ResponseFulfillsJoinRequest (PatchList runs parts) response = IsJoinedPatchesResponse parts response
 
 -- the bytes are a join request, and the response contains what it asks for
 pub record IsJoinRequestFulfilled (read : Result JoinRequestValue RequestError) (response : List ℕ) : Type 0 where
@@ -46,6 +57,7 @@ IsJoinResponse read response None = IsJoinRequestFulfilled read response
 IsJoinResponse read response (Some (errors.Request error)) = (read ≡ Err error) ×
     (response ≡ response_bytes [] (request_end error))
 IsJoinResponse read response (Some (errors.Script error)) = ⊥
+IsJoinResponse read response (Some (errors.Halo fault)) = ⊥
 IsJoinResponse read response (Some (errors.Question error)) = ⊥
 IsJoinResponse read response (Some errors.Memory) = response ≡ response_bytes [] (memory_end 0)
 IsJoinResponse read response (Some (errors.MemoryAt line)) = ⊥

@@ -2,11 +2,14 @@
 pub mod BorderChecks
 pub mod BorderGrids
 pub mod BorderLaw
+pub mod BorderFrameLaw
 pub mod TableEntries
+pub mod PatchLists
 pub mod JoinRequests
 pub mod JoinFrames
 pub mod JoinEnds
 pub mod JoinLaw
 pub mod SumLaw
+pub mod RunSumLaw
 pub mod PatchSumLaw
 pub mod parts

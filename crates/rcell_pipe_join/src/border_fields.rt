@@ -14,7 +14,8 @@ use rcell_pipe_request::feed::{Feed, read_i32, read_u32};
 use std::alloc::Global;
 use std::io::Read;
 
-fn cell_of_four_byte_number(number: i32) -> Cell
+/// Returns the cell that a number denotes: null for the smallest.
+pub(crate) fn cell_of_four_byte_number(number: i32) -> Cell
     ensures { result ≡ cell_of_stored_number number }
 {
     match Cell::value(number) {

@@ -5,6 +5,7 @@ ghost use Rattle.rcell_pipe_request.specs.Feeds.{ReadsRequestFieldAndStaysOpen, 
 ghost use Rattle.rcell_pipe_join.specs.JoinRequests.{join_request_reading, join_kind_reading, join_kind_of_code, join_request_of_kind_reading, join_request_as_value};
 ghost use Rattle.rcell_pipe_join.specs.parts.Heights.{JoinRequestCanBeJoined};
 
+use crate::patch_parts::{PatchesToJoin, read_patches_to_join};
 use crate::table_reading::{Tables, read_map_count_and_tables};
 use crate::tiles::read_tile_grid;
 use cell_clumps::clump::Joining;
@@ -19,6 +20,8 @@ use std::io::Read;
 pub enum JoinKind {
     /// Tables.
     Tables,
+    /// Patches of tiles.
+    Patches,
     /// The borders of tiles, whose patches have this connectivity.
     Borders(Joining),
 }
@@ -30,6 +33,8 @@ pub enum JoinRequest {
     Borders(Joining, Vec<Vec<TileBorder>>),
     /// Tables over the same number of maps.
     Tables(Tables),
+    /// The runs of a numbering, and the joined patches of tiles.
+    Patches(PatchesToJoin),
 }
 
 fn join_kind_of_code(code: u8) -> Option<JoinKind>
@@ -37,6 +42,7 @@ fn join_kind_of_code(code: u8) -> Option<JoinKind>
 {
     match code {
         1 => Some(JoinKind::Tables),
+        2 => Some(JoinKind::Patches),
         4 => Some(JoinKind::Borders(Joining::Edges)),
         8 => Some(JoinKind::Borders(Joining::EdgesAndCorners)),
         _ => None,
@@ -74,6 +80,10 @@ fn read_join_request_of_kind<R: Read>(
         },
         JoinKind::Tables => match read_map_count_and_tables(alloc, feed) {
             Ok(tables) => Ok(JoinRequest::Tables(tables)),
+            Err(stop) => Err(stop),
+        },
+        JoinKind::Patches => match read_patches_to_join(alloc, feed) {
+            Ok(patches) => Ok(JoinRequest::Patches(patches)),
             Err(stop) => Err(stop),
         },
     }

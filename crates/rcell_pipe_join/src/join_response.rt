@@ -6,23 +6,26 @@ ghost use Rattle.rcell_pipe_response.specs.RunEnds.{end_frame_of_successful_run}
 ghost use Rattle.rcell_pipe_response.specs.FrameEndings.{IsTextSentWithOutcome, IsEndOfResponseSent};
 ghost use Rattle.rcell_pipe_join.specs.BorderGrids.{borders_as_values};
 ghost use Rattle.rcell_pipe_join.specs.JoinEnds.{IsJoinResponse};
-ghost use Rattle.rcell_pipe_join.specs.JoinFrames.{one_frame_response, numbering_bytes, table_sums_bytes};
-ghost use Rattle.rcell_pipe_join.specs.JoinRequests.{BorderGrid, TableList, join_request_as_value};
+ghost use Rattle.rcell_pipe_join.specs.JoinFrames.{joined_patches_bytes, one_frame_response, numbering_bytes, table_sums_bytes};
+ghost use Rattle.rcell_pipe_join.specs.JoinRequests.{BorderGrid, PatchList, TableList, join_request_as_value};
 ghost use Rattle.rcell_pipe_join.specs.TableEntries.{tables_as_values};
 ghost use Rattle.rcell_pipe_join.specs.parts.Heights.{JoinRequestCanBeJoined};
 
-use crate::join_frame::{push_numbering, push_table_sums};
+use crate::join_frame::{push_joined_patches, push_numbering, push_table_sums};
 use crate::join_request::JoinRequest;
 use crate::numbering::number_patches_of_tiles;
+use crate::patch_parts::PatchesToJoin;
 use crate::sums::sum_tables;
 use crate::table_reading::{EntriesOfTable, Tables};
 use cell_clumps::clump::Joining;
 use cell_core::sink::Sink;
 use cell_join_tiles::border::TileBorder;
 use cell_join_tiles::joiner::FullMapNumbering;
+use cell_patches::patch::Patch;
 use rcell_pipe_response::end::{PipeError, end_frame_of_successful_run, memory_end};
 use rcell_pipe_response::frame_run::{PipeOutcome, begin_response, end_response_and_flush, reject};
 use std::alloc::Global;
+use std::collections::BTreeMap;
 
 // Writes the numbering of joined tiles.
 fn write_numbering_response<W: Sink>(out: &mut W, joined: &FullMapNumbering) -> PipeOutcome
@@ -86,6 +89,30 @@ fn sum_tables_and_respond<W: Sink>(alloc: Global, tables: Tables, out: &mut W) -
     }
 }
 
+// Writes the patches of the full map.
+fn write_joined_patches_response<W: Sink>(
+    out: &mut W,
+    patches: &BTreeMap<u64, Patch>,
+) -> PipeOutcome
+    ensures { IsTextSentWithOutcome (W.taken out.old) (W.faults out.old) (W.taken out.new)
+        (W.faults out.new)
+        None (one_frame_response (joined_patches_bytes patches.now.entries)
+        end_frame_of_successful_run) result }
+{
+    let mut block = begin_response(out);
+    push_joined_patches(out, &mut block, patches);
+    end_response_and_flush(out, block, None, &end_frame_of_successful_run())
+}
+
+// Responds with the patches of the full map, which were joined while the request was read.
+fn respond_with_joined_patches<W: Sink>(patches: &PatchesToJoin, out: &mut W) -> PipeOutcome
+    ensures { IsEndOfResponseSent
+        (IsJoinResponse (Ok (PatchList patches.now.numbering patches.now.joiner)))
+        (W.taken out.old) (W.faults out.old) (W.taken out.new) (W.faults out.new) result }
+{
+    write_joined_patches_response(out, patches.joiner.patches())
+}
+
 /// Responds to a join request with what it asks for, or reports that memory ran out.
 pub fn respond_to_join_request<W: Sink>(
     alloc: Global,
@@ -100,5 +127,6 @@ pub fn respond_to_join_request<W: Sink>(
     match request {
         JoinRequest::Borders(joining, grid) => respond_with_numbers(alloc, joining, grid, out),
         JoinRequest::Tables(tables) => sum_tables_and_respond(alloc, tables, out),
+        JoinRequest::Patches(patches) => respond_with_joined_patches(&patches, out),
     }
 }

@@ -2,6 +2,7 @@
 
 ghost use Rattle.rcell_pipe_join.specs.JoinLaw.{RunsNumberFullMapPatches};
 ghost use Rattle.rcell_pipe_join.specs.PatchSumLaw.{RenumberedPatchTablesAddUp};
+ghost use Rattle.rcell_pipe_join.specs.RunSumLaw.{TablesOfRunsAddUp};
 ghost use Rattle.rcell_pipe_join.specs.SumLaw.{TablesOfTilesAddUp};
 
 /// If a map is cut into tiles, and the request has their borders, the numbers in the response are the numbers that
@@ -22,5 +23,13 @@ pub fn renumbered_patch_tables_add_up()
     ensures { RenumberedPatchTablesAddUp }
 {
     runs_number_full_map_patches();
+    tables_of_tiles_add_up();
+}
+
+/// If a script runs over tiles that cover the full maps, with enough halo, and the request has the tables of the tiles,
+/// the sums in the response are the table of the full maps after the script, for maps that do not depend on an r.clump.
+pub fn tables_of_runs_add_up()
+    ensures { TablesOfRunsAddUp }
+{
     tables_of_tiles_add_up();
 }

@@ -30,9 +30,9 @@ pub struct Tables {
     pub tables: Vec<EntriesOfTable>,
 }
 
-// Reads an unsigned 64-bit number.
+/// Reads an unsigned 64-bit number.
 #[tactic(auto, unfolding(rcell_pipe_request::specs::RequestFields::unsigned_number_reading))]
-fn read_u64<R: Read>(feed: &mut Feed<R>) -> Result<u64, FieldReadingStop>
+pub(crate) fn read_u64<R: Read>(feed: &mut Feed<R>) -> Result<u64, FieldReadingStop>
     ensures { ReadsRequestFieldAndStaysOpen (λ n. n) feed.old result feed.new
         (unsigned_number_reading w64) }
 {

@@ -1,10 +1,10 @@
 -- Grids of tiles and tables that can be joined.
-use Rattle.std.specs.Prelude.{ℕ, ◌<◌, ◌^◌, List, All, sum_by}
+use Rattle.std.specs.Prelude.{ℕ, ⊤, ◌<◌, ◌^◌, List, All, sum_by}
 use Rattle.cell_join_tiles.specs.Beginnings.{clump_count_of_tile_grid}
 use Rattle.cell_join_tiles.specs.JoinedBorders.{begun_clump_counts_of_grid}
 use Rattle.cell_join_tiles.specs.Values.{TileBorderValue}
 use Rattle.cell_join_tiles.specs.parts.RowMarks.{TilesHaveRowCount}
-use Rattle.rcell_pipe_join.specs.JoinRequests.{JoinRequestValue, BorderGrid, TableList}
+use Rattle.rcell_pipe_join.specs.JoinRequests.{JoinRequestValue, BorderGrid, TableList, PatchList}
 use Rattle.rcell_pipe_join.specs.TableEntries.{cell_count_of_table}
 use Rattle.cell_stats_combinations.specs.Listed.{NoEntryCountIsZero}
 
@@ -19,3 +19,4 @@ JoinRequestCanBeJoined (BorderGrid joining grid) = All TilesHaveSameRowCount gri
     × (clump_count_of_tile_grid (begun_clump_counts_of_grid grid) < 2 ^ 64)
 JoinRequestCanBeJoined (TableList width tables) = All NoEntryCountIsZero tables
     × (sum_by cell_count_of_table tables < 2 ^ 64)
+JoinRequestCanBeJoined (PatchList runs parts) = ⊤
