@@ -21,6 +21,7 @@ kind_status : (kind : ErrorKind) → exit_status_of_request_error kind ≡ 0 →
 kind_status kinds.ReadFailed is = cc
 kind_status kinds.BadMagic is = cc
 kind_status kinds.Short is = cc
+kind_status kinds.BadPlace is = cc
 kind_status kinds.BadCount is = cc
 kind_status kinds.BadName is = cc
 kind_status kinds.NameTwice is = cc
@@ -48,12 +49,18 @@ kind_status kinds.BadWidth is = cc
 kind_status kinds.BadTableCount is = cc
 kind_status kinds.ZeroCount is = cc
 kind_status kinds.TooManyCells is = cc
+kind_status kinds.BadRun is = cc
+kind_status kinds.PatchOrder is = cc
+kind_status kinds.UnknownPatch is = cc
+kind_status kinds.BadPatch is = cc
+kind_status kinds.OtherClass is = cc
 kind_status kinds.Trailing is = cc
 
 no_error : (error : Option PipeError) → exit_status_of_pipe_run error ≡ 0 → error ≡ None
 no_error None is = refl
 no_error (Some (errors.Request error)) is = absurd (kind_status error.kind is)
 no_error (Some (errors.Script error)) is = cc
+no_error (Some (errors.Halo fault)) is = cc
 no_error (Some (errors.Question error)) is = cc
 no_error (Some errors.Memory) is = cc
 no_error (Some (errors.MemoryAt line)) is = cc

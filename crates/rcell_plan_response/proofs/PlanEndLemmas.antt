@@ -8,12 +8,12 @@ use Rattle.std.specs.Option.{IsNone, is_some}
 use Rattle.cell_core_devices.specs.Device.{SinkFaults, ComingBytes, bytes_to_come_after_reading, has_failed}
 use Rattle.cell_core_devices.specs.Device.{append_if_known}
 use Rattle.cell_core_values.specs.Answers.{◌>>=◌}
-use Rattle.cell_core.specs.Shelf.{ShelfValue}
 use Rattle.rcell_script.specs.Scripts.{IsScript}
 use Rattle.rcell_script.specs.ReadScripts.{IsScriptFault}
 use Rattle.rcell_script.specs.ScriptLaw.{ScriptsHaveNoFault, TextDenotesAtMostOneScript}
 use Rattle.rcell_script.specs.declared.statement.Statement.{Statement}
 use Rattle.rcell_script.specs.declared.script_fault.ScriptFault.{ScriptFault}
+use Rattle.rcell_tile.specs.TileRuns.{RunShelvesValue}
 use Rattle.rcell_pipe_request.specs.declared.error.FieldReadingStop.{FieldReadingStop}
 use Rattle.rcell_pipe_request.specs.declared.error.FieldReadingStop.TheVariants as field_stops
 use Rattle.rcell_pipe_request.specs.declared.error.RequestStop.{RequestStop}
@@ -26,7 +26,7 @@ use Rattle.rcell_pipe_request.specs.Feeds.{left, read_state_after_field_stop}
 use Rattle.rcell_pipe_request.specs.Feeds.{read_state_after_request_stop}
 use Rattle.rcell_pipe_request.specs.Supposed.{source_may_hold}
 use Rattle.rcell_pipe_request.specs.Questions.{PatchQuestionValue}
-use Rattle.rcell_pipe_request.specs.Requests.{RunRequestValue, request_stop_at_position, run_request_reading}
+use Rattle.rcell_pipe_request.specs.Requests.{RunRequestValue, request_stop_at_position}
 use Rattle.rcell_pipe_response.specs.declared.end.PipeError.{PipeError}
 use Rattle.rcell_pipe_response.specs.declared.end.PipeError.TheVariants as errors
 use Rattle.rcell_pipe_response.specs.declared.frame_run.PipeOutcome.{PipeOutcome}
@@ -34,12 +34,14 @@ use Rattle.rcell_pipe_frames.specs.FrameBytes.{RunEndValue, response_magic, resp
 use Rattle.rcell_pipe_response.specs.RunEnds.{exit_status_of_pipe_run, end_frame_of_successful_run}
 use Rattle.rcell_pipe_response.specs.RunEnds.{end_frame_of_rejected_script, memory_end, IsResponseToRunRequest}
 use Rattle.rcell_pipe_response.specs.RunEnds.{IsResponseOfAcceptedRequest, IsTextAcceptedBySink, IsResponseOfOnlyEnd}
-use Rattle.rcell_pipe_response.specs.RunEnds.{AreFramesOfStatementsAndQuestions}
+use Rattle.rcell_pipe_response.specs.RunEnds.{AreFramesOfStatementsAndQuestions, IsRunRequestAccepted}
+use Rattle.rcell_pipe_response.specs.RunEnds.{halo_fault_of_statements}
 use Rattle.rcell_pipe_response.specs.FrameEndings.{IsTextSentWithOutcome, IsErrorOfRejectedScript, IsEndOfResponseSent}
 use Rattle.rcell_pipe_response.specs.QuestionFrames.{names_of_all_maps, first_question_error}
 use Rattle.rcell_pipe_response.specs.declared.frame_run.ResponseForm.TheVariants.{Frames}
 use Rattle.rcell_pipe_response.proofs.EndLemmas.{ended_failed, ended_reported, ended_taken, of_run}
 use Rattle.rcell_pipe_response.specs.declared.frame_run.ResponseForm.{ResponseForm}
+use Rattle.rcell_plan_response.specs.declared.responding.RunForm.{RunForm}
 use Rattle.rcell_plan_response.specs.declared.responding.RequestForm.{RequestForm}
 use Rattle.rcell_plan_response.specs.declared.responding.RequestForm.TheVariants as form
 use Rattle.rcell_plan.specs.declared.planning.Plan.{Plan}
@@ -52,7 +54,8 @@ use Rattle.rcell_plan_response.specs.PlanEnds.{IsPlanResponse}
 use Rattle.rcell_pipe_join.specs.JoinEnds.{IsJoinResponse}
 use Rattle.rcell_pipe_join.specs.JoinRequests.{JoinRequestValue, join_request_reading, join_request_or_error}
 use Rattle.rcell_plan_response.specs.Responses.{request_form_reading, run_request_or_error, plan_request_or_error, IsResponseToRequestOfForm, IsRequestAccepted, BytesAskForFrames}
-use Rattle.rcell_plan_response.specs.Responses.{IsReadStateForError, WritesFramesUnlessFailed}
+use Rattle.rcell_plan_response.specs.Responses.{IsReadStateForError, WritesFramesUnlessFailed, response_form_of_run}
+use Rattle.rcell_plan_response.specs.Responses.{run_request_of_form_reading}
 use Rattle.rcell_plan_response.specs.parts.RequestStops.{pipe_error_of_request_stop, end_frame_of_request_stop}
 use Rattle.rcell_plan_response.specs.parts.Answered.{IsResponseToFeed, IsResponseToSource}
 
@@ -117,6 +120,7 @@ plan_rejection names script fault (errors.Script error) end first is = record {
 }
 plan_rejection names script fault errors.Memory end first is = ap (λ (e : RunEndValue). response_bytes [] e) is
 plan_rejection names script fault (errors.Request error) end first is = absurd is
+plan_rejection names script fault (errors.Halo halo) end first is = absurd is
 plan_rejection names script fault (errors.Question error) end first is = absurd is
 plan_rejection names script fault (errors.MemoryAt line) end first is = absurd is
 plan_rejection names script fault errors.MemoryAtQuestion end first is = absurd is
@@ -129,15 +133,15 @@ pub stop_fine : (stop : RequestStop) → Some (pipe_error_of_request_stop stop) 
 stop_fine stops.Memory is = cc
 stop_fine (stops.Error error) is = cc
 
-pub stopped_run : (form : ResponseForm) (stop : RequestStop) (old new : RequestReaderValue)
-    → FailsWithErrorPosition stop old new run_request_reading
+pub stopped_run : (run : RunForm) (stop : RequestStop) (old new : RequestReaderValue)
+    → FailsWithErrorPosition stop old new (run_request_of_form_reading run)
     → (c : ComingBytes) → request_reader_may_hold_bytes c new ≡ true → (request_reader_may_hold_bytes c old ≡ true)
-    × IsResponseToRunRequest form (run_request_or_error (left c old))
+    × IsResponseToRunRequest (response_form_of_run run) (run_request_or_error run (left c old))
     (response_bytes [] (end_frame_of_request_stop stop))
     (Some (pipe_error_of_request_stop stop))
-stopped_run form stops.Memory old new fails c is = (fails c is, refl)
-stopped_run form (stops.Error error) old new fails c is =
-    let at = fails c is in (at.0, (ap (λ r. r >>= λ run. Ok run.0) at.1, refl))
+stopped_run run stops.Memory old new fails c is = (fails c is, refl)
+stopped_run run (stops.Error error) old new fails c is =
+    let at = fails c is in (at.0, (ap (λ r. r >>= λ request. Ok request.0) at.1, refl))
 
 pub stopped_plan : (stop : RequestStop) (old new : RequestReaderValue)
     → FailsWithErrorPosition stop old new plan_request_reading
@@ -195,6 +199,7 @@ pub only_end_of_plan : (read : Result PlanRequestValue RequestError) (response :
 only_end_of_plan read response None is = tt
 only_end_of_plan read response (Some (errors.Request error)) is = is.1
 only_end_of_plan read response (Some (errors.Script error)) is = is.bytes
+only_end_of_plan read response (Some (errors.Halo fault)) is = absurd is
 only_end_of_plan read response (Some (errors.Question error)) is = absurd is
 only_end_of_plan read response (Some errors.Memory) is = is
 only_end_of_plan read response (Some (errors.MemoryAt line)) is = tt
@@ -206,6 +211,7 @@ pub only_end_of_join : (read : Result JoinRequestValue RequestError) (response :
 only_end_of_join read response None is = tt
 only_end_of_join read response (Some (errors.Request error)) is = is.1
 only_end_of_join read response (Some (errors.Script error)) is = absurd is
+only_end_of_join read response (Some (errors.Halo fault)) is = absurd is
 only_end_of_join read response (Some (errors.Question error)) is = absurd is
 only_end_of_join read response (Some errors.Memory) is = is
 only_end_of_join read response (Some (errors.MemoryAt line)) is = tt
@@ -221,6 +227,7 @@ pub asked_of_run : (form : ResponseForm) (request : RunRequestValue) (response :
 asked_of_run form request response None is end = end
 asked_of_run form request response (Some (errors.Request error)) is end = cc is.0
 asked_of_run form request response (Some (errors.Script error)) is end = end
+asked_of_run form request response (Some (errors.Halo fault)) is end = end
 asked_of_run form request response (Some (errors.Question error)) is end = end
 asked_of_run form request response (Some errors.Memory) is end = λ again. cc
 asked_of_run form request response (Some (errors.MemoryAt line)) is end = end
@@ -232,6 +239,7 @@ pub asked_of_plan : (request : PlanRequestValue) (response : List ℕ) (error : 
 asked_of_plan request response None is end = end
 asked_of_plan request response (Some (errors.Request error)) is end = cc is.0
 asked_of_plan request response (Some (errors.Script error)) is end = end
+asked_of_plan request response (Some (errors.Halo fault)) is end = end
 asked_of_plan request response (Some (errors.Question error)) is end = end
 asked_of_plan request response (Some errors.Memory) is end = λ again. cc
 asked_of_plan request response (Some (errors.MemoryAt line)) is end = end
@@ -243,6 +251,7 @@ pub asked_of_join : (request : JoinRequestValue) (response : List ℕ) (error : 
 asked_of_join request response None is end = end
 asked_of_join request response (Some (errors.Request error)) is end = cc is.0
 asked_of_join request response (Some (errors.Script error)) is end = end
+asked_of_join request response (Some (errors.Halo fault)) is end = end
 asked_of_join request response (Some (errors.Question error)) is end = end
 asked_of_join request response (Some errors.Memory) is end = λ again. cc
 asked_of_join request response (Some (errors.MemoryAt line)) is end = end
@@ -316,23 +325,38 @@ refused law one (Ok (form.Run run, rest)) accepted response (errors.Request e) l
     cc (is.0, accepted.1.1.1.request)
 refused law one (Ok (form.Run run, rest)) accepted response (errors.Script fault) lasts fine is =
     let given = accepted.1.1.1 in
-    let same : of_run accepted.0 given.script accepted.1.1.0 ≡ of_run is.shelf is.script is.questions = cc
+    let same : of_run accepted.0 given.script accepted.1.1.0 ≡ of_run is.shelves is.script is.questions = cc
     (is.request, given.request) in
-    law is.shelf.names is.script accepted.1.0 fault
-    (subst (λ (r : RunRequestValue). IsScript r.shelf.names r.script accepted.1.0) same given.denoted) is.first
-refused law one (Ok (form.Run run, rest)) accepted response (errors.Question error) lasts fine is =
+    law is.shelves.outer.names is.script accepted.1.0 fault
+    (subst (λ (r : RunRequestValue). IsScript r.shelves.outer.names r.script accepted.1.0) same given.denoted) is.first
+refused law one (Ok (form.Run run, rest)) accepted response (errors.Halo fault) lasts fine is =
     let given = accepted.1.1.1 in
-    let same : of_run accepted.0 given.script accepted.1.1.0 ≡ of_run is.shelf is.script is.questions = cc
+    let same : of_run accepted.0 given.script accepted.1.1.0 ≡ of_run is.shelves is.script is.questions = cc
     (is.request, given.request) in
     let statements : accepted.1.0 ≡ is.statements =
-    one is.shelf.names is.script accepted.1.0 is.statements
-    (subst (λ (r : RunRequestValue). IsScript r.shelf.names r.script accepted.1.0) same given.denoted) is.denoted in
-    let known : first_question_error run (names_of_all_maps is.shelf.names accepted.1.0) is.questions ≡ None =
-    subst (λ (r : RunRequestValue). first_question_error run (names_of_all_maps r.shelf.names accepted.1.0)
+    one is.shelves.outer.names is.script accepted.1.0 is.statements
+    (subst (λ (r : RunRequestValue). IsScript r.shelves.outer.names r.script accepted.1.0) same given.denoted)
+    is.denoted in
+    let enough : halo_fault_of_statements is.shelves accepted.1.0 ≡ None =
+    subst (λ (r : RunRequestValue). halo_fault_of_statements r.shelves accepted.1.0 ≡ None) same given.enough in
+    let none : halo_fault_of_statements is.shelves is.statements ≡ None =
+    subst (λ (l : List Statement). halo_fault_of_statements is.shelves l ≡ None) statements enough in
+    cc (is.first, none)
+refused law one (Ok (form.Run run, rest)) accepted response (errors.Question error) lasts fine is =
+    let given = accepted.1.1.1 in
+    let same : of_run accepted.0 given.script accepted.1.1.0 ≡ of_run is.shelves is.script is.questions = cc
+    (is.request, given.request) in
+    let form : ResponseForm = response_form_of_run run in
+    let statements : accepted.1.0 ≡ is.statements =
+    one is.shelves.outer.names is.script accepted.1.0 is.statements
+    (subst (λ (r : RunRequestValue). IsScript r.shelves.outer.names r.script accepted.1.0) same given.denoted)
+    is.denoted in
+    let known : first_question_error form (names_of_all_maps is.shelves.outer.names accepted.1.0) is.questions ≡ None =
+    subst (λ (r : RunRequestValue). first_question_error form (names_of_all_maps r.shelves.outer.names accepted.1.0)
     r.questions ≡ None) same
     given.known in
-    let none : first_question_error run (names_of_all_maps is.shelf.names is.statements) is.questions ≡ None =
-    subst (λ (l : List Statement). first_question_error run (names_of_all_maps is.shelf.names l) is.questions
+    let none : first_question_error form (names_of_all_maps is.shelves.outer.names is.statements) is.questions ≡ None =
+    subst (λ (l : List Statement). first_question_error form (names_of_all_maps is.shelves.outer.names l) is.questions
     ≡ None) statements known in
     cc (is.first, none)
 refused law one (Ok (form.Plan, rest)) accepted response (errors.Request e) lasts fine is =
@@ -342,9 +366,11 @@ refused law one (Ok (form.Plan, rest)) accepted response (errors.Script fault) l
     (is.request, accepted.1.1.request) in
     law is.names is.script accepted.1.0 fault
     (subst (λ (r : PlanRequestValue). IsScript r.names r.script accepted.1.0) same accepted.1.1.denoted) is.first
+refused law one (Ok (form.Plan, rest)) accepted response (errors.Halo fault) lasts fine is = is
 refused law one (Ok (form.Plan, rest)) accepted response (errors.Question error) lasts fine is = is
 refused law one (Ok (form.Join, rest)) accepted response (errors.Request e) lasts fine is = cc (is.0, accepted.1)
 refused law one (Ok (form.Join, rest)) accepted response (errors.Script fault) lasts fine is = is
+refused law one (Ok (form.Join, rest)) accepted response (errors.Halo fault) lasts fine is = is
 refused law one (Ok (form.Join, rest)) accepted response (errors.Question error) lasts fine is = is
 refused law one form accepted response errors.Memory lasts fine is = lasts refl
 refused law one form accepted response (errors.MemoryAt line) lasts fine is = lasts refl
@@ -379,28 +405,35 @@ pub headline_of : ScriptsHaveNoFault → TextDenotesAtMostOneScript
     → (c : ComingBytes) {before now : Option (List ℕ)} {start after : SinkFaults}
     {outcome : PipeOutcome} → IsEndOfResponseSent (IsResponseToRequestOfForm
     (request_form_reading c)) before start now after outcome
-    → (shelf : ShelfValue) (statements : List Statement) (questions : List PatchQuestionValue)
-    → BytesAskForFrames c shelf statements questions
-    → WritesFramesUnlessFailed shelf statements questions before now (has_failed after) outcome
-headline_of law one c {before} {now} {outcome = outcome} h shelf statements questions is lasts good =
+    → (shelves : RunShelvesValue) (statements : List Statement) (questions : List PatchQuestionValue)
+    → BytesAskForFrames c shelves statements questions
+    → WritesFramesUnlessFailed shelves statements questions before now (has_failed after) outcome
+headline_of law one c {before} {now} {outcome = outcome} h shelves statements questions is lasts good =
+    let of_form : IsRunRequestAccepted (response_form_of_run is.run) (run_request_or_error is.run is.rest) shelves
+    statements questions =
+    subst (λ (f : ResponseForm). IsRunRequestAccepted f (run_request_or_error is.run is.rest) shelves statements
+    questions) (sym is.frames) is.accepted in
     let accepted : IsRequestAccepted (request_form_reading c) = subst IsRequestAccepted (sym is.form)
-    (shelf, (statements, (questions, is.accepted))) in
+    (shelves, (statements, (questions, of_form))) in
     let none : outcome.error ≡ None = no_error outcome.error
     (all_is_done law one (request_form_reading c) h accepted lasts good) in
     let reported : outcome.reported ≡ None = sym
     (ended_reported (IsResponseToRequestOfForm (request_form_reading c)) h (λ write. cc (write, none))) ∙ none in
-    let done : IsResponseOfAcceptedRequest Frames (run_request_or_error is.rest) h.text =
-    subst (λ (f : RequestFieldReading RequestForm). IsResponseToRequestOfForm f h.text None) is.form
-    (subst (IsResponseToRequestOfForm (request_form_reading c) h.text) reported h.is) in
-    let same : of_run done.shelf done.accepted.script done.questions ≡ of_run shelf is.accepted.script questions = cc
-    (done.accepted.request, is.accepted.request) in
+    let done : IsResponseOfAcceptedRequest Frames (run_request_or_error is.run is.rest) h.text =
+    subst (λ (f : ResponseForm). IsResponseOfAcceptedRequest f (run_request_or_error is.run is.rest) h.text) is.frames
+    (subst (λ (f : RequestFieldReading RequestForm). IsResponseToRequestOfForm f h.text None) is.form
+    (subst (IsResponseToRequestOfForm (request_form_reading c) h.text) reported h.is)) in
+    let same : of_run done.shelves done.accepted.script done.questions ≡ of_run shelves is.accepted.script questions =
+    cc (done.accepted.request, is.accepted.request) in
     let statements_are : done.statements ≡ statements =
-    one shelf.names is.accepted.script done.statements statements
-    (subst (λ (r : RunRequestValue). IsScript r.shelf.names r.script done.statements) same done.accepted.denoted)
+    one shelves.outer.names is.accepted.script done.statements statements
+    (subst (λ (r : RunRequestValue). IsScript r.shelves.outer.names r.script done.statements) same
+    done.accepted.denoted)
     is.accepted.denoted in
-    let given : AreFramesOfStatementsAndQuestions shelf statements questions done.gives.0 =
-    subst (λ (r : RunRequestValue). AreFramesOfStatementsAndQuestions r.shelf statements r.questions done.gives.0) same
-    (subst (λ (ss : List Statement). AreFramesOfStatementsAndQuestions done.shelf ss done.questions done.gives.0)
+    let given : AreFramesOfStatementsAndQuestions shelves statements questions done.gives.0 =
+    subst (λ (r : RunRequestValue). AreFramesOfStatementsAndQuestions r.shelves statements r.questions done.gives.0)
+    same
+    (subst (λ (ss : List Statement). AreFramesOfStatementsAndQuestions done.shelves ss done.questions done.gives.0)
     statements_are
     done.gives.1.0) in
     let taken = subst (λ (e : Option PipeError). IsTextAcceptedBySink h.text before now e outcome.written) none

@@ -42,6 +42,7 @@ IsPlanResponse read response None = IsPlanRequestFulfilled read response
 IsPlanResponse read response (Some (errors.Request error)) = (read ≡ Err error) ×
     (response ≡ response_bytes [] (request_end error))
 IsPlanResponse read response (Some (errors.Script error)) = IsResponseToRejectedPlanScript read response error
+IsPlanResponse read response (Some (errors.Halo fault)) = ⊥
 IsPlanResponse read response (Some (errors.Question error)) = ⊥
 IsPlanResponse read response (Some errors.Memory) = response ≡ response_bytes [] (memory_end 0)
 IsPlanResponse read response (Some (errors.MemoryAt line)) = ⊥

@@ -3,18 +3,19 @@
 ghost use Rattle.std.specs.Prelude.{◌≡◌, ◌≢◌, List, [], true, false, length, Some, None, bytes_eq, codes};
 ghost use Rattle.std.specs.Option.{IsNone};
 ghost use Rattle.cell_core_devices.specs.Device.{ComingBytes, bytes_to_come_after_reading, has_failed, faults_after_flush};
-ghost use Rattle.cell_core.specs.Shelf.{ShelfValue};
 ghost use Rattle.rcell_script.specs.declared.statement.Statement.{Statement};
-ghost use Rattle.rcell_pipe_request.specs.Feeds.{ReadsRequestFieldAndStaysOpen};
+ghost use Rattle.rcell_pipe_request.specs.Feeds.{ReadsRequestFieldAndStaysOpen, ReadsToEndWithErrorPosition};
 ghost use Rattle.rcell_pipe_request.specs.Supposed.{source_may_hold};
 ghost use Rattle.rcell_pipe_request.specs.Questions.{PatchQuestionValue};
+ghost use Rattle.rcell_pipe_request.specs.Requests.{run_request_as_value};
+ghost use Rattle.rcell_tile.specs.TileRuns.{RunShelvesValue};
 ghost use Rattle.rcell_pipe_frames.specs.FrameBytes.{response_bytes};
 ghost use Rattle.rcell_pipe_response.specs.RunEnds.{exit_status_of_pipe_run, IsResponseToRunRequest, IsResponseWritten, AreSinkCallsForError, IsResponseOfOnlyEnd};
 ghost use Rattle.rcell_pipe_response.specs.FrameEndings.{IsTextSentWithOutcome, IsEndOfResponseSent};
 ghost use Rattle.rcell_pipe_join.specs.JoinEnds.{IsJoinResponse};
 ghost use Rattle.rcell_pipe_join.specs.JoinRequests.{join_request_or_error};
 ghost use Rattle.rcell_plan_response.specs.PlanEnds.{IsPlanResponse};
-ghost use Rattle.rcell_plan_response.specs.Responses.{request_form_of_magic, request_form_reading, IsReadStateForError, run_request_or_error, plan_request_or_error, IsResponseToRequestOfForm, IsResponseToReturnedBytes, IsRequestAccepted, BytesAskForFrames, WritesFramesUnlessFailed};
+ghost use Rattle.rcell_plan_response.specs.Responses.{request_form_of_magic, request_form_reading, IsReadStateForError, response_form_of_run, run_request_of_form_reading, run_request_or_error, plan_request_or_error, IsResponseToRequestOfForm, IsResponseToReturnedBytes, IsRequestAccepted, BytesAskForFrames, WritesFramesUnlessFailed};
 ghost use Rattle.rcell_plan_response.specs.parts.RequestStops.{pipe_error_of_request_stop, end_frame_of_request_stop};
 ghost use Rattle.rcell_plan_response.specs.parts.Answered.{IsResponseToFeed, IsResponseToSource};
 
@@ -26,18 +27,27 @@ use rcell_pipe_join::join_request::read_join_request;
 use rcell_pipe_join::join_response::respond_to_join_request;
 use rcell_pipe_request::error::{ErrorKind, FieldReadingStop, RequestStop};
 use rcell_pipe_request::feed::{Feed, new_block, read_bytes_into};
-use rcell_pipe_request::request::read_run_request;
+use rcell_pipe_request::request::{Request, read_run_request, read_tile_run_request};
 use rcell_pipe_response::end::{PipeError, memory_end, request_end};
 use rcell_pipe_response::frame_run::{PipeOutcome, ResponseForm, reject, run_request};
 use rcell_script::law::{scripts_have_no_fault, text_denotes_at_most_one_script};
 use std::alloc::Global;
 use std::io::Read;
 
+/// The maps of a run.
+#[derive(Clone, Copy, Debug, PartialEq, Eq)]
+pub enum RunForm {
+    /// Full maps, and the form of the response.
+    FullMaps(ResponseForm),
+    /// The maps of a tile with their halo, after the place of the tile. The response consists of frames.
+    Tile,
+}
+
 /// The action that a request asks for.
 #[derive(Clone, Copy, Debug, PartialEq, Eq)]
 pub enum RequestForm {
     /// Runs a script over maps.
-    Run(ResponseForm),
+    Run(RunForm),
     /// Reports what the statements of a script read, make and write.
     Plan,
     /// Joins the results of tiles.
@@ -48,6 +58,12 @@ fn is_frame_run_magic(magic: &[u8]) -> bool
     ensures { result ≡ bytes_eq magic.now (codes "RCELLQ1\n") }
 {
     magic == b"RCELLQ1\n".as_slice()
+}
+
+fn is_tile_run_magic(magic: &[u8]) -> bool
+    ensures { result ≡ bytes_eq magic.now (codes "RCELLW1\n") }
+{
+    magic == b"RCELLW1\n".as_slice()
 }
 
 fn is_text_run_magic(magic: &[u8]) -> bool
@@ -72,10 +88,13 @@ fn request_form_of_magic(magic: &[u8]) -> Option<RequestForm>
     ensures { result ≡ request_form_of_magic magic.now }
 {
     if is_frame_run_magic(magic) {
-        return Some(RequestForm::Run(ResponseForm::Frames));
+        return Some(RequestForm::Run(RunForm::FullMaps(ResponseForm::Frames)));
+    }
+    if is_tile_run_magic(magic) {
+        return Some(RequestForm::Run(RunForm::Tile));
     }
     if is_text_run_magic(magic) {
-        return Some(RequestForm::Run(ResponseForm::Text));
+        return Some(RequestForm::Run(RunForm::FullMaps(ResponseForm::Text)));
     }
     if is_plan_magic(magic) {
         return Some(RequestForm::Plan);
@@ -113,22 +132,46 @@ fn reject_unread_request<W: Sink>(out: &mut W, stop: RequestStop) -> PipeOutcome
     }
 }
 
+fn response_form_of_run(run: RunForm) -> ResponseForm
+    ensures { result ≡ response_form_of_run run }
+{
+    match run {
+        RunForm::FullMaps(form) => form,
+        RunForm::Tile => ResponseForm::Frames,
+    }
+}
+
+// Reads a run request after its first eight bytes.
+fn read_run_request_of_form<R: Read>(
+    alloc: Global,
+    feed: &mut Feed<R>,
+    run: RunForm,
+) -> Result<Request, RequestStop>
+    ensures { ReadsToEndWithErrorPosition run_request_as_value feed.old result feed.new
+        (run_request_of_form_reading run) }
+{
+    match run {
+        RunForm::FullMaps(_) => read_run_request(alloc, feed),
+        RunForm::Tile => read_tile_run_request(alloc, feed),
+    }
+}
+
 // Reads a run request after its first eight bytes, and responds to it.
 fn read_and_answer_run_request<R: Read, W: Sink>(
     alloc: Global,
     feed: &mut Feed<R>,
-    form: ResponseForm,
+    run: RunForm,
     out: &mut W,
 ) -> PipeOutcome
     ensures end { IsEndOfResponseSent
-        (IsResponseToFeed feed.old feed.new (λ c. IsResponseToRunRequest form
-        (run_request_or_error c)))
+        (IsResponseToFeed feed.old feed.new (λ c. IsResponseToRunRequest (response_form_of_run run)
+        (run_request_or_error run c)))
         (W.taken out.old) (W.faults out.old) (W.taken out.new) (W.faults out.new) result }
     ensures asked { feed.old.asked ≡ Asked.Going
         → IsReadStateForError result.reported feed.new.asked }
 {
-    match read_run_request(alloc, feed) {
-        Ok(request) => run_request(alloc, request, form, out),
+    match read_run_request_of_form(alloc, feed, run) {
+        Ok(request) => run_request(alloc, request, response_form_of_run(run), out),
         Err(stop) => reject_unread_request(out, stop),
     }
 }
@@ -186,7 +229,7 @@ fn read_and_answer_request<R: Read, W: Sink>(
 {
     match read_request_form(feed) {
         Ok(form) => match form {
-            RequestForm::Run(form) => read_and_answer_run_request(alloc, feed, form, out),
+            RequestForm::Run(maps) => read_and_answer_run_request(alloc, feed, maps, out),
             RequestForm::Plan => read_and_answer_plan_request(alloc, feed, out),
             RequestForm::Join => read_and_answer_join_request(alloc, feed, out),
         },
@@ -275,12 +318,12 @@ pub fn respond<R: Read + Drop, W: Sink>(
         (W.taken out.old) (W.taken out.new) result.outcome.reported None result.outcome.written }
     // If a request for the frames of a script and of questions is accepted, memory does not run out and the sink does
     // not fail, exactly these frames and the end are written.
-    ensures headline { (c : ComingBytes) (shelf : ShelfValue) (statements : List Statement)
+    ensures headline { (c : ComingBytes) (shelves : RunShelvesValue) (statements : List Statement)
         (questions : List PatchQuestionValue)
         → source_may_hold result.source.0.1 result.source.1 c ≡ true
         → BytesAskForFrames (bytes_to_come_after_reading c
-        (length source.0.1)) shelf statements questions
-        → WritesFramesUnlessFailed shelf statements questions (W.taken out.old) (W.taken out.new)
+        (length source.0.1)) shelves statements questions
+        → WritesFramesUnlessFailed shelves statements questions (W.taken out.old) (W.taken out.new)
         (has_failed (W.faults out.new)) result.outcome }
     // If the script of a request of any form is accepted, memory does not run out and the sink does not fail, the run
     // succeeds.

@@ -8,6 +8,7 @@ use Rattle.rcell_pipe_response.specs.declared.end.PipeError.{PipeError}
 use Rattle.rcell_pipe_response.specs.declared.end.PipeError.TheVariants as errors
 use Rattle.rcell_pipe_response.specs.declared.frame_run.ResponseForm.TheVariants.{Frames}
 use Rattle.rcell_pipe_response.specs.RunEnds.{IsResponseOfAcceptedRequest, IsResponseToRunRequest}
+use Rattle.rcell_plan_response.specs.declared.responding.RunForm.TheVariants.{FullMaps}
 use Rattle.rcell_plan_response.specs.declared.responding.RequestForm.{RequestForm}
 use Rattle.rcell_plan_response.specs.declared.responding.RequestForm.TheVariants.{Run}
 use Rattle.rcell_plan_response.specs.Responses.{IsResponseToRequestOfForm, request_form_reading, run_request_or_error}
@@ -18,11 +19,11 @@ use Rattle.rcell_worked.specs.SentResponses.{AreFramesOfRequest, SentRequestsGet
 module _ (r : SentRequest) (back : IsRequestReadBack (codes "RCELLQ1\n") (request_bytes r)
     (meaning_of_sent_request r)) where
   form_is : request_form_reading (source_of_bytes (bytes_of_frames_request r))
-      ≡ Ok (Run Frames, source_of_bytes (request_bytes r))
+      ≡ Ok (Run (FullMaps Frames), source_of_bytes (request_bytes r))
   unfolding request_form_reading
   form_is = rw (back.form) refl
 
-  read_is : run_request_or_error (source_of_bytes (request_bytes r)) ≡ Ok (meaning_of_sent_request r)
+  read_is : run_request_or_error (FullMaps Frames) (source_of_bytes (request_bytes r)) ≡ Ok (meaning_of_sent_request r)
   read_is = rw (back.rest) refl
 
   -- the response to the maps, the script and the questions that the request means
@@ -48,12 +49,13 @@ frames_from : (run : RunRequestValue) (response : List ℕ) → IsResponseOfAcce
     → AreFramesOfRequest run response
 frames_from run response h =
     let asked : RunRequestValue =
-    record { shelf = h.shelf; script = h.accepted.script; questions = h.questions } in
+    record { shelves = h.shelves; script = h.accepted.script; questions = h.questions } in
     let read : Ok run ≡ Ok asked = h.accepted.request in
     let same : asked ≡ run = cc in
     let frames : AreFramesOfRequest asked response = record {
       statements = h.statements;
       denoted = h.accepted.denoted;
+      enough = h.accepted.enough;
       known = h.accepted.known;
       frames = h.gives.0;
       gives = h.gives.1.0;
@@ -64,10 +66,10 @@ frames_from run response h =
 frames_to : (run : RunRequestValue) (response : List ℕ) → AreFramesOfRequest run response
     → IsResponseOfAcceptedRequest Frames (Ok run) response
 frames_to run response h = record {
-  shelf = run.shelf;
+  shelves = run.shelves;
   statements = h.statements;
   questions = run.questions;
-  accepted = record { script = run.script; request = refl; denoted = h.denoted; known = h.known };
+  accepted = record { script = run.script; request = refl; denoted = h.denoted; enough = h.enough; known = h.known };
   gives = (h.frames, (h.gives, h.bytes));
 }
 

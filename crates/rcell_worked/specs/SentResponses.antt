@@ -10,6 +10,7 @@ use Rattle.rcell_pipe_frames.specs.FrameBytes.{response_bytes}
 use Rattle.rcell_pipe_frames.specs.Frames.{OutputFrame}
 use Rattle.rcell_pipe_response.specs.QuestionFrames.{names_of_all_maps, first_question_error}
 use Rattle.rcell_pipe_response.specs.RunEnds.{AreFramesOfStatementsAndQuestions, end_frame_of_successful_run}
+use Rattle.rcell_pipe_response.specs.RunEnds.{halo_fault_of_statements}
 use Rattle.rcell_plan_response.specs.Responses.{IsResponseToRequestOfForm, request_form_reading}
 use Rattle.rcell_pipe_law.specs.RequestLaw.{IsSendableRequest, SentRequest, meaning_of_sent_request, request_bytes}
 use Rattle.rcell_pipe_law.specs.RequestLaw.{source_of_bytes}
@@ -22,10 +23,11 @@ bytes_of_frames_request r = codes "RCELLQ1\n" ++ request_bytes r
 -- end
 pub record AreFramesOfRequest (run : RunRequestValue) (response : List ℕ) : Type 0 where
   pub statements : List Statement
-  pub denoted : IsScript run.shelf.names run.script statements
-  pub known : first_question_error Frames (names_of_all_maps run.shelf.names statements) run.questions ≡ None
+  pub denoted : IsScript run.shelves.outer.names run.script statements
+  pub enough : halo_fault_of_statements run.shelves statements ≡ None
+  pub known : first_question_error Frames (names_of_all_maps run.shelves.outer.names statements) run.questions ≡ None
   pub frames : List OutputFrame
-  pub gives : AreFramesOfStatementsAndQuestions run.shelf statements run.questions frames
+  pub gives : AreFramesOfStatementsAndQuestions run.shelves statements run.questions frames
   pub bytes : response ≡ response_bytes frames end_frame_of_successful_run
 
 pub record RequestGetsItsFrames (r : SentRequest) : Type 0 where

@@ -1,8 +1,8 @@
 -- A worked request: the request and response in docs/pipe.md.
 use Rattle.std.specs.Prelude.{ℕ, ◌≡◌, List, [], ◌∷◌, ◌++◌, codes}
-use Rattle.cell_core.specs.Shelf.{ShelfValue}
 use Rattle.rcell_script.specs.declared.statement.Statement.{Statement}
 use Rattle.rcell_pipe_request.specs.Questions.{PatchQuestionValue}
+use Rattle.rcell_tile.specs.TileRuns.{RunShelvesValue}
 use Rattle.rcell_pipe_frames.specs.Frames.{OutputFrame}
 use Rattle.rcell_pipe_frames.specs.FrameBytes.{response_bytes}
 use Rattle.rcell_pipe_response.specs.RunEnds.{end_frame_of_successful_run, AreFramesOfStatementsAndQuestions}
@@ -13,12 +13,12 @@ use Rattle.rcell_worked.specs.WorkedRuns.{source_returning_bytes}
 
 -- the response to a request for frames, as in the theorem of `respond`
 pub record RespondsToRequest (request response : List ℕ) : Type 0 where
-  pub shelf : ShelfValue
+  pub shelves : RunShelvesValue
   pub statements : List Statement
   pub questions : List PatchQuestionValue
-  pub asks : BytesAskForFrames (source_returning_bytes request) shelf statements questions
+  pub asks : BytesAskForFrames (source_returning_bytes request) shelves statements questions
   pub frames : List OutputFrame
-  pub gives : AreFramesOfStatementsAndQuestions shelf statements questions frames
+  pub gives : AreFramesOfStatementsAndQuestions shelves statements questions frames
   pub bytes : response_bytes frames end_frame_of_successful_run ≡ response
 
 abbrev pub table_request : List ℕ

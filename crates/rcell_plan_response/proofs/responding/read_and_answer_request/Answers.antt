@@ -5,7 +5,7 @@ use Rattle.rcell_pipe_join.specs.JoinEnds.{IsJoinResponse}
 use Rattle.rcell_pipe_join.specs.JoinRequests.{join_request_or_error}
 use Rattle.rcell_plan_response.specs.PlanEnds.{IsPlanResponse}
 use Rattle.rcell_plan_response.specs.Responses.{request_form_reading, run_request_or_error, plan_request_or_error}
-use Rattle.rcell_plan_response.specs.Responses.{IsResponseToRequestOfForm}
+use Rattle.rcell_plan_response.specs.Responses.{IsResponseToRequestOfForm, response_form_of_run}
 use Rattle.rcell_plan_response.specs.parts.RequestStops.{pipe_error_of_request_stop}
 use Rattle.rcell_plan_response.specs.parts.Answered.{IsResponseToFeed}
 use Rattle.rcell_plan_response.proofs.PlanEndLemmas.{ends_more, stop_fine, stopped_form, only_stop, asked_of_field}
@@ -15,7 +15,7 @@ pub returns-in-Run-clause-end : goal.returns-in-Run-clause-end
 returns-in-Run-clause-end g c =
     ends_more
     (IsResponseToFeed c.read_request_form.new.feed c.read_and_answer_run_request.new.feed
-    (λ x. IsResponseToRunRequest c.in-Run.form (run_request_or_error x)))
+    (λ x. IsResponseToRunRequest (response_form_of_run c.in-Run.maps) (run_request_or_error c.in-Run.maps x)))
     (IsResponseToFeed c.args.feed.now c.read_and_answer_run_request.new.feed (λ x. IsResponseToRequestOfForm
     (request_form_reading x)))
     (λ response error is. (

@@ -18,10 +18,14 @@ use Rattle.rcell_pipe_request.specs.Heads.{next_label_reading, labels_reading, m
 use Rattle.rcell_pipe_request.specs.Requests.{next_row_reading, label_map_with_added_labels, map_reading}
 use Rattle.rcell_pipe_request.specs.Requests.{next_map_reading}
 use Rattle.rcell_pipe_request.specs.Requests.{map_count_reading, script_bytes_reading}
-use Rattle.rcell_pipe_request.specs.Requests.{first_map_reading, run_request_reading}
+use Rattle.rcell_pipe_request.specs.Requests.{first_map_reading, maps_reading, run_over_shelves_reading}
+use Rattle.rcell_pipe_request.specs.Requests.{run_request_reading}
 use Rattle.rcell_pipe_request.specs.Questions.{questions_reading, questions_to_request_end_reading}
 use Rattle.rcell_pipe_response.specs.QuestionFrames.{first_question_error}
 use Rattle.rcell_pipe_request.specs.Rows.{row_cells_reading}
+use Rattle.rcell_tile.specs.TileRuns.{shelves_of_full_maps}
+use Rattle.rcell_pipe_response.specs.declared.frame_run.ResponseForm.TheVariants.{Frames}
+use Rattle.rcell_plan_response.specs.declared.responding.RunForm.TheVariants.{FullMaps}
 use Rattle.rcell_plan_response.specs.Responses.{request_form_reading}
 use Rattle.bstr.specs.Text.{line_len, lines_from}
 use Rattle.rcell_worked.proofs.ReadLemmas.{script_of}
@@ -37,22 +41,26 @@ unfolding line_len lines_from bytes_reading unsigned_number_reading signed_numbe
     labels_reading map_head_reading next_row_reading label_map_with_added_labels map_reading next_map_reading
     map_count_reading
     script_bytes_reading end_of_request_reading questions_reading questions_to_request_end_reading first_map_reading
-    run_request_reading row_cells_reading request_form_reading first_question_error
+    maps_reading run_over_shelves_reading run_request_reading row_cells_reading request_form_reading
+    first_question_error
 returns c = record {
   written = refl;
   table = record {
-    shelf = small_shelf;
+    shelves = shelves_of_full_maps small_shelf;
     statements = _;
     questions = [];
     asks = record {
+      run = FullMaps Frames;
       rest = _;
       form = refl;
+      frames = refl;
       accepted = record {
         script = _;
         request = refl;
         denoted = script_of c.script_reading_matches_meaning.ensures (codes "land" ∷ [])
             (codes "r.stats -c input=land\n")
             (codes "r.stats -c input=land" ∷ []) _ refl (_, (_, refl, refl), refl);
+        enough = refl;
         known = refl;
       };
     };
@@ -61,8 +69,8 @@ returns c = record {
     gives = record {
       frames = Table (table_frame small_shelf 1 (0 ∷ []) (table_format_of_stats_options counts)
           (table_of_cells Nothing small_cells)) ∷ [];
-      after = small_shelf;
-      given = (_, (_, (refl, ((refl, refl), refl))));
+      after = shelves_of_full_maps small_shelf;
+      given = (_, (_, (record { place = refl; outer = refl }, ((refl, refl), refl))));
       answers = [];
       answered = refl;
       both = refl;
