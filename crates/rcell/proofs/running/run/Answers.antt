@@ -69,10 +69,6 @@ when_zero (Some fault) is sound zero = not_zero fault (sym is ∙ zero)
 unread : {asked : Asked} → asked ≡ Going → asked ≢ Again
 unread going = λ again. let same : Going ≡ Again = sym going ∙ again in cc
 
--- This clause comes first: a run that touches its sink before execution meets none of the clauses below.
-pub returns-in-Err-clause-untouched : goal.returns-in-Err-clause-untouched
-returns-in-Err-clause-untouched g c = rw c.rejected_run_with_sources.ensures (λ early. (refl, refl))
-
 pub returns-in-Err-read_statements-clause-untouched : goal.returns-in-Err-read_statements-clause-untouched
 returns-in-Err-read_statements-clause-untouched g c =
     rw c.rejected_run_with_sources-in-Err-read_statements.ensures (λ early. (refl, refl))
@@ -121,8 +117,7 @@ returns-in-Err-clause-complete g c =
 pub returns-in-Err-clause-headline : goal.returns-in-Err-clause-headline
 returns-in-Err-clause-headline g c =
     λ named text hs h suppose starts agree agrees shelf statements ok.
-    when_accepted named text shelf statements (g.W.Sink.taken c.args.out.now) (g.W.Sink.taken c.args.out.now)
-    (has_failed (g.W.Sink.faults c.args.out.now)) c.rejected_run_with_sources.result.outcome
+    when_accepted named text shelf statements _ _ _ c.rejected_run_with_sources.result.outcome
     (λ read. returns-in-Err-clause-complete g c named text hs h suppose starts agree agrees shelf statements read) ok
 
 pub returns-in-Ok-read_statements-clause-complete : goal.returns-in-Ok-read_statements-clause-complete
