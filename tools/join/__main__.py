@@ -25,10 +25,11 @@ BIN = os.environ.get("RCELL_BIN", f"{ROOT}/bin")
 sys.path.insert(1, f"{ROOT}/tools/model")
 
 import cases
+import joined_patches
 import made
 from made import Cut
 from patch_model import Cells
-from pipe_model import NULL, Frame, Question, Raster, Response, request
+from pipe_model import BORDER, NULL, NUMBERS, Frame, Question, Raster, Response, request
 
 MAGIC, TABLES = b"RCELLJ1\n", 1
 DONE, REJECTED = 0, 1
@@ -45,6 +46,11 @@ ERRORS = (
     b"bad number of tables",
     b"bad count",
     b"too many cells",
+    b"bad run",
+    b"patch order",
+    b"unknown patch",
+    b"bad patch",
+    b"other class",
     b"bytes after the request",
 )
 SECONDS = 120
@@ -66,6 +72,10 @@ class Joined(Response):
             frame["runs"] = list(zip(*[iter(self.numbers(4 * runs))] * 4))
         elif frame["kind"] == b"SUMS":
             frame["table"] = self.sums()
+        elif frame["kind"] == b"PATS":
+            of_one = struct.Struct("<Qi8Q")
+            count = self.numbers(1)[0]
+            frame["joined"] = [of_one.unpack(self.take(of_one.size)) for _ in range(count)]
         if frame["kind"] != b"DONE" and self.take(4) != b"DONE":
             raise ValueError("a frame, and no DONE")
         frame.update(self.done())
@@ -98,24 +108,31 @@ class Pipe:
         return frame
 
     def frames(self, maps: list[Cells], script: bytes, connectivity: int) -> list[Frame]:
-        """Return the frames of a script over maps named m, n, .., then the numbers of m's patches."""
+        """Return the frames of a script over maps named m, n, .., then the numbers of m's patches and
+        m's border."""
         edges = (b"%d" % len(maps[0]), b"0", b"%d" % len(maps[0][0]), b"0")
         rasters = []
         for name, cells in zip(NAMES, maps):
             rows = [[NULL if cell is None else cell for cell in row] for row in cells]
             rasters.append(Raster(name, edges, 6, rows, NULL))
-        data = request(rasters, script, [Question(NAMES[0], connectivity, kind=2)])
-        return Response(self.run(data)[1]).frames()[:-2]
+        asked = Question(NAMES[0], connectivity, kind=NUMBERS + BORDER)
+        return Response(self.run(request(rasters, script, [asked]))[1]).frames()[:-1]
 
     def numbers(self, cells: Cells, connectivity: int) -> Cells:
         return self.frames([cells], b"", connectivity)[0]["rows"]
 
-    def tile(self, cells: Cells, numbers: Cells, connectivity: int) -> tuple[Cells, Table, Table]:
-        """Return the numbers of a tile's patches, its table, and its table with the full map's
-        numbers."""
+    def border(self, cells: Cells, connectivity: int) -> bytes:
+        """Return a tile of a join request: the map's border as it is in the response."""
+        return self.frames([cells], b"", connectivity)[1]["border"]
+
+    def tile(
+        self, cells: Cells, numbers: Cells, connectivity: int
+    ) -> tuple[Cells, bytes, Table, Table]:
+        """Return the numbers of a tile's patches, its border, its table, and its table with the full
+        map's numbers."""
         script = b"r.stats -c input=m\nr.stats -c input=m,n\n"
-        first, second, own = self.frames([cells, numbers], script, connectivity)
-        return own["rows"], table_of(first), table_of(second)
+        first, second, own, sides = self.frames([cells, numbers], script, connectivity)
+        return own["rows"], sides["border"], table_of(first), table_of(second)
 
 
 def table_of(frame: Frame) -> Table:
@@ -125,34 +142,10 @@ def table_of(frame: Frame) -> Table:
 # Requests
 
 
-def border(cells: Cells, numbers: Cells) -> bytes:
-    """Return a tile of a join request: its size, its four sides, and the patches that begin in each
-    row."""
-
-    def side(of_map: Cells) -> list[list[int | None]]:
-        return [
-            of_map[0],
-            of_map[-1],
-            [row[0] for row in of_map],
-            [row[-1] for row in of_map],
-        ]
-
-    out = struct.pack("<II", len(cells), len(cells[0]))
-    for categories, patches in zip(side(cells), side(numbers)):
-        values = [NULL if it is None else it for it in (*categories, *patches)]
-        out += struct.pack(f"<{len(values)}i", *values)
-    begun, before = [], 0
-    for row in numbers:
-        last = max((it for it in row if it is not None), default=0)
-        begun.append(max(last - before, 0))
-        before += begun[-1]
-    return out + struct.pack(f"<{len(begun)}I", *begun)
-
-
-def borders(cut: Cut, numbers: Iterable[Cells], connectivity: int) -> bytes:
-    """Return the request that joins the tiles of a map, given the numbers of their patches."""
+def borders(cut: Cut, tiles: Iterable[bytes], connectivity: int) -> bytes:
+    """Return the request that joins the tiles of a map, given their borders."""
     head = struct.pack("<BII", connectivity, len(cut.ends), len(cut.col_ends))
-    return MAGIC + head + b"".join(map(border, cut.tiles_of(cut.cells), numbers))
+    return MAGIC + head + b"".join(tiles)
 
 
 def tables(width: int, of_tiles: Sequence[Table]) -> bytes:
@@ -196,12 +189,12 @@ def wrong_join(pipe: Pipe, cut: Cut, connectivity: int) -> tuple[str, bytes]:
     """Return the first result of tiles that differs from the full map's, and the request that
     joined their borders."""
     wanted = pipe.numbers(cut.cells, connectivity)
-    full = pipe.tile(cut.cells, wanted, connectivity)
+    full = pipe.tile(cut.cells, wanted, connectivity)[2:]
     pairs = zip(cut.tiles_of(cut.cells), cut.tiles_of(wanted))
-    numbers, *of_tiles = zip(*(pipe.tile(*pair, connectivity) for pair in pairs))
-    data = borders(cut, numbers, connectivity)
+    numbers, sides, *of_tiles = zip(*(pipe.tile(*pair, connectivity) for pair in pairs))
+    data = borders(cut, sides, connectivity)
     wrong = wrong_numbers(pipe.joined(data), cut, numbers, wanted)
-    for width, (parts, table) in enumerate(zip(of_tiles, full[1:]), 1):
+    for width, (parts, table) in enumerate(zip(of_tiles, full), 1):
         merged = pipe.joined(tables(width, parts)).get("table")
         wrong = wrong or ("" if merged == table else f"{merged}, and not {table}")
     return wrong, data
@@ -222,6 +215,9 @@ def wrong_reply(pipe: Pipe, data: bytes) -> str:
     if frame["kind"] == b"SUMS":
         entries = [entry for entry, _ in frame["table"]]
         return "" if len(set(entries)) == len(entries) else f"{data!r}: {frame}"
+    if frame["kind"] == b"PATS":
+        numbers = [number for number, *_ in frame["joined"]]
+        return "" if numbers == sorted(set(numbers)) else f"{data!r}: {frame}"
     known = frame["status"] == REJECTED and frame["source"] == 1 and frame["text"] in ERRORS
     return "" if known else f"{data!r}: {frame}"
 
@@ -244,8 +240,9 @@ def small_requests(pipe: Pipe) -> Iterator[tuple[str, bytes]]:
         ("one tile", Cut(cells, [3], [3])),
     ):
         for connectivity in (4, 8):
-            numbers = [pipe.numbers(tile, connectivity) for tile in cut.tiles_of(cells)]
-            yield f"{name}, connectivity {connectivity}", borders(cut, numbers, connectivity)
+            sides = [pipe.border(tile, connectivity) for tile in cut.tiles_of(cells)]
+            yield f"{name}, connectivity {connectivity}", borders(cut, sides, connectivity)
+    yield "patches", joined_patches.TWO_PARTS.data()
     yield "tables", tables(2, [[((1, NULL), 3), ((2, 5), 1)], [], [((2, 5), 4)]])
 
 

@@ -7,7 +7,7 @@ import struct
 from dataclasses import dataclass, field
 from typing import Any, Callable, Iterable, Optional, Sequence
 
-from patch_model import Patch
+from patch_model import Cells, Patch
 
 NULL = -(2**31)
 # The letter of `struct`, and the smallest and largest number, by type code.
@@ -20,6 +20,7 @@ TYPES = {
     6: ("i", NULL, 2**31 - 1),
     7: ("q", -(2**63), 2**63 - 1),
 }
+PATCHES, NUMBERS, BORDER = 1, 2, 4  # the kind of a question is the sum of these
 NAME = re.compile(rb"[A-Za-z_][A-Za-z0-9_.]{0,63}")
 COORDINATE = re.compile(rb"([+-]?)(\d{0,10})(?:\.(\d{0,8}))?")
 UNITS = 10**8  # of a coordinate
@@ -53,13 +54,13 @@ class Raster:
 
 @dataclass(frozen=True)
 class Question:
-    """A question about the patches of a map: kind 1, or kind 2 for their numbers as well."""
+    """A question about the patches of a map. Its kind is the sum of the frames that it asks for."""
 
     map: bytes
     connectivity: int = 4
     depth: int = 1
     zones: bytes = b""
-    kind: int = 1
+    kind: int = PATCHES
 
     def data(self) -> bytes:
         numbers = struct.pack("<BI", self.connectivity, self.depth)
@@ -68,6 +69,51 @@ class Question:
 
 def short(text: bytes) -> bytes:
     return bytes([len(text)]) + text
+
+
+@dataclass(frozen=True)
+class Place:
+    """The size of a full map, the first row and column of a request's maps in it, and the first row
+    and column of the tile and its size."""
+
+    full_rows: int
+    full_cols: int
+    top: int
+    left: int
+    tile_top: int
+    tile_left: int
+    tile_rows: int
+    tile_cols: int
+
+    def data(self) -> bytes:
+        corner = (self.full_rows, self.full_cols, self.top, self.left)
+        tile = (self.tile_top, self.tile_left, self.tile_rows, self.tile_cols)
+        return struct.pack("<8I", *corner, *tile)
+
+    def is_valid(self, rows: int, cols: int) -> bool:
+        """Return whether the place is valid for maps with these numbers of rows and columns."""
+        sides = (
+            (self.full_rows, self.top, rows, self.tile_top, self.tile_rows),
+            (self.full_cols, self.left, cols, self.tile_left, self.tile_cols),
+        )
+        return all(
+            full <= MOST_CELLS
+            and tile >= 1
+            and first <= tile_first
+            and tile_first + tile <= first + size <= full
+            for full, first, size, tile_first, tile in sides
+        )
+
+    def is_possible(self) -> bool:
+        """Return whether the place is valid for maps that end with the full map."""
+        return self.is_valid(self.full_rows - self.top, self.full_cols - self.left)
+
+
+def tile_request(
+    place: Place, maps: list[Raster], script: bytes, questions: Sequence[Question] = ()
+) -> bytes:
+    """Return the bytes of a request for a tile."""
+    return b"RCELLW1\n" + place.data() + request(maps, script, questions)[8:]
 
 
 def request(maps: list[Raster], script: bytes, questions: Sequence[Question] = ()) -> bytes:
@@ -88,6 +134,25 @@ def request(maps: list[Raster], script: bytes, questions: Sequence[Question] = (
             out += bytes(it.mask[place]) if it.mask is not None else b""
     asked = struct.pack("<I", len(questions)) + b"".join(it.data() for it in questions)
     return out + struct.pack("<I", len(script)) + script + asked
+
+
+def border(cells: Cells, numbers: Cells) -> bytes:
+    """Return a tile of a join request: its size, its four sides, and the patches that begin in each
+    row."""
+
+    def sides(of: Cells) -> list[list[Optional[int]]]:
+        return [of[0], of[-1], [row[0] for row in of], [row[-1] for row in of]]
+
+    out = struct.pack("<II", len(cells), len(cells[0]))
+    for categories, patches in zip(sides(cells), sides(numbers)):
+        values = [NULL if it is None else it for it in (*categories, *patches)]
+        out += struct.pack(f"<{len(values)}i", *values)
+    begun, before = list[int](), 0
+    for row in numbers:
+        last = max((it for it in row if it is not None), default=0)
+        begun.append(max(last - before, 0))
+        before += begun[-1]
+    return out + struct.pack(f"<{len(begun)}I", *begun)
 
 
 class Rejected(Exception):
@@ -189,24 +254,39 @@ class Reader:
 
     def question(self) -> Question:
         kind = self.number("B")
-        self.need(kind in (1, 2), "bad question")
+        self.need(1 <= kind <= PATCHES + NUMBERS + BORDER, "bad question")
         name = self.take(self.number("B"))
         connectivity = self.number("B")
         self.need(connectivity in (4, 8), "bad connectivity")
         depth = self.number("I")
         self.need(depth >= 1, "bad depth")
         zones = self.take(self.number("B"))
-        self.need(not zones or NAME.fullmatch(zones), "bad zones")
+        self.need(not zones or kind & PATCHES and NAME.fullmatch(zones), "bad zones")
         return Question(name, connectivity, depth, zones, kind)
 
     def run(self) -> tuple[list[Raster], bytes, list[Question]]:
         """Return the maps, the script and the questions, or raise the first error."""
         self.need(self.take(8) == b"RCELLQ1\n", "bad magic")
+        return (self.rasters(), *self.script_and_questions())
+
+    def run_in_tile(self) -> tuple[Place, list[Raster], bytes, list[Question]]:
+        """Return the place, the maps, the script and the questions, or raise the first error."""
+        self.need(self.take(8) == b"RCELLW1\n", "bad magic")
+        place = Place(*self.numbers("8I"))
+        self.need(place.is_possible(), "bad place")
+        maps = self.rasters()
+        self.need(place.is_valid(len(maps[0].rows), len(maps[0].rows[0])), "bad place")
+        return (place, maps, *self.script_and_questions())
+
+    def rasters(self) -> list[Raster]:
         count, maps = self.number("I"), []
         self.need(1 <= count <= MOST_MAPS, "bad number of maps")
         for self.maps in range(count):
             maps.append(self.raster())
         self.maps = count
+        return maps
+
+    def script_and_questions(self) -> tuple[bytes, list[Question]]:
         size = self.number("I")
         self.need(size <= MOST_SCRIPT, "script too long")
         script, asked = self.take(size), []
@@ -214,7 +294,7 @@ class Reader:
             asked.append(self.question())
         self.row = 0
         self.need(self.at == len(self.data), "bytes after the request")
-        return maps, script, asked
+        return script, asked
 
 
 Frame = dict[str, Any]
@@ -271,6 +351,11 @@ class Response:
     def patch_numbers(self) -> Frame:
         return {"question": self.numbers(1)[0], "rows": self.rows()}
 
+    def border(self) -> Frame:
+        [question], begin, (rows, cols) = self.numbers(1), self.at, self.numbers(2, "I")
+        self.take(4 * (4 * cols + 4 * rows + rows))
+        return {"question": question, "border": self.data[begin : self.at]}
+
     def patches(self) -> Frame:
         question, connectivity, depth, has_zones = struct.unpack("<QBIB", self.take(14))
         found = []
@@ -303,6 +388,7 @@ class Response:
             b"GRID": self.grid,
             b"PTCH": self.patches,
             b"NUMB": self.patch_numbers,
+            b"BORD": self.border,
             b"DONE": self.done,
         }
         found: list[Frame] = []
@@ -330,7 +416,7 @@ def header(edges: Iterable[bytes], rows: int, cols: int) -> bytes:
 
 def printed(frame: Frame) -> bytes:
     """Return the text that `rcell` prints for a frame, or nothing for a question."""
-    if frame["kind"] in (b"NUMB", b"PTCH"):
+    if frame["kind"] in (b"NUMB", b"BORD", b"PTCH"):
         return b""
     if frame["kind"] == b"GRID":
         null = b"" if frame["null"] == b"*" else b"null: " + frame["null"] + b"\n"

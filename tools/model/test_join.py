@@ -6,8 +6,9 @@
 - worked examples: patches that meet along seams, at the corner of four tiles, and around a tile;
   tables
 - each error by name, each truncation of a request, and spoiled borders
-- N random maps, cut at random: the numbers must be the numbers of the full map's patches; N random
-  lists of tables; some requests are damaged
+- N random maps, cut at random: the numbers and the joined measures must equal the numbers and the
+  measures of the full map's patches; N random lists of tables; some requests are
+  damaged
 
 The last line is 'N passed, M failed'.
 """
@@ -21,9 +22,22 @@ import struct
 import subprocess
 import sys
 from dataclasses import dataclass, replace
-from typing import Iterator, Optional, Sequence, Union
+from typing import Callable, Iterator, Optional, Sequence, Union
 
+import patch_model
 from fuzz import damaged_bytes
+from joined_patches import JOINED, TWO_PARTS, Joined, Part, Patches
+from joined_patches import KIND as PATCHES
+from joined_patches import (
+    add,
+    full_map_number,
+    is_next_run,
+    is_patch,
+    joined_patches,
+    named_patch_errors,
+    parts_of_tile,
+    randomly_changed_patches,
+)
 from model import neighbours
 from pipe_model import NULL
 from test_plan import BadRequest, Done, Reader
@@ -181,6 +195,23 @@ class Cut:
             runs += runs_of(tile, [number for one, number in sorted(pairs - {(None, None)})])
         return max(filter(None, itertools.chain(*full)), default=0), runs
 
+    def patches(self, depth: int) -> Patches:
+        """Return the request that joins the patches of the tiles."""
+        with_corners, parts, cells = (
+            CORNERS[self.connectivity],
+            list[Part](),
+            list(map(list, self.cells)),
+        )
+        for tile, place in enumerate(itertools.chain(*self.rows()), 1):
+            numbers = numbered(part(self.cells, *place), with_corners)
+            parts += parts_of_tile(cells, numbers, tile, place, depth)
+        return Patches(tuple(self.numbering()[1]), tuple(parts))
+
+    def full_map_patches(self, depth: int) -> Joined:
+        """Return the patches of the full map."""
+        cells = list(map(list, self.cells))
+        return list(enumerate(patch_model.patches(cells, self.connectivity, depth), 1))
+
 
 def part(cells: Cells, rows: slice, cols: slice) -> Cells:
     return [row[cols] for row in cells[rows]]
@@ -296,11 +327,15 @@ class JoinReader(Reader):
         self.complete += 1
         return tile
 
-    def request(self) -> Union[Tiles, Tables]:
+    def request(self) -> Union[Tiles, Tables, Patches]:
         self.need(self.take(len(MAGIC)) == MAGIC, b"bad magic")
         kind = self.number("B")
-        self.need(kind == TABLES or kind in CORNERS, b"bad kind")
-        request = self.tables() if kind == TABLES else self.tiles(kind)
+        self.need(kind in (TABLES, PATCHES) or kind in CORNERS, b"bad kind")
+        request: Union[Tiles, Tables, Patches]
+        if kind == PATCHES:
+            request = self.patches()
+        else:
+            request = self.tables() if kind == TABLES else self.tiles(kind)
         self.need(self.at == len(self.data), b"bytes after the request")
         return request
 
@@ -320,6 +355,34 @@ class JoinReader(Reader):
         self.complete = count
         return Tables(width, tuple(found))
 
+    def patch(self) -> patch_model.Patch:
+        """Read the measures of a patch. Its class and counts come before its rows and columns."""
+        counts = struct.unpack("<i4Q", self.take(36))
+        self.need(is_patch(patch_model.Patch(*counts, 0, 0, 0, 0)), b"bad patch")
+        rows = struct.unpack("<2Q", self.take(16))
+        self.need(is_patch(patch_model.Patch(*counts, *rows, 0, 0)), b"bad patch")
+        patch = patch_model.Patch(*counts, *rows, *struct.unpack("<2Q", self.take(16)))
+        self.need(is_patch(patch), b"bad patch")
+        return patch
+
+    def patches(self) -> Patches:
+        runs, parts, found = list[Run](), list[Part](), dict[int, patch_model.Patch]()
+        for _ in range(self.number("Q")):
+            run = struct.unpack("<4Q", self.take(32))
+            self.need(is_next_run(runs, run), b"bad run")
+            runs.append(run)
+        self.complete = 1
+        for _ in range(self.number("Q")):
+            tile, number = struct.unpack("<2Q", self.take(16))
+            self.need(not parts or parts[-1][:2] < (tile, number), b"patch order")
+            full = full_map_number(runs, tile, number)
+            self.need(full is not None, b"unknown patch")
+            parts.append(Part(tile, number, self.patch()))
+            fault = add(found, full or 0, parts[-1].patch)
+            self.need(not fault, fault)
+        self.complete = 2
+        return Patches(tuple(runs), tuple(parts))
+
     def tiles(self, connectivity: int) -> Tiles:
         rows, cols = self.number("I"), self.number("I")
         self.need(1 <= rows * cols <= MOST_TILES, b"bad number of tiles")
@@ -333,7 +396,8 @@ class JoinReader(Reader):
         return Tiles(connectivity, tuple(grid))
 
 
-Response = tuple[Union[None, Numbering, list[Entry]], Done]
+Found = Union[None, Numbering, list[Entry], Joined]
+Response = tuple[Found, Done]
 
 
 def expected(data: bytes) -> Optional[Response]:
@@ -345,6 +409,8 @@ def expected(data: bytes) -> Optional[Response]:
         return None, Done(1, 1, reader.complete, 0, 0, fault.text)
     if isinstance(request, Tables):
         return summed(request), Done()
+    if isinstance(request, Patches):
+        return joined_patches(request), Done()
     if sum(sum(tile.begun) for row in request.grid for tile in row) > MODELLED_PATCHES:
         return None
     return joined(request), Done()
@@ -360,13 +426,22 @@ class ResponseReader(JoinReader):
         counts = [self.number("Q") for _ in range(entries)]
         return [(self.line(width), count) for count in counts]
 
+    def joined(self) -> Joined:
+        fields = (struct.unpack("<Qi8Q", self.take(76)) for _ in range(self.number("Q")))
+        return [(number, patch_model.Patch(*patch)) for number, *patch in fields]
+
     def response(self) -> Response:
         if self.take(8) != b"RCELLA1\n":
             raise ValueError("not a response")
-        found: Union[None, Numbering, list[Entry]] = None
+        readers: dict[bytes, Callable[[], Found]] = {
+            b"JOIN": self.numbering,
+            b"SUMS": self.sums,
+            b"PATS": self.joined,
+        }
+        found: Found = None
         kind = self.take(4)
-        if kind in (b"JOIN", b"SUMS"):
-            found = self.numbering() if kind == b"JOIN" else self.sums()
+        if kind in readers:
+            found = readers[kind]()
             kind = self.take(4)
         if kind != b"DONE":
             raise ValueError(f"no frame of a join: {kind!r}")
@@ -428,7 +503,7 @@ def named_errors() -> Iterator[tuple[str, bytes]]:
     """Yield requests with each error, and the error's text."""
     data, tile = GOOD.data(), GOOD.grid[0][0]
     yield "bad magic", b"RCELLJ2" + data[7:]
-    for kind in (0, 2, 3, 5, 9, 255):  # kind 1 is followed by tables
+    for kind in (0, 3, 5, 9, 255):  # kind 1 is followed by tables, and kind 2 by runs
         yield "bad kind", MAGIC + bytes([kind]) + data[9:]
     for sizes in ((0, 1), (1, 0), (0, 0), (2**16, 2**16), (2**32 - 1, 2**32 - 1)):
         yield "bad number of tiles", MAGIC + struct.pack("<BII", 4, *sizes) + data[17:]
@@ -550,15 +625,19 @@ def check_examples(tests: Tests) -> None:
     tests.check("tables", "" if summed(TWO_TABLES) == SUMS else f"the model says {SUMS}")
     for tables in (TWO_TABLES, Tables(16, ((),)), Tables(1, ((((4,), 2**64 - 1),), ()))):
         tests.check("tables", tests.wrong(tables.data()))
+    found = joined_patches(TWO_PARTS)
+    tests.check("patches", "" if found == JOINED else f"the model says {found}")
+    for patches in (TWO_PARTS, Patches(TWO_PARTS.runs, ()), Patches((), ())):
+        tests.check("patches", tests.wrong(patches.data()))
 
 
 def check_errors(tests: Tests) -> None:
-    for text, data in (*named_errors(), *named_table_errors()):
+    for text, data in (*named_errors(), *named_table_errors(), *named_patch_errors()):
         found = expected(data)
         says = found[1].text.decode() if found else "too many patches"
         tests.check(text, "" if says == text else f"the model says {says} of {data!r}")
         tests.check(text, tests.wrong(data))
-    for data in (GOOD.data(), TWO_TABLES.data()):
+    for data in (GOOD.data(), TWO_TABLES.data(), TWO_PARTS.data()):
         for length in range(len(data)):
             tests.check(f"the first {length} bytes", tests.wrong(data[:length]))
 
@@ -587,6 +666,21 @@ def check_random_tiles(tests: Tests, chance: random.Random, name: str) -> None:
     tests.check(name, tests.wrong(damaged_bytes(chance, data) if kind > 0.8 else data))
 
 
+def check_random_patches(tests: Tests, chance: random.Random, name: str) -> None:
+    """Check joined patches. The patches of all tiles must give the patches of the full map."""
+    cut, depth = random_cut(chance), chance.randint(1, 3)
+    request = cut.patches(depth)
+    found, wanted = joined_patches(request), cut.full_map_patches(depth)
+    tests.check(name, "" if found == wanted else f"the models say {found} and {wanted} of {cut}")
+    kind = chance.random()
+    if kind < 0.2:
+        request = replace(request, parts=tuple(it for it in request.parts if chance.random() < 0.5))
+    elif kind < 0.6:
+        request = randomly_changed_patches(chance, request)
+    data = request.data()
+    tests.check(name, tests.wrong(damaged_bytes(chance, data) if kind > 0.8 else data))
+
+
 def main() -> int:
     programs = os.environ.get("RCELL_BIN", os.path.abspath(f"{__file__}/../../../bin"))
     parser = argparse.ArgumentParser()
@@ -602,6 +696,7 @@ def main() -> int:
         name = f"random request {number} of seed {settings.seed}"
         check_random_tiles(tests, chance, name)
         check_random_tables(tests, chance, name)
+        check_random_patches(tests, chance, name)
     print(f"{tests.passed} passed, {tests.failed} failed")
     return tests.failed > 0
 

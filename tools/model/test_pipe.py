@@ -36,7 +36,10 @@ from made_cases import NAMES, ScriptMaker
 from model import Refused, ScriptReader
 from patch_model import Cells, main_zones, patch_numbers, patches
 from pipe_model import (
+    BORDER,
     NULL,
+    NUMBERS,
+    PATCHES,
     TYPES,
     UNITS,
     Edges,
@@ -46,6 +49,7 @@ from pipe_model import (
     Reader,
     Rejected,
     Response,
+    border,
     cell_text,
     header,
     printed,
@@ -188,14 +192,16 @@ def random_questions(
     def name(others: list[bytes]) -> bytes:
         return choice.choice(others if choice.random() < badness else known)
 
+    def zones(kind: int) -> bytes:
+        is_empty = not kind & PATCHES and choice.random() >= badness
+        return choice.choice([b"", b"" if is_empty else name([b"nowhere", b"2", b"a" * 65])])
+
+    def question(kind: int) -> Question:
+        depth = choice.choice([1, 1, 2, 3, 40, 2**32 - 1])
+        return Question(name([b"", b"nowhere"]), choice.choice([4, 8]), depth, zones(kind), kind)
+
     return [
-        Question(
-            name([b"", b"nowhere"]),
-            choice.choice([4, 8]),
-            choice.choice([1, 1, 2, 3, 40, 2**32 - 1]),
-            choice.choice([b"", name([b"nowhere", b"2", b"a" * 65])]),
-            choice.choice([0, 3, 255] if choice.random() < badness else [1, 2]),
-        )
+        question(choice.choice([0, 8, 255]) if choice.random() < badness else choice.randint(1, 7))
         for _ in range(choice.choice([0, 0, 1, 1, 2, 4]))
     ]
 
@@ -254,7 +260,9 @@ def wrong_answers(
 def frames_of(place: int, question: Question, maps: dict[bytes, Cells]) -> list[Frame]:
     """Return the frames of a question, by the plain model."""
     cells, connectivity = maps[question.map], question.connectivity
-    numbers = {"kind": b"NUMB", "question": place, "rows": patch_numbers(cells, connectivity)}
+    rows = patch_numbers(cells, connectivity)
+    numbers = {"kind": b"NUMB", "question": place, "rows": rows}
+    sides = {"kind": b"BORD", "question": place, "border": border(cells, rows)}
     measures = {
         "kind": b"PTCH",
         "question": place,
@@ -263,7 +271,8 @@ def frames_of(place: int, question: Question, maps: dict[bytes, Cells]) -> list[
         "patches": patches(cells, connectivity, question.depth),
         "zones": main_zones(cells, connectivity, maps[question.zones]) if question.zones else None,
     }
-    return [numbers, measures] if question.kind == 2 else [measures]
+    wanted = (NUMBERS, numbers), (BORDER, sides), (PATCHES, measures)
+    return [frame for flag, frame in wanted if question.kind & flag]
 
 
 def wrong_questions(
@@ -332,7 +341,7 @@ def wrong_script(
 def wrong_reading(programs: Programs, data: bytes) -> str:
     """Return the error if bytes are not read as the plain reader does, up to the same first
     error."""
-    if data.startswith((b"RCELLP1\n", b"RCELLT1\n")):
+    if data.startswith((b"RCELLP1\n", b"RCELLT1\n", b"RCELLW1\n")):
         return ""  # the damage changed its form
     try:
         maps, script, questions = Reader(data).run()
@@ -416,11 +425,12 @@ def named_errors_of_questions(maps: list[Raster], script: bytes) -> Iterator[tup
     """Yield a request for each error of a question."""
     first = Question(b"land")
     yield "bad question", request(maps, script, [replace(first, kind=0)])
-    yield "bad question", request(maps, script, [first, replace(first, kind=3)])
+    yield "bad question", request(maps, script, [first, replace(first, kind=8)])
     yield "bad connectivity", request(maps, script, [replace(first, connectivity=6)])
     yield "bad depth", request(maps, script, [first, first, replace(first, depth=0)])
     yield "bad zones", request(maps, script, [replace(first, map=b"lan", zones=b"2")])
     yield "bad zones", request(maps, script, [first, replace(first, zones=b"a" * 65)])
+    yield "bad zones", request(maps, script, [replace(first, kind=6, zones=b"land")])
     yield "bad depth", request(maps, script, [replace(first, depth=0, zones=b"2")])
     yield "unknown map", request(maps, script, [first, replace(first, zones=b"lan")])
     yield "unknown map", request(maps, script, [first, replace(first, map=b"lan")])
@@ -549,8 +559,8 @@ def wrong_order(programs: Programs) -> str:
 
 def few_bytes() -> bytes:
     first = Question(b"b", 8, 2, zones=b"land")
-    numbers = Question(b"land", kind=2)
-    return request(*few_maps(), [first, numbers, Question(b"k", zones=b"k", kind=2)])
+    numbers = Question(b"land", kind=NUMBERS)
+    return request(*few_maps(), [first, numbers, Question(b"k", zones=b"k", kind=7)])
 
 
 def text_bytes() -> bytes:
