@@ -141,7 +141,12 @@ LATE = [
     Part(
         "pipe",
         "rcell-pipe on random requests beside rcell, and on damaged ones",
-        [tool("model/test_pipe.py", CLANG), tool("model/test_plan.py"), tool("model/test_join.py")],
+        [
+            tool("model/test_pipe.py", CLANG),
+            tool("model/test_tiles.py"),
+            tool("model/test_plan.py"),
+            tool("model/test_join.py"),
+        ],
     ),
     Part("documents", "each example of the documents", [tool("documents/documents.py")]),
     Part(

@@ -1,5 +1,5 @@
 # make lint      checks sources and documents against the rules, in seconds; WRITE=1 shortens the lists of exceptions
-# make reading   prints the definitions to believe, in reading order; COMMAND=r.stats for one command
+# make reading   prints the definitions to believe, in reading order; COMMAND=r.stats for one command, or PROGRAM=rcell-pipe
 # make site      makes dist/site, the documents as pages of HTML with search and references; it works from the file system
 # make site-check  opens each page of it in headless Chromium
 
@@ -17,4 +17,4 @@ lint:
 	python3 tools/lint $(if $(WRITE),--write)
 
 reading:
-	@python3 tools/lint/reading.py $(COMMAND)
+	@python3 tools/lint/reading.py $(if $(PROGRAM),--program $(PROGRAM)) $(COMMAND)

@@ -81,10 +81,10 @@ FENCE = re.compile(
 )
 # The text about the lines to be believed: the numbers, and the words around them.
 READING_ROW = re.compile(
-    r"(`make reading(?: COMMAND=(?P<command>\S+))?` \| )(\d+)( \| )(\d+)( \| )(\d+)( \|)"
+    r"(`make reading(?: (?P<what>(?:COMMAND|PROGRAM)=\S+))?` \| )(\d+)( \| )(\d+)( \| )(\d+)( \|)"
 )
 READING_SENTENCE = re.compile(
-    r"(for a table of (?P<command>r\.\w+), )(\d+)( lines, or )(\d+)( with comments)"
+    r"(for a table of (?P<what>r\.\w+), )(\d+)( lines, or )(\d+)( with comments)"
 )
 # The sentence in README.md about the sizes of code and proofs, in thousands of lines.
 SIZES_SENTENCE = re.compile(r"(\d+)(,000 lines, for )(\d+)(?=,000 lines of code)")
@@ -325,15 +325,12 @@ def check_differences(program):
     return passed, faults
 
 
-def counts_of_reading(command):
-    """Return the numbers of lines to be believed: of definitions, with comments, and of Rust
-    types."""
-    words = [
-        sys.executable,
-        f"{ROOT}/tools/lint/reading.py",
-        "--count",
-        *([command] if command else []),
-    ]
+def counts_of_reading(what):
+    """Return the numbers of lines to be believed: of definitions, with comments, and of Rust types.
+    `what` is a command, also as COMMAND=NAME, or PROGRAM=NAME, or empty."""
+    words = [sys.executable, f"{ROOT}/tools/lint/reading.py", "--count"]
+    kind, _, name = what.rpartition("=")
+    words += ["--program", name] if kind == "PROGRAM" else [name] if name else []
     return re.findall(r"\d+", subprocess.check_output(words, text=True))
 
 
@@ -370,13 +367,13 @@ def check_reading(write):
 
         def with_counts(found):
             nonlocal counted
-            around, command, *parts = found.groups()
+            around, what, *parts = found.groups()
             told, between = parts[0::2], [around, *parts[1::2]]
-            wanted = counts_of_reading(command)[: len(told)]
+            wanted = counts_of_reading(what or "")[: len(told)]
             counted += told == wanted
             if told != wanted:
                 faults.append(
-                    f"{name}: {command or 'all'} has {', '.join(wanted)} lines, and not {', '.join(told)}"
+                    f"{name}: {what or 'all'} has {', '.join(wanted)} lines, and not {', '.join(told)}"
                 )
             return "".join(text for pair in zip(between, [*wanted, ""]) for text in pair)
 
@@ -390,8 +387,14 @@ def check_reading(write):
 def names_not_read():
     """Return the names that tools/lint/reading.py leaves out although a printed definition uses
     them."""
-    words = [sys.executable, f"{ROOT}/tools/lint/reading.py", "--check"]
-    return subprocess.run(words, stdout=subprocess.PIPE, text=True).stdout.splitlines()[:-1]
+    words = [sys.executable, f"{ROOT}/tools/lint/reading.py", "--check", "--program"]
+    return [
+        line
+        for program in ("rcell", "rcell-pipe")
+        for line in subprocess.run(
+            [*words, program], stdout=subprocess.PIPE, text=True
+        ).stdout.splitlines()[:-1]
+    ]
 
 
 def warnings_of_man(page):

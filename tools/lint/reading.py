@@ -2,10 +2,11 @@
 """Print what has to be believed of the program: the definitions that its theorem uses, in reading
 order.
 
-    reading.py [--count | --check] [COMMAND]
+    reading.py [--count | --check] [--program PROGRAM] [COMMAND]
 
-The theorem is the clause `headline` of rcell::run. The definitions and the declarations of Rust
-types that it cites are followed from there. Each is printed after those that it uses, with its
+The theorem about `rcell` is the clause `headline` of rcell::run, and the theorem about `rcell-pipe`
+is the clause `done` of rcell_pipe::exchange. The definitions and the declarations of Rust types
+that it cites are followed from there. Each is printed after those that it uses, with its
 comment and under the name of its file. COMMAND (r.mapcalc, r.reclass, r.clump, r.stats,
 r.out.ascii) leaves out what only the other commands use, with their equations and constructors. For
 r.stats, it also leaves out the lines of single cells (-1).
@@ -23,7 +24,11 @@ import sys
 
 import sources
 
-RUN_FILE, RUN, HEADLINE = "rcell/src/running.rt", "run", "headline"
+# For each program, the file, function and clause of its theorem.
+THEOREMS = {
+    "rcell": ("rcell/src/running.rt", "run", "headline"),
+    "rcell-pipe": ("rcell_pipe/src/exchanging.rt", "exchange", "done"),
+}
 # What only one command uses begins at these definitions: how a line spells the command, and what it
 # makes or prints.
 BEGINNINGS = {
@@ -148,17 +153,17 @@ class Reading:
             targets = [*targets, (definition.module, head)]
         return targets
 
-    def starts(self):
-        """Return what the headline cites."""
-        text = next(text for _, path, text in sources.read_files("src") if path == RUN_FILE)
+    def starts(self, file, function, label):
+        """Return the clause of a theorem, and what it cites."""
+        text = next(text for _, path, text in sources.read_files("src") if path == file)
         imports, found = sources.read_imports(text), {}
         clauses = [
             clause
             for it in sources.read_functions()
-            if (it.path, it.name) == (RUN_FILE, RUN)
+            if (it.path, it.name) == (file, function)
             for clause in it.clauses
         ]
-        headline = next(it for it in clauses if it.label == HEADLINE)
+        headline = next(it for it in clauses if it.label == label)
         for word in sources.words_of(headline.condition):
             found.update(
                 {it: None for target in imports.targets(word) if (it := self.resolve(target))}
@@ -216,9 +221,10 @@ def lines_of_code(text):
     return [line for line in text.split("\n") if line.strip() and not line.strip().startswith("//")]
 
 
-def print_reading(reading, headline, order, stops):
-    """Print what was found, under the names of files."""
-    print(f"-- {RUN_FILE}: the theorem\n{headline.text}")
+def print_reading(reading, theorem, order, stops):
+    """Print a theorem and what was found, under the names of files."""
+    file, headline = theorem
+    print(f"-- {file}: the theorem\n{headline.text}")
     last = None
     for key in order:
         path, text = (
@@ -248,6 +254,7 @@ def main():
         action="store_true",
         help="print the names that a printed definition uses and that are not printed",
     )
+    parser.add_argument("--program", choices=THEOREMS, default="rcell", help="whose theorem")
     parser.add_argument(
         "command",
         nargs="?",
@@ -265,14 +272,15 @@ def main():
         for name in names
     }
     stops.update(BESIDES.get(words.command, []) if words.command else [])
-    headline, starts = reading.starts()
+    theorem = THEOREMS[words.program]
+    headline, starts = reading.starts(*theorem)
     order = reading.walk(starts, stops)
     if words.check:
         missing = unprinted(reading, order)
         print("\n".join([*missing, f"{len(missing)} names are not printed"]))
         return 1 if missing else 0
     if not words.count:
-        print_reading(reading, headline, order, stops)
+        print_reading(reading, (theorem[0], headline), order, stops)
     found = [key for key in order if key in reading.definitions]
     lines = sum(1 for key in found for line in reading.lines_without(key, stops) if line.strip())
     types = sum(len(lines_of_code(reading.types[key][1])) for key in order if key in reading.types)

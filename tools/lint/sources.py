@@ -28,7 +28,7 @@ CITED_PATH = re.compile(r"(?:crate|\w+)::(?:specs|proofs)::[\w:\-]+")
 WORD = re.compile(r"[^\s(){}\[\],;=]+")
 DEFINITION = re.compile(r"(\s*)(abbrev |unfoldable )?(pub )?([^\s:(){}]+) (?:\([^:]*\) )*: ")
 TYPE_DEFINITION = re.compile(r"(\s*)(?:abbrev |unfoldable )?(pub )?(record|data) ([\w'\-]+)")
-RUST_TYPE = re.compile(r"^pub (?:struct|enum) (\w+)[^{;\n]*\{", re.MULTILINE)
+RUST_TYPE = re.compile(r"^pub(?:\(crate\))? (?:struct|enum) (\w+)[^{;\n]*\{", re.MULTILINE)
 RUST_CONSTANT = re.compile(r"^pub const (\w+): [^;]*;", re.MULTILINE)
 LITERAL = re.compile(r"'(\\x..|\\.|[^\\'])'")
 CLOSING = {"{": "}", "(": ")", "[": "]"}
