@@ -24,6 +24,7 @@ from .responses import (
     NULL,
     NULL_BYTE,
     AnyFrame,
+    BorderFrame,
     Call,
     Done,
     Frame,
@@ -41,6 +42,7 @@ __all__ = [
     "NULL",
     "NULL_BYTE",
     "Block",
+    "BorderFrame",
     "Buffer",
     "Call",
     "Fault",
@@ -287,9 +289,10 @@ _PROBE_SCRIPT = (
     b"r.clump -d input=probe output=k\nr.stats -c input=probe,k after=7,1\nr.stats -1 "
     b"input=k\nr.out.ascii input=k\n"
 )
-_PROBE_QUESTION = Question("probe", 8, 1, with_numbers=True)
+_PROBE_QUESTION = Question("probe", 8, 1, with_numbers=True, with_border=True)
+_PROBE_ROWS = [7, NULL, 12, 1, NULL, 2] * 2  # the first and the last row, with their numbers
 _PROBE_CELLS = [struct.pack("<4i", 12, 2, NULL, NULL), struct.pack("<3i", 1, NULL, 2)]
-_PROBE_CELLS += [b"\1\xff\2"] * 2
+_PROBE_CELLS += [b"\1\xff\2"] * 2 + [struct.pack("<19i", 1, 3, *_PROBE_ROWS, 7, 1, 12, 2, 2)]
 
 
 def is_known(program: str, seconds: float) -> bool:
@@ -305,7 +308,11 @@ def is_known(program: str, seconds: float) -> bool:
         frames = run(program, [probe], _PROBE_SCRIPT, [_PROBE_QUESTION], seconds=seconds)
     except (Rejected, Killed, NoAnswer):
         return False
-    cells = [bytes(frame.cells) for frame in frames if not isinstance(frame, PatchesFrame)]
+    cells = [
+        bytes(frame.border if isinstance(frame, BorderFrame) else frame.cells)
+        for frame in frames
+        if not isinstance(frame, PatchesFrame)
+    ]
     return cells == _PROBE_CELLS
 
 

@@ -23,7 +23,7 @@ CELL_BYTES = {"u8": 1, "i8": 1, "u16": 2, "i16": 2, "u32": 4, "i32": 4, "i64": 8
 """The cell types of input maps, in the order of their codes, from 1."""
 
 _CODES = {name: code for code, name in enumerate(CELL_BYTES, 1)}
-_PATCHES, _PATCHES_AND_NUMBERS = 1, 2  # the codes of questions about patches
+_PATCHES, _NUMBERS, _BORDER = 1, 2, 4  # what a question asks for
 # Rows and masks are interleaved in pieces that fit in a processor's cache.
 PIECE_BYTES = 1 << 18
 
@@ -159,15 +159,15 @@ class Question(NamedTuple):
     zones : str
         The name of a map of zones, or an empty string. With zones, each patch is returned with the
         zone that contains most of its cells.
-    with_numbers : bool
-        Whether the map of patch numbers is returned as well.
+    with_numbers, with_border : bool
+        Whether the map of patch numbers, and the map's border, are returned as well.
 
     Examples
     --------
     >>> Question("lc", 4, 1).bytes()
     b'\\x01\\x02lc\\x04\\x01\\x00\\x00\\x00\\x00'
     >>> Question("lc", 4, 1, with_numbers=True).bytes()
-    b'\\x02\\x02lc\\x04\\x01\\x00\\x00\\x00\\x00'
+    b'\\x03\\x02lc\\x04\\x01\\x00\\x00\\x00\\x00'
     """
 
     map: str
@@ -175,6 +175,7 @@ class Question(NamedTuple):
     depth: int
     zones: str = ""
     with_numbers: bool = False
+    with_border: bool = False
 
     @property
     def is_diagonal(self) -> bool:
@@ -189,14 +190,15 @@ class Question(NamedTuple):
     def bytes(self) -> bytes:
         """Return the bytes that encode the question."""
         numbers = struct.pack("<BI", self.connectivity, self.depth)
-        kind = _PATCHES_AND_NUMBERS if self.with_numbers else _PATCHES
+        kind = _PATCHES + _NUMBERS * self.with_numbers + _BORDER * self.with_border
         return bytes([kind]) + _short(self.map) + numbers + _short(self.zones)
 
     def text(self) -> str:
         """Return the question as a comment, which follows the script in records."""
         numbers = f"connectivity {self.connectivity}, core depth {self.depth}"
         zones = f", zones {self.zones}" if self.zones else ""
-        wanted = f"patches of {self.map}" + (" and their numbers" if self.with_numbers else "")
+        wanted = f"patches of {self.map}" + ", their numbers" * self.with_numbers
+        wanted += ", the map's border" * self.with_border
         return f"# question: {wanted}, {numbers}{zones}"
 
 
@@ -229,10 +231,7 @@ def join_request(
     Parameters
     ----------
     borders : sequence of buffers
-        A border for each tile, row by row from the top left. A border contains 32-bit integers: the
-        rows and columns of the tile; the cells and the patch numbers of its first row, last row,
-        first column and last column, with -2,147,483,648 for null; and, for each row, the number of
-        patches that begin in the row.
+        A border for each tile, row by row from the top left, as in `responses.BorderFrame`.
     shape : tuple of two ints
         The number of rows and of columns of tiles.
     connectivity : {4, 8}

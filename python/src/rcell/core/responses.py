@@ -17,6 +17,7 @@ __all__ = [
     "PATCH_BYTES",
     "ZONE_BYTES",
     "AnyFrame",
+    "BorderFrame",
     "Call",
     "Done",
     "Frame",
@@ -163,6 +164,24 @@ class NumbersFrame:
     cells: memoryview
 
 
+@dataclass(frozen=True)
+class BorderFrame:
+    """The border of a map, which precedes the patches of a question that asks for it.
+
+    Attributes
+    ----------
+    question : int
+        The index of the question, counted from 0.
+    border : memoryview
+        32-bit integers: the rows and columns of the map; the cells and the patch numbers of its
+        first row, last row, first column and last column, with `NULL` for null; and, for each row,
+        the number of patches that begin in the row. `requests.join_request` joins such borders.
+    """
+
+    question: int
+    border: memoryview
+
+
 class Call(NamedTuple):
     """A call to `row()`, `col()`, `nrows()` or `ncols()`, and its range of bytes in the line."""
 
@@ -233,7 +252,7 @@ class JoinFrame:
     runs: memoryview
 
 
-Frame = Union[TableFrame, GridFrame, PatchesFrame, NumbersFrame]
+Frame = Union[TableFrame, GridFrame, PatchesFrame, NumbersFrame, BorderFrame]
 AnyFrame = Union[Frame, Statement, JoinFrame]
 
 
@@ -346,6 +365,12 @@ class _Response:
     def patch_numbers(self) -> NumbersFrame:
         return NumbersFrame(self.count(), *self.map_cells())
 
+    def border(self) -> BorderFrame:
+        question, size = self.count(), self.take(8)
+        rows, cols = struct.unpack("<2I", size)
+        lines = self.take(4 * (4 * cols + 5 * rows))  # pairs of rows and columns, and the counts
+        return BorderFrame(question, memoryview(size + lines).cast("i"))
+
     def patches(self) -> PatchesFrame:
         question = self.count()
         *_, has_zones = self.take(6)  # after connectivity and depth, which are known
@@ -417,6 +442,7 @@ class _Response:
             b"CELL": self.table,
             b"GRID": self.grid,
             b"NUMB": self.patch_numbers,
+            b"BORD": self.border,
             b"PTCH": self.patches,
             b"PLAN": self.statement,
             b"JOIN": self.join,

@@ -208,7 +208,7 @@ def ask(
             _tell_host("\n".join(["", question.text()]), maps)
             # The question returns the numbers, so the script only counts zones.
             script = [each for each in plan if each.command != "r.out.ascii"]
-            asked = question._replace(zones="", with_numbers=True)
+            asked = question._replace(zones="", with_numbers=True, with_border=True)
             ask_tiles(asked, script if question.zones else [], maps, demand, fold)
             return True
     [found] = _frames("", maps, (question,))

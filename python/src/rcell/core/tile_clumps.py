@@ -20,7 +20,16 @@ from .host import host
 from .programs import find_pipe, program_errors
 from .protocol import NO_MEMORY, NULL
 
-__all__ = ["SIDES", "Joined", "TileNumbers", "begun_in", "border_of", "join", "renumber"]
+__all__ = [
+    "SIDES",
+    "Joined",
+    "TileNumbers",
+    "begun_in",
+    "border_of",
+    "join",
+    "open_clumps",
+    "renumber",
+]
 
 Integers = NDArray[Any]
 
@@ -92,6 +101,20 @@ def border_of(sides: Sequence[tuple[Integers, Integers]], begun: Integers) -> In
         parts += [cells.ravel(), np.where(numbers == NO_CLUMP, NULL, numbers).ravel()]
     border: Integers = np.concatenate([*parts, begun]).astype(np.int32)
     return border
+
+
+def open_clumps(border: Integers) -> Integers:
+    """Return the clumps in the border of a tile, which may continue outside the tile.
+
+    Examples
+    --------
+    >>> open_clumps(np.array([1, 2] + [8, NULL, 1, NULL] * 2 + [8, 1, NULL, NULL, 1])).tolist()
+    [1]
+    """
+    rows, cols = border[:2]
+    lines = np.split(border[2:-rows], np.cumsum([cols] * 4 + [rows] * 3))
+    clumps: Integers = np.setdiff1d(np.concatenate(lines[1::2]), NULL)
+    return clumps
 
 
 def begun_in(numbers: Integers) -> Integers:

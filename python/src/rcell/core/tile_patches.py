@@ -11,12 +11,20 @@ import numpy as np
 
 from .arrays import NDArray
 from .counting import places_of
-from .protocol import NULL, Frame, NumbersFrame, PatchesFrame, Question, TableFrame
+from .protocol import (
+    NULL,
+    BorderFrame,
+    Frame,
+    NumbersFrame,
+    PatchesFrame,
+    Question,
+    TableFrame,
+)
 from .rectangles import Rectangle
 from .responses import PATCH_BYTES, ZONE_BYTES
 from .runs import entries_of
 from .sources import Block, null_cells
-from .tile_clumps import NO_CLUMP, border_of
+from .tile_clumps import NO_CLUMP, open_clumps
 from .tile_tables import order_of
 from .tile_work import TileWork, wide
 from .tiling import in_threads
@@ -63,21 +71,20 @@ def measures_of(work: TileWork, frames: Sequence[Frame]) -> list[Integers]:
     Open patches may continue outside the tile.
     """
     [question] = work.questions
-    *tables, grid, patches = frames
+    *tables, grid, sides, patches = frames
     assert isinstance(grid, NumbersFrame) and isinstance(patches, PatchesFrame)
+    assert isinstance(sides, BorderFrame)
     rows = np.frombuffer(patches.rows, PATCH)
     source = work.maps[question.map]
     numbers = np.asarray(grid.cells).reshape(grid.rows, grid.cols)
     block = source.window(*work.outer)
     tile = _Tile(work.place, work.outer, work.shape, block, source.nodata, numbers)
-    sides = [(tile.classes(side), tile.numbers(side)) for side, _, _ in tile.sides()]
-    border = border_of(sides, np.bincount(rows["top"], minlength=work.place.rows))
     tile.leave_out_inner_sides(rows)
     tile.add_core_cells(rows, question)
     for name, first in zip(("top", "bottom", "left", "right"), np.repeat(work.place[:2], 2)):
         rows[name] += first
-    open_ones = np.unique(np.concatenate([numbers.ravel() for _, numbers in sides]))
-    told = [border, rows, open_ones[open_ones != NO_CLUMP]]
+    border = np.asarray(sides.border)
+    told = [border, rows, open_clumps(border)]
     return told + [entries_of(table) for table in tables if isinstance(table, TableFrame)]
 
 

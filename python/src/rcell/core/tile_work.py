@@ -22,7 +22,7 @@ from .rectangles import Rectangle
 from .region import Region
 from .runs import entries_of
 from .sources import Block
-from .tile_clumps import NO_CLUMP, SIDES, begun_in, border_of
+from .tile_clumps import NO_CLUMP, SIDES, begun_in, border_of, open_clumps
 
 __all__ = ["TileDone", "TileWork", "clumps_of", "outputs_of", "patches_of", "run_work", "wide"]
 
@@ -198,12 +198,8 @@ def _patches(is_counted: bool, work: TileWork, frames: Sequence[protocol.Frame])
     sides = [(wide(classes[side], NULL), wide(numbers[side], NO_CLUMP)) for side in SIDES]
     if numbers.dtype == np.uint8:
         numbers = wide(numbers, NO_CLUMP)
-    open_clumps = np.unique(np.concatenate([side_numbers.ravel() for _, side_numbers in sides]))
-    return [
-        border_of(sides, begun_in(numbers)),
-        _table_of(table, work, is_counted),
-        open_clumps[open_clumps != NO_CLUMP],
-    ]
+    border = border_of(sides, begun_in(numbers))
+    return [border, _table_of(table, work, is_counted), open_clumps(border)]
 
 
 def _cells_of(frame: GridFrame, work: TileWork) -> Integers:
