@@ -8,7 +8,7 @@
 # make lint      checks sources and documents against the rules (seconds)
 # make documents runs each example of the documents on the programs in bin/, and compares
 # make edits     tries all wrong bodies and turned definitions: the proofs have to fail; OF="rcell cell_cats" those of these crates
-# make reading   prints the definitions to believe, in reading order; COMMAND=r.stats for one command
+# make reading   prints the definitions to believe, in reading order; COMMAND=r.stats for one command, or PROGRAM=rcell-pipe
 # make example   proves and builds bin/rcell alone, and counts the land cover of examples/land-cover
 # make install   puts what is built below PREFIX (/usr/local; DESTDIR goes before it); make uninstall removes it
 # make dist      makes the release in dist/: tarball, packages, wheel, objects, bill of materials
