@@ -46,8 +46,8 @@ fn push_patch_category<W: Sink>(out: &mut W, block: &mut OutputBlock, class: i32
     block.push(out, &class.to_le_bytes());
 }
 
-// Writes a patch.
-fn push_patch<W: Sink>(out: &mut W, block: &mut OutputBlock, patch: &Patch)
+/// Writes the class and the measures of a patch.
+pub fn push_patch_measures<W: Sink>(out: &mut W, block: &mut OutputBlock, patch: &Patch)
     ensures { IsTextAppendedThroughBlock W.taken W.faults out.old block.old
         (patch_bytes patch.now) out.new block.new }
 {
@@ -69,7 +69,7 @@ fn push_each_patch<W: Sink>(out: &mut W, block: &mut OutputBlock, patches: &[Pat
         out.new block.new }
 {
     for patch in patches {
-        push_patch(out, block, patch);
+        push_patch_measures(out, block, patch);
     }
 }
 
@@ -92,7 +92,7 @@ fn push_patch_with_zone<W: Sink>(
         (zoned_patch_bytes (patch.now, zone))
         out.new block.new }
 {
-    push_patch(out, block, patch);
+    push_patch_measures(out, block, patch);
     push_zone_of_patch(out, block, zone);
 }
 

@@ -1,8 +1,8 @@
 //! Writes the frames of a numbering, of sums, and of joined patches.
 
-ghost use Rattle.std.specs.Prelude.{Some, flat_map};
+ghost use Rattle.std.specs.Prelude.{flat_map};
 ghost use Rattle.cell_core_devices.specs.Blocks.{IsTextAppendedThroughBlock};
-ghost use Rattle.rcell_pipe_frames.specs.FrameBytes.{cell_bytes_of_combinations, eight_bytes_of_number, four_bytes_of_cell, patch_bytes};
+ghost use Rattle.rcell_pipe_frames.specs.FrameBytes.{cell_bytes_of_combinations, eight_bytes_of_number};
 ghost use Rattle.rcell_pipe_join.specs.JoinFrames.{joined_patches_bytes, numbered_patch_bytes, numbering_bytes, patch_number_run_bytes, table_sums_bytes};
 
 use cell_core::block::OutputBlock;
@@ -11,6 +11,7 @@ use cell_join_numbers::stretch::ConsecutiveClumps;
 use cell_patches::patch::Patch;
 use cell_stats_combinations::combination::Combo;
 use rcell_pipe_frames::bytes::{push_cells_in_four_bytes, push_eight_byte_number};
+use rcell_pipe_frames::patches_frame::push_patch_measures;
 use std::collections::BTreeMap;
 
 // Writes a run.
@@ -89,31 +90,6 @@ pub(crate) fn push_table_sums<W: Sink>(
     push_eight_byte_number(out, block, width as u64);
     push_counts(out, block, entries);
     push_combinations(out, block, entries);
-}
-
-// Writes the class of a patch.
-fn push_patch_class<W: Sink>(out: &mut W, block: &mut OutputBlock, class: i32)
-    ensures { IsTextAppendedThroughBlock W.taken W.faults out.old block.old
-        (four_bytes_of_cell (Some class))
-        out.new block.new }
-{
-    block.push(out, &class.to_le_bytes());
-}
-
-// Writes the measures of a patch.
-fn push_patch_measures<W: Sink>(out: &mut W, block: &mut OutputBlock, patch: &Patch)
-    ensures { IsTextAppendedThroughBlock W.taken W.faults out.old block.old
-        (patch_bytes patch.now) out.new block.new }
-{
-    push_patch_class(out, block, patch.class);
-    push_eight_byte_number(out, block, patch.cells);
-    push_eight_byte_number(out, block, patch.ends);
-    push_eight_byte_number(out, block, patch.flanks);
-    push_eight_byte_number(out, block, patch.core);
-    push_eight_byte_number(out, block, patch.first_row as u64);
-    push_eight_byte_number(out, block, patch.last_row as u64);
-    push_eight_byte_number(out, block, patch.first_col as u64);
-    push_eight_byte_number(out, block, patch.last_col as u64);
 }
 
 // Writes a patch of the full map.

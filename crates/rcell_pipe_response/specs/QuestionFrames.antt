@@ -1,7 +1,7 @@
 -- The frames for questions about the maps at the end of a script, and the questions that are rejected (profile).
-use Rattle.std.specs.Prelude.{ℕ, ◌+◌, ◌≡◌, Bool, true, false, ◌||◌, List, [], ◌∷◌, ◌++◌, length, slice_get}
+use Rattle.std.specs.Prelude.{ℕ, ◌+◌, ◌≡◌, Bool, true, false, ◌||◌, ◌&&◌, List, [], ◌∷◌, ◌++◌, length, slice_get}
 use Rattle.std.specs.Prelude.{Option, Some, None, if◌then◌else◌}
-use Rattle.std.specs.Option.{is_none}
+use Rattle.std.specs.Option.{is_none, option_map}
 use Rattle.cell_core_values.specs.Name.{place_of_name}
 use Rattle.cell_core_values.specs.Region.{RegionValue}
 use Rattle.cell_core.specs.Grid.{Grid, CellValue}
@@ -11,15 +11,23 @@ use Rattle.cell_clumps.specs.declared.clump.Joining.{Joining}
 use Rattle.cell_join_tiles.specs.JoinedBorders.{TileHasBorder}
 use Rattle.cell_join_tiles.specs.Values.{TileBorderValue, TileBorderHasSize}
 use Rattle.cell_patches.specs.declared.patch.Patch.{Patch}
+use Rattle.cell_patches.specs.declared.tile_position.TilePosition.{TilePosition}
 use Rattle.cell_patches.specs.Patches.{AreMeasuresOfAllPatches}
+use Rattle.cell_patches.specs.TilePatches.{AreMeasuresOfAllPatchesInTile}
 use Rattle.cell_patches.specs.Zones.{AreMainZones}
 use Rattle.rcell_script.specs.KnownMaps.{known_names_after_command}
 use Rattle.rcell_script.specs.declared.statement.Statement.{Statement}
+use Rattle.rcell_tile.specs.TilePlaces.{TilePlaceValue}
+use Rattle.rcell_tile.specs.TileMaps.{halo_rows_above, halo_columns_left}
+use Rattle.rcell_tile.specs.TileRuns.{RunShelvesValue, inner_shelf}
+use Rattle.rcell_tile.specs.HaloMargins.{depth_exceeds_margin, margins_of_maps}
+use Rattle.rcell_tile.specs.declared.halo_margins.HaloMargin.{HaloMargin}
 use Rattle.rcell_pipe_request.specs.Questions.{PatchQuestionValue}
 use Rattle.rcell_pipe_response.specs.declared.frame_run.ResponseForm.{ResponseForm}
 use Rattle.rcell_pipe_response.specs.declared.frame_run.ResponseForm.TheVariants.{Frames, Text}
 use Rattle.rcell_pipe_response.specs.declared.question_error.QuestionErrorKind.{QuestionErrorKind}
-use Rattle.rcell_pipe_response.specs.declared.question_error.QuestionErrorKind.TheVariants.{UnknownMap, OfText}
+use Rattle.rcell_pipe_response.specs.declared.question_error.QuestionErrorKind.TheVariants.{UnknownMap, HaloTooSmall}
+use Rattle.rcell_pipe_response.specs.declared.question_error.QuestionErrorKind.TheVariants.{OfText}
 use Rattle.rcell_pipe_response.specs.declared.question_error.QuestionError.{QuestionError}
 use Rattle.rcell_pipe_frames.specs.Frames.{OutputFrame, Patches, PatchNumbers, Border, patch_numbers_frame}
 
@@ -28,19 +36,40 @@ abbrev pub names_of_all_maps : List (List ℕ) → List Statement → List (List
 names_of_all_maps names [] = names
 names_of_all_maps names (s ∷ ss) = names_of_all_maps (known_names_after_command names s.command) ss
 
+-- the margins of all maps after the statements, in a tile; full maps need no margins
+abbrev pub margins_in_tile_at_end : RunShelvesValue → List Statement → Option (List HaloMargin)
+margins_in_tile_at_end shelves statements =
+    option_map (λ place. margins_of_maps place (length shelves.outer.names) statements) shelves.place
+
 -- a question's map of zones is none of the maps with these names
 abbrev pub question_has_unknown_zone_map : List (List ℕ) → Option (List ℕ) → Bool
 question_has_unknown_zone_map names None = false
 question_has_unknown_zone_map names (Some zones) = is_none (place_of_name zones names)
 
--- why a question is rejected: the response is text, which cannot contain its frame, or one of its maps is unknown
-abbrev pub question_error_kind_if_rejected : ResponseForm → List (List ℕ) → PatchQuestionValue
-    → Option QuestionErrorKind
-question_error_kind_if_rejected Text names question = Some OfText
-question_error_kind_if_rejected Frames names question =
-    if is_none (place_of_name question.map names) || question_has_unknown_zone_map names question.zones then Some
-    UnknownMap else
-    None
+-- one of a question's maps is none of the maps with these names
+abbrev pub question_has_unknown_map : List (List ℕ) → PatchQuestionValue → Bool
+question_has_unknown_map names question =
+    is_none (place_of_name question.map names) || question_has_unknown_zone_map names question.zones
+
+-- a map of a tile, if there is one, does not have the cells of the full map within `depth` rows and columns of the tile
+abbrev pub map_lacks_halo : List HaloMargin → Option ℕ → ℕ → Bool
+map_lacks_halo margins None depth = false
+map_lacks_halo margins (Some place) depth = depth_exceeds_margin margins place depth
+
+-- the halo of a tile is too small for the measures that a question wants; full maps need no halo
+abbrev pub question_lacks_halo : List (List ℕ) → Option (List HaloMargin) → PatchQuestionValue → Bool
+question_lacks_halo names None question = false
+question_lacks_halo names (Some margins) question =
+    question.wanted.patches && map_lacks_halo margins (place_of_name question.map names) question.depth
+
+-- why a question is rejected: the response is text, which cannot contain its frame, one of its maps is unknown, or the
+-- halo is too small
+abbrev pub question_error_kind_if_rejected : ResponseForm → List (List ℕ) → Option (List HaloMargin)
+    → PatchQuestionValue → Option QuestionErrorKind
+question_error_kind_if_rejected Text names margins question = Some OfText
+question_error_kind_if_rejected Frames names margins question =
+    if question_has_unknown_map names question then Some UnknownMap else
+    (if question_lacks_halo names margins question then Some HaloTooSmall else None)
 
 -- the error of this question; if it has none, the first error among the questions after it
 abbrev pub error_of_question_or_later_one : ℕ → Option QuestionErrorKind → Option QuestionError → Option QuestionError
@@ -48,11 +77,19 @@ error_of_question_or_later_one number (Some kind) others = Some (record { kind =
 error_of_question_or_later_one number None others = others
 
 -- the first question that is rejected
-unfoldable pub first_question_error : ResponseForm → List (List ℕ) → List PatchQuestionValue → Option QuestionError
-first_question_error form names [] = None
-first_question_error form names (question ∷ questions) =
-    error_of_question_or_later_one question.number (question_error_kind_if_rejected form names question)
-    (first_question_error form names questions)
+unfoldable pub first_question_error : ResponseForm → List (List ℕ) → Option (List HaloMargin)
+    → List PatchQuestionValue → Option QuestionError
+first_question_error form names margins [] = None
+first_question_error form names margins (question ∷ questions) =
+    error_of_question_or_later_one question.number (question_error_kind_if_rejected form names margins question)
+    (first_question_error form names margins questions)
+
+-- the first question about the maps after the statements that is rejected
+abbrev pub question_error_after_statements : ResponseForm → RunShelvesValue → List Statement → List PatchQuestionValue
+    → Option QuestionError
+question_error_after_statements form shelves statements questions =
+    first_question_error form (names_of_all_maps shelves.outer.names statements)
+    (margins_in_tile_at_end shelves statements) questions
 
 -- the shelf's map with this name
 pub record IsShelfMapWithName (shelf : ShelfValue) (name : List ℕ) (map : Grid) : Type 0 where
@@ -91,14 +128,32 @@ pub record PatchMeasuresValue : Type 0 where
   pub patches : List Patch
   pub zones : Option (List CellValue)
 
--- the measures and zones of a map's patches, if they are wanted
-abbrev pub ArePatchMeasuresIfWanted : Bool → ShelfValue → PatchQuestionValue → Grid → Grid → Option PatchMeasuresValue
-    → Type 0
-ArePatchMeasuresIfWanted false shelf question map numbers measures = measures ≡ None
-ArePatchMeasuresIfWanted true shelf question map numbers None = ⊥
-ArePatchMeasuresIfWanted true shelf question map numbers (Some measures) =
-    AreMeasuresOfAllPatches map numbers question.depth measures.patches
-    × AreMainZonesOfPatchesIfNamed shelf numbers (length measures.patches) question.zones measures.zones
+-- the position of a tile in its maps and in the full map
+abbrev pub position_of_tile : TilePlaceValue → TilePosition
+position_of_tile p = record {
+  top = halo_rows_above p;
+  left = halo_columns_left p;
+  first_row = p.tile.top;
+  first_col = p.tile.left;
+}
+
+-- the measures of the patches of a full map; or the measures in the full map of a tile's patches, given the map with
+-- this name that has the halo
+abbrev pub AreMeasuresInFullMap : Option TilePlaceValue → (outer : ShelfValue) → (name : List ℕ) → (map numbers : Grid)
+    → (depth : ℕ) → List Patch → Type 0
+AreMeasuresInFullMap None outer name map numbers depth patches = AreMeasuresOfAllPatches map numbers depth patches
+AreMeasuresInFullMap (Some place) outer name map numbers depth patches =
+    (wide : Grid) × (IsShelfMapWithName outer name wide
+    × AreMeasuresOfAllPatchesInTile wide (position_of_tile place) numbers depth patches)
+
+-- the measures in the full map and the zones of a map's patches, if they are wanted
+abbrev pub ArePatchMeasuresIfWanted : Bool → RunShelvesValue → PatchQuestionValue → Grid → Grid
+    → Option PatchMeasuresValue → Type 0
+ArePatchMeasuresIfWanted false shelves question map numbers measures = measures ≡ None
+ArePatchMeasuresIfWanted true shelves question map numbers None = ⊥
+ArePatchMeasuresIfWanted true shelves question map numbers (Some measures) =
+    AreMeasuresInFullMap shelves.place shelves.outer question.map map numbers question.depth measures.patches
+    × AreMainZonesOfPatchesIfNamed (inner_shelf shelves) numbers (length measures.patches) question.zones measures.zones
 
 -- the frame of the measures, if they are wanted
 abbrev pub patches_frame_if_wanted : ℕ → PatchQuestionValue → Option PatchMeasuresValue → List OutputFrame
@@ -111,24 +166,24 @@ patches_frame_if_wanted place question (Some measures) = Patches (record {
   zones = measures.zones;
 }) ∷ []
 
--- the frames for the question at index `place`, if they are wanted: the numbers of the patches of the named map, the
--- map's border, and the measures of the patches, with their zones
-pub record AreFramesForQuestion (shelf : ShelfValue) (place : ℕ) (question : PatchQuestionValue)
+-- the frames for the question at index `place`, if they are wanted: the numbers of the patches of the named map, without
+-- halo in a tile, the map's border, and the measures of the patches in the full map, with their zones
+pub record AreFramesForQuestion (shelves : RunShelvesValue) (place : ℕ) (question : PatchQuestionValue)
     (frames : List OutputFrame) : Type 0 where
   pub map : Grid
-  pub named : IsShelfMapWithName shelf question.map map
+  pub named : IsShelfMapWithName (inner_shelf shelves) question.map map
   pub numbers : Grid
   pub clumping : IsClumpMapOf question.joining map numbers
   pub border : Option TileBorderValue
   pub bordered : IsBorderOfMapIfWanted question.wanted.border question.joining map numbers border
   pub measures : Option PatchMeasuresValue
-  pub measured : ArePatchMeasuresIfWanted question.wanted.patches shelf question map numbers measures
+  pub measured : ArePatchMeasuresIfWanted question.wanted.patches shelves question map numbers measures
   pub is : frames ≡ patch_numbers_frame_if_wanted question.wanted.numbers place numbers
       ++ (border_frame_if_wanted place map.region border ++ patches_frame_if_wanted place question measures)
 
 -- the frames for each question, in order; the first has the index `place`
-abbrev pub AreFramesForAllQuestions : ShelfValue → ℕ → List PatchQuestionValue → List OutputFrame → Type 0
-AreFramesForAllQuestions shelf place [] frames = frames ≡ []
-AreFramesForAllQuestions shelf place (question ∷ questions) frames =
-    (first : List OutputFrame) × ((others : List OutputFrame) × (AreFramesForQuestion shelf place question first
-    × (AreFramesForAllQuestions shelf (place + 1) questions others × (frames ≡ first ++ others))))
+abbrev pub AreFramesForAllQuestions : RunShelvesValue → ℕ → List PatchQuestionValue → List OutputFrame → Type 0
+AreFramesForAllQuestions shelves place [] frames = frames ≡ []
+AreFramesForAllQuestions shelves place (question ∷ questions) frames =
+    (first : List OutputFrame) × ((others : List OutputFrame) × (AreFramesForQuestion shelves place question first
+    × (AreFramesForAllQuestions shelves (place + 1) questions others × (frames ≡ first ++ others))))

@@ -12,7 +12,7 @@ use Rattle.rcell_script.specs.declared.script_fault.ScriptKind.{ScriptKind}
 use Rattle.rcell_script.specs.declared.script_fault.ScriptKind.TheVariants as script_kinds
 use Rattle.rcell_script.specs.ScriptTexts.{script_error_text}
 use Rattle.rcell.specs.Output.{IsOutputOfStatements}
-use Rattle.rcell_tile.specs.TileRuns.{RunShelvesValue, inner_shelf}
+use Rattle.rcell_tile.specs.TileRuns.{RunShelvesValue}
 use Rattle.rcell_tile.specs.HaloMargins.{first_halo_fault}
 use Rattle.rcell_tile.specs.declared.halo_margins.HaloFault.{HaloFault}
 use Rattle.rcell_tile.specs.declared.halo_margins.HaloFaultKind.{HaloFaultKind}
@@ -32,7 +32,7 @@ use Rattle.rcell_pipe_frames.specs.FrameBytes.{RunEndValue, response_magic, fram
 use Rattle.rcell_pipe_response.specs.declared.question_error.QuestionErrorKind.{QuestionErrorKind}
 use Rattle.rcell_pipe_response.specs.declared.question_error.QuestionErrorKind.TheVariants as question_kinds
 use Rattle.rcell_pipe_response.specs.declared.question_error.QuestionError.{QuestionError}
-use Rattle.rcell_pipe_response.specs.QuestionFrames.{names_of_all_maps, first_question_error, AreFramesForAllQuestions}
+use Rattle.rcell_pipe_response.specs.QuestionFrames.{question_error_after_statements, AreFramesForAllQuestions}
 
 -- the end as a value
 abbrev pub end_frame_as_value : End → RunEndValue
@@ -113,6 +113,7 @@ end_frame_of_rejected_halo fault =
 -- the text for an error of a question
 abbrev pub question_error_text : QuestionErrorKind → List ℕ
 question_error_text question_kinds.UnknownMap = codes "unknown map"
+question_error_text question_kinds.HaloTooSmall = halo_error_text halo_kinds.TooSmall
 question_error_text question_kinds.OfText = codes "question for a text"
 
 -- the end if a question is rejected
@@ -151,9 +152,9 @@ pub record IsRunRequestAccepted (form : ResponseForm) (read : Result RunRequestV
   pub request : read ≡ Ok (record { shelves = shelves; script = script; questions = questions })
   pub denoted : IsScript shelves.outer.names script statements
   pub enough : halo_fault_of_statements shelves statements ≡ None
-  pub known : first_question_error form (names_of_all_maps shelves.outer.names statements) questions ≡ None
+  pub known : question_error_after_statements form shelves statements questions ≡ None
 
--- the frames of statements over maps, and of questions about the maps that the statements leave, without their halo
+-- the frames of statements over maps, and of questions about the maps that the statements leave
 pub record AreFramesOfStatementsAndQuestions (shelves : RunShelvesValue) (statements : List Statement)
     (questions : List PatchQuestionValue)
     (all : List OutputFrame) : Type 0 where
@@ -161,7 +162,7 @@ pub record AreFramesOfStatementsAndQuestions (shelves : RunShelvesValue) (statem
   pub after : RunShelvesValue
   pub given : StatementsGiveFrames shelves statements frames after
   pub answers : List OutputFrame
-  pub answered : AreFramesForAllQuestions (inner_shelf after) 0 questions answers
+  pub answered : AreFramesForAllQuestions after 0 questions answers
   pub both : all ≡ frames ++ answers
 
 -- the response to statements and questions: their frames and an end, or the text that rcell prints for the statements
@@ -215,7 +216,7 @@ pub record IsResponseToRejectedQuestion (form : ResponseForm) (read : Result Run
   pub statements : List Statement
   pub denoted : IsScript shelves.outer.names script statements
   pub enough : halo_fault_of_statements shelves statements ≡ None
-  pub first : first_question_error form (names_of_all_maps shelves.outer.names statements) questions ≡ Some error
+  pub first : question_error_after_statements form shelves statements questions ≡ Some error
   pub bytes : response ≡ response_bytes [] (end_frame_of_rejected_question error)
 
 -- memory ran out at a statement: the statements before it produce this response

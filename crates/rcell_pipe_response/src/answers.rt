@@ -7,12 +7,13 @@ ghost use Rattle.cell_core_devices.specs.Blocks.{IsTextAppendedThroughBlock};
 ghost use Rattle.cell_clumps.specs.declared.clump.Joining.{Joining};
 ghost use Rattle.cell_clumps.specs.Clumps.{IsClumpMapOf};
 ghost use Rattle.cell_join_tiles.specs.Values.{value_of_tile_border};
+ghost use Rattle.rcell_tile.specs.TileRuns.{inner_shelf};
 ghost use Rattle.rcell_pipe_frames.specs.FrameBytes.{frames_bytes};
 ghost use Rattle.rcell_pipe_request.specs.Questions.{question_as_value, questions_as_values};
-ghost use Rattle.rcell_pipe_response.specs.declared.frame_run.ResponseForm.TheVariants.{Frames};
-ghost use Rattle.rcell_pipe_response.specs.QuestionFrames.{AreMainZonesOfPatchesIfNamed, ArePatchMeasuresIfWanted, IsBorderOfMapIfWanted, IsShelfMapWithName, question_has_unknown_zone_map, border_frame_if_wanted, patch_numbers_frame_if_wanted, patches_frame_if_wanted, question_error_kind_if_rejected, first_question_error};
+ghost use Rattle.rcell_pipe_response.specs.QuestionFrames.{AreMainZonesOfPatchesIfNamed, AreMeasuresInFullMap, ArePatchMeasuresIfWanted, IsBorderOfMapIfWanted, IsShelfMapWithName, question_has_unknown_map, question_has_unknown_zone_map, border_frame_if_wanted, patch_numbers_frame_if_wanted, patches_frame_if_wanted, position_of_tile};
 ghost use Rattle.rcell_pipe_response.specs.parts.Answering.{AreQuestionFramesAppended, AreAllQuestionFramesAppended, StopsAfterFirstQuestionFrames, patch_measures_as_value};
 
+use crate::frame_execution::maps_without_halo;
 use cell_clumps::clump::clump_with;
 use cell_core::block::OutputBlock;
 use cell_core::map::CellMap;
@@ -23,13 +24,16 @@ use cell_core::shelf::Shelf;
 use cell_core::sink::Sink;
 use cell_join_tiles::border::TileBorder;
 use cell_join_tiles::bordering::border_of_tile;
-use cell_patches::measuring::patch_measures;
+use cell_patches::measuring::{patch_measures, patch_measures_in_tile};
 use cell_patches::patch::Patch;
+use cell_patches::tile_position::TilePosition;
 use cell_patches::zones::zones_of_patches;
 use rcell_pipe_frames::border_frame::push_border_frame;
 use rcell_pipe_frames::numbers_frame::push_patch_numbers_frame;
 use rcell_pipe_frames::patches_frame::push_patches_frame;
 use rcell_pipe_request::question::Question;
+use rcell_tile::run_shelves::RunShelves;
+use rcell_tile::tile_place::TilePlace;
 use std::alloc::Global;
 
 /// Why writing the frames of questions stopped.
@@ -126,20 +130,58 @@ fn border_if_wanted(
     Ok(Some(border))
 }
 
+// Returns the position of a tile in its maps and in the full map.
+fn position_of_tile(place: &TilePlace) -> TilePosition
+    ensures { result ≡ position_of_tile place.now }
+{
+    TilePosition {
+        top: place.rows_above(),
+        left: place.columns_left(),
+        first_row: place.tile_top(),
+        first_col: place.tile_left(),
+    }
+}
+
+// Returns the measures in the full map of the patches of the map that a question names. In a tile, its map with the halo
+// has the cells around a patch.
+fn patch_measures_in_full_map(
+    alloc: Global,
+    shelves: &RunShelves,
+    question: &Question,
+    map: &CellMap,
+    numbers: &CellMap,
+) -> Result<Vec<Patch>, Memory>
+    requires known { is_none (place_of_name question.now.map.items shelves.now.outer.names) ≡ false }
+    requires map { IsShelfMapWithName (inner_shelf shelves.now) question.now.map.items map.now }
+    requires clumping { IsClumpMapOf question.now.joining map.now numbers.now }
+    ensures { IfOk result (λ patches. AreMeasuresInFullMap shelves.now.place shelves.now.outer
+        question.now.map.items map.now numbers.now question.now.depth patches.items) }
+{
+    match shelves.place() {
+        None => patch_measures(alloc, map, numbers, question.joining, question.depth),
+        Some(place) => {
+            let outer = map_named(shelves.outer(), &question.map);
+            let position = position_of_tile(&place);
+            patch_measures_in_tile(alloc, outer, position, numbers, question.joining, question.depth)
+        }
+    }
+}
+
 // Returns the measures and zones of a map's patches, if they are wanted.
 fn patch_measures_if_wanted(
     alloc: Global,
-    shelf: &Shelf,
+    shelves: &RunShelves,
     question: &Question,
     map: &CellMap,
     numbers: &CellMap,
 ) -> Result<Option<PatchMeasures>, Memory>
-    requires known { question_has_unknown_zone_map shelf.now.names
-        (question_as_value question.now).zones ≡ false }
-    requires region { map.now.region ≡ shelf.now.region }
+    requires known { question_has_unknown_map shelves.now.outer.names
+        (question_as_value question.now) ≡ false }
+    requires map { IsShelfMapWithName (inner_shelf shelves.now) question.now.map.items map.now }
+    requires region { map.now.region ≡ (inner_shelf shelves.now).region }
     requires clumping { IsClumpMapOf question.now.joining map.now numbers.now }
     ensures measures { IfOk result (λ measures. ArePatchMeasuresIfWanted
-        question.now.wanted.patches shelf.now (question_as_value question.now) map.now numbers.now
+        question.now.wanted.patches shelves.now (question_as_value question.now) map.now numbers.now
         (option_map patch_measures_as_value measures)) }
     ensures long { IfOk result (λ measures. IfSome measures (λ measures. IfSome measures.zones
         (λ zones. length zones.items ≡ length measures.patches.items))) }
@@ -147,7 +189,8 @@ fn patch_measures_if_wanted(
     if !question.wanted.patches {
         return Ok(None);
     }
-    let patches = patch_measures(alloc, map, numbers, question.joining, question.depth)?;
+    let patches = patch_measures_in_full_map(alloc, shelves, question, map, numbers)?;
+    let shelf = maps_without_halo(shelves);
     let zones = main_zone_of_each_patch(alloc, shelf, &question.zones, numbers, patches.len())?;
     Ok(Some(PatchMeasures { patches, zones }))
 }
@@ -200,23 +243,23 @@ fn push_patches_if_wanted<W: Sink>(
 // Writes the frames for the question at index `place`. Allocates all memory before it writes the first byte.
 fn answer<W: Sink>(
     alloc: Global,
-    shelf: &Shelf,
+    shelves: &RunShelves,
     place: u64,
     question: &Question,
     block: &mut OutputBlock,
     out: &mut W,
 ) -> Result<(), Memory>
-    requires { question_error_kind_if_rejected Frames shelf.now.names
-        (question_as_value question.now) ≡ None }
-    ensures ok { OnOk result (AreQuestionFramesAppended W.taken W.faults shelf.now place
+    requires { question_has_unknown_map shelves.now.outer.names (question_as_value question.now)
+        ≡ false }
+    ensures ok { OnOk result (AreQuestionFramesAppended W.taken W.faults shelves.now place
         (question_as_value question.now) out.old block.old out.new block.new) }
     ensures err { OnErr result ((out.new ≡ out.old) × (block.new ≡ block.old)) }
 {
     let wanted = question.wanted;
-    let map = map_named(shelf, &question.map);
+    let map = map_named(maps_without_halo(shelves), &question.map);
     let numbers = clump_with(alloc, map, question.joining)?;
     let border = border_if_wanted(alloc, wanted.border, map, &numbers)?;
-    let measures = patch_measures_if_wanted(alloc, shelf, question, map, &numbers)?;
+    let measures = patch_measures_if_wanted(alloc, shelves, question, map, &numbers)?;
     // The numbers come first: only their frame needs memory, so a question that runs out of it has written nothing.
     push_patch_numbers_if_wanted(alloc, wanted.numbers, place, &numbers, block, out)?;
     push_border_if_wanted(place, map.region(), &border, block, out);
@@ -232,21 +275,21 @@ fn answer<W: Sink>(
 /// [`AnswerWritingStop::Write`] if the sink fails.
 pub(crate) fn push_frames_for_all_questions<W: Sink>(
     alloc: Global,
-    shelf: &Shelf,
+    shelves: &RunShelves,
     questions: &[Question],
     block: &mut OutputBlock,
     out: &mut W,
 ) -> Result<(), AnswerWritingStop>
-    requires { first_question_error Frames shelf.now.names (questions_as_values questions.now)
-        ≡ None }
-    ensures ok { OnOk result (AreAllQuestionFramesAppended W.taken W.faults shelf.now
+    requires { All (λ question. question_has_unknown_map shelves.now.outer.names question ≡ false)
+        (questions_as_values questions.now) }
+    ensures ok { OnOk result (AreAllQuestionFramesAppended W.taken W.faults shelves.now
         (questions_as_values questions.now)
         out.old block.old out.new block.new) }
-    ensures err { IfErr result (StopsAfterFirstQuestionFrames W.taken W.faults shelf.now
+    ensures err { IfErr result (StopsAfterFirstQuestionFrames W.taken W.faults shelves.now
         (questions_as_values questions.now) out.old block.old out.new block.new) }
 {
     for i in 0..questions.len() {
-        match answer(alloc, shelf, i as u64, &questions[i], block, out) {
+        match answer(alloc, shelves, i as u64, &questions[i], block, out) {
             Ok(()) => block.empty(out),
             Err(_) => return Err(AnswerWritingStop::Memory),
         }

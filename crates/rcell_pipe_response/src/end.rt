@@ -190,6 +190,7 @@ fn question_error_text(kind: QuestionErrorKind) -> &'static [u8]
 {
     match kind {
         QuestionErrorKind::UnknownMap => b"unknown map",
+        QuestionErrorKind::HaloTooSmall => halo_error_text(HaloFaultKind::TooSmall),
         QuestionErrorKind::OfText => b"question for a text",
     }
 }

@@ -1,6 +1,7 @@
 //! Runs a request and writes the response.
 
-ghost use Rattle.std.specs.Prelude.{ℕ, ◌≡◌, List, [], ◌++◌, length, false, Option, Some, None, Result, Ok, IfOk};
+ghost use Rattle.std.specs.Prelude.{ℕ, ◌≡◌, List, [], ◌++◌, length, false, All, Option, Some, None, Result, Ok, IfOk};
+ghost use Rattle.std.specs.Option.{option_map};
 ghost use Rattle.std.specs.String.{string_bytes};
 ghost use Rattle.cell_core_devices.specs.Device.{SinkFaults, append_if_known};
 ghost use Rattle.cell_core_devices.specs.Blocks.{capped_byte_count, IsTextAppendedToSink};
@@ -8,14 +9,14 @@ ghost use Rattle.rcell_script.specs.FittingScripts.{StatementsFitKnownMaps};
 ghost use Rattle.rcell_script.specs.Scripts.{IsScript};
 ghost use Rattle.rcell_script.specs.declared.statement.Statement.{Statement};
 ghost use Rattle.rcell_script.specs.ScriptTexts.{script_error_text};
-ghost use Rattle.rcell_tile.specs.TileRuns.{RunShelvesValue, inner_shelf};
+ghost use Rattle.rcell_tile.specs.TileRuns.{RunShelvesValue};
 ghost use Rattle.rcell_pipe_request.specs.declared.error.RequestError.{RequestError};
 ghost use Rattle.rcell_pipe_request.specs.Requests.{RunRequestValue, run_request_as_value};
 ghost use Rattle.rcell_pipe_request.specs.Questions.{PatchQuestionValue, questions_as_values};
 ghost use Rattle.rcell_pipe_response.specs.declared.frame_run.ResponseForm.TheVariants.{Frames, Text};
 ghost use Rattle.rcell_pipe_frames.specs.Frames.{OutputFrame, StatementsGiveFrames};
 ghost use Rattle.rcell_pipe_frames.specs.FrameBytes.{response_magic, frames_bytes, response_bytes, run_end_frame_bytes};
-ghost use Rattle.rcell_pipe_response.specs.QuestionFrames.{names_of_all_maps, first_question_error};
+ghost use Rattle.rcell_pipe_response.specs.QuestionFrames.{margins_in_tile_at_end, question_has_unknown_map, question_error_after_statements};
 ghost use Rattle.rcell_pipe_response.specs.RunEnds.{exit_status_of_pipe_run, IsRunRequestAccepted, IsResponseToRunRequest, end_frame_as_value, halo_fault_of_statements};
 ghost use Rattle.rcell_pipe_response.specs.FrameEndings.{run_error_with_sink_state, IsTextSentWithOutcome, Rejected, IsEndOfResponseSent};
 ghost use Rattle.rcell_pipe_response.specs.parts.Flushed.{IsSinkFlushedOnce};
@@ -26,9 +27,7 @@ use crate::end::{
     end_frame_of_rejected_script, end_frame_of_successful_run, exit_status_of_pipe_run,
     is_memory_error, memory_end, push_end_frame,
 };
-use crate::frame_execution::{
-    FrameExecutionStop, execute_statements_into_frames, maps_without_halo,
-};
+use crate::frame_execution::{FrameExecutionStop, execute_statements_into_frames};
 use crate::made_names::names_of_all_maps;
 use crate::question_error::first_question_error;
 use cell_core::block::OutputBlock;
@@ -42,7 +41,7 @@ use rcell_pipe_request::request::Request;
 use rcell_script::script_fault::{ScriptFault, ScriptKind};
 use rcell_script::script_parsing::parse_script;
 use rcell_script::statement::Script;
-use rcell_tile::halo_margins::{HaloFault, first_halo_fault};
+use rcell_tile::halo_margins::{HaloFault, HaloMargin, first_halo_fault, margins_of_maps};
 use rcell_tile::run_shelves::RunShelves;
 use std::alloc::{AllocError, Global};
 
@@ -205,8 +204,8 @@ fn answer_questions<W: Sink>(
     mut block: OutputBlock,
     out: &mut W,
 ) -> PipeOutcome
-    requires { first_question_error Frames (inner_shelf shelves.now).names
-        (questions_as_values questions.now) ≡ None }
+    requires { All (λ question. question_has_unknown_map shelves.now.outer.names question ≡ false)
+        (questions_as_values questions.now) }
     ensures { (before : Option (List ℕ)) (start : SinkFaults)
         (read : Result RunRequestValue RequestError)
         (given : RunShelvesValue) (statements : List Statement) (frames : List OutputFrame)
@@ -218,13 +217,7 @@ fn answer_questions<W: Sink>(
         → IsEndOfResponseSent (IsResponseToRunRequest Frames read) before start (W.taken out.new)
         (W.faults out.new) result }
 {
-    match push_frames_for_all_questions(
-        alloc,
-        maps_without_halo(shelves),
-        questions,
-        &mut block,
-        out,
-    ) {
+    match push_frames_for_all_questions(alloc, shelves, questions, &mut block, out) {
         Ok(()) => end_response_and_flush(out, block, None, &end_frame_of_successful_run()),
         Err(stop) => match stop {
             AnswerWritingStop::Memory => end_response_and_flush(
@@ -247,9 +240,8 @@ fn run_statements_and_questions<W: Sink>(
     out: &mut W,
 ) -> PipeOutcome
     requires fits { StatementsFitKnownMaps shelves.outer.names script.now }
-    requires known { first_question_error Frames
-        (names_of_all_maps shelves.outer.names script.now) (questions_as_values questions.now)
-        ≡ None }
+    requires known { question_error_after_statements Frames shelves script.now
+        (questions_as_values questions.now) ≡ None }
     ensures { (read : Result RunRequestValue RequestError)
         → IsRunRequestAccepted Frames read shelves script.now (questions_as_values questions.now)
         → IsEndOfResponseSent (IsResponseToRunRequest Frames read) (W.taken out.old)
@@ -320,6 +312,25 @@ fn run_statements_as_text<W: Sink>(
     }
 }
 
+// Returns the margins of all maps after the statements, in a tile.
+fn margins_in_tile_at_end(
+    alloc: Global,
+    shelves: &RunShelves,
+    script: &Script,
+) -> Result<Option<Vec<HaloMargin>>, Memory>
+    ensures { IfOk result (λ margins. option_map (λ m. m.items) margins
+        ≡ margins_in_tile_at_end shelves.now script.now) }
+{
+    match shelves.place() {
+        Some(place) => {
+            let count = shelves.outer().len();
+            let margins = margins_of_maps(alloc, &place, count, script.statements())?;
+            Ok(Some(margins))
+        }
+        None => Ok(None),
+    }
+}
+
 // Runs a script over maps, unless a question is rejected.
 fn run_script<W: Sink>(
     alloc: Global,
@@ -343,7 +354,10 @@ fn run_script<W: Sink>(
     let Ok(all) = names_of_all_maps(alloc, names, script.statements()) else {
         return reject(out, PipeError::Memory, &memory_end(0));
     };
-    match first_question_error(form, &all, questions) {
+    let Ok(margins) = margins_in_tile_at_end(alloc, &shelves, script) else {
+        return reject(out, PipeError::Memory, &memory_end(0));
+    };
+    match first_question_error(form, &all, &margins, questions) {
         Some(error) => reject(
             out,
             PipeError::Question(error),

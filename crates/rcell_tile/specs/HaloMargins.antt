@@ -85,6 +85,12 @@ margin_after_reads known margin (n ∷ ns) = margin_after_reads known
 abbrev pub read_exceeds_margin : List HaloMargin → MapNeed → Bool
 read_exceeds_margin known n = exceeds_margin (margin_of_map_at_place known n.place) n.margin
 
+-- a read of all cells within `depth` rows and columns exceeds the margin of the map at index `place`
+abbrev pub depth_exceeds_margin : List HaloMargin → ℕ → ℕ → Bool
+depth_exceeds_margin known place depth =
+    exceeds_margin (margin_of_map_at_place known place)
+    (record { up = depth; down = depth; left = depth; right = depth })
+
 -- the command is r.clump
 abbrev pub command_is_clump : Command → Bool
 command_is_clump (Mapcalc target bound) = false

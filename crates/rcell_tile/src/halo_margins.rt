@@ -3,7 +3,7 @@
 ghost use Rattle.std.specs.Prelude.{◌≡◌, replicate, IfOk, OnOk};
 ghost use Rattle.std.specs.List.{list_any};
 ghost use Rattle.rcell_plan.specs.Plans.{maps_read_by_command};
-ghost use Rattle.rcell_tile.specs.HaloMargins.{limit_of_side, halo_margin, no_halo_margin, exceeds_limit, limit_after_read, smaller_limit, exceeds_margin, margin_after_read, smaller_margin, margin_of_map_at_place, margin_after_reads, read_exceeds_margin, command_is_clump, margin_of_made_map, margins_after_command, command_prints_labels, halo_fault_of_command, first_halo_fault, margins_of_maps};
+ghost use Rattle.rcell_tile.specs.HaloMargins.{limit_of_side, halo_margin, no_halo_margin, exceeds_limit, limit_after_read, smaller_limit, exceeds_margin, margin_after_read, smaller_margin, margin_of_map_at_place, margin_after_reads, read_exceeds_margin, depth_exceeds_margin, command_is_clump, margin_of_made_map, margins_after_command, command_prints_labels, halo_fault_of_command, first_halo_fault, margins_of_maps};
 
 use crate::tile_place::TilePlace;
 use cell_core::memory::Memory;
@@ -154,6 +154,20 @@ fn read_exceeds_margin(known: &[HaloMargin], read: &MapNeed) -> bool
     ensures { result ≡ read_exceeds_margin known.now read.now }
 {
     exceeds_margin(margin_of_map_at_place(known, read.place), read.margin)
+}
+
+/// Returns whether a read of all cells within `depth` rows and columns exceeds the margin of the map at index `place`.
+pub fn depth_exceeds_margin(known: &[HaloMargin], place: usize, depth: u32) -> bool
+    ensures { result ≡ depth_exceeds_margin known.now place depth }
+{
+    let depth = depth as u64;
+    let reach = Margin {
+        up: depth,
+        down: depth,
+        left: depth,
+        right: depth,
+    };
+    exceeds_margin(margin_of_map_at_place(known, place), reach)
 }
 
 fn any_read_exceeds_margin(known: &[HaloMargin], reads: &[MapNeed]) -> bool

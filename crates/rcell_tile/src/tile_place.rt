@@ -151,6 +151,22 @@ impl TilePlace {
         self.outer.cols
     }
 
+    /// Returns the full map's row, counted from 0, that is the tile's first row.
+    pub fn tile_top(&self) -> u32
+        ensures value { result ≡ self.now.tile.top }
+        ensures valid { IsValidTilePlace self.now }
+    {
+        self.tile.top
+    }
+
+    /// Returns the full map's column, counted from 0, that is the tile's first column.
+    pub fn tile_left(&self) -> u32
+        ensures value { result ≡ self.now.tile.left }
+        ensures valid { IsValidTilePlace self.now }
+    {
+        self.tile.left
+    }
+
     /// Returns the tile's number of rows.
     pub fn tile_rows(&self) -> u32
         ensures value { result ≡ self.now.tile.rows }

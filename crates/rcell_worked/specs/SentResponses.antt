@@ -8,7 +8,7 @@ use Rattle.rcell_pipe_response.specs.declared.end.PipeError.TheVariants as error
 use Rattle.rcell_pipe_response.specs.declared.frame_run.ResponseForm.TheVariants.{Frames}
 use Rattle.rcell_pipe_frames.specs.FrameBytes.{response_bytes}
 use Rattle.rcell_pipe_frames.specs.Frames.{OutputFrame}
-use Rattle.rcell_pipe_response.specs.QuestionFrames.{names_of_all_maps, first_question_error}
+use Rattle.rcell_pipe_response.specs.QuestionFrames.{question_error_after_statements}
 use Rattle.rcell_pipe_response.specs.RunEnds.{AreFramesOfStatementsAndQuestions, end_frame_of_successful_run}
 use Rattle.rcell_pipe_response.specs.RunEnds.{halo_fault_of_statements}
 use Rattle.rcell_plan_response.specs.Responses.{IsResponseToRequestOfForm, request_form_reading}
@@ -25,7 +25,7 @@ pub record AreFramesOfRequest (run : RunRequestValue) (response : List ℕ) : Ty
   pub statements : List Statement
   pub denoted : IsScript run.shelves.outer.names run.script statements
   pub enough : halo_fault_of_statements run.shelves statements ≡ None
-  pub known : first_question_error Frames (names_of_all_maps run.shelves.outer.names statements) run.questions ≡ None
+  pub known : question_error_after_statements Frames run.shelves statements run.questions ≡ None
   pub frames : List OutputFrame
   pub gives : AreFramesOfStatementsAndQuestions run.shelves statements run.questions frames
   pub bytes : response ≡ response_bytes frames end_frame_of_successful_run
