@@ -6,9 +6,12 @@
 - random scripts over a random cutting of random maps, with offsets, row(), col(), r.reclass, tables
   and grids: the grids of the tiles must be cut out of the full map's grids, and their tables must
   add up to the full map's tables
-- r.clump and questions: without offsets and positions, the response for a tile must be the response
-  for the tile as a full map, whatever the halo
-- halos that are too small, and labels: the error must be the error of a plain model
+- r.clump: without offsets and positions, the response for a tile must be the response for the tile
+  as a full map, whatever the halo
+- questions: patches must have the numbers and the border of the tile, and the measures of the full
+  map, which a plain model counts cell by cell; zones are counted in the tile
+- halos that are too small for a statement or a question, unknown maps, and labels: the error must be
+  the error of a plain model
 - each error of a place by name, truncated requests, and random damage: the first error must be the
   plain reader's
 
@@ -22,23 +25,29 @@ import random
 import subprocess
 import sys
 from collections import Counter
-from dataclasses import replace
+from dataclasses import dataclass, replace
+from functools import reduce
+from itertools import chain
 from typing import Any, Iterator, Optional
 
 import cases
 import model
 from fuzz import damaged_bytes
+from joined_patches import parts_of_tile
 from made_cases import NAMES, ScriptMaker
 from model import Refused, ScriptReader
-from pipe_model import Frame, Place, Question, Raster, Reader, Rejected, Response
+from patch_model import Cells, patch_numbers
+from pipe_model import PATCHES, Frame, Place, Question, Raster, Reader, Rejected, Response
 from pipe_model import request, tile_request
-from test_pipe import BIN, random_edges, random_raster
+from test_pipe import BIN, frames_of, random_edges, random_raster
 from test_plan import Need, calls_of, reads_of
 
 SIZES = [(1, 1), (1, 30), (3, 5), (7, 40), (12, 12), (30, 1), (9, 17), (2, 3), (20, 6)]
 STATUS_DONE, STATUS_REJECTED = 0, 1
 SECONDS = 120
 NO_MARGIN = (0, 0, 0, 0)
+DEPTHS = [1, 1, 2, 3, 4]
+SQUARE = 7
 
 Margin = tuple[Optional[int], ...]
 Span = tuple[int, int]  # first row or column, and their number
@@ -79,29 +88,51 @@ def margin_after_read(margin: Margin, reach: Need) -> Margin:
     return tuple(None if a is None else a - b for a, b in zip(margin, reach[:4]))
 
 
+def is_exceeded(margin: Margin, depth: int = 0) -> bool:
+    """Return whether cells are read that are further away than a margin and a depth."""
+    return any(side is not None and side < depth for side in margin)
+
+
 def smaller(one: Margin, other: Margin) -> Margin:
     return tuple(b if a is None else a if b is None else min(a, b) for a, b in zip(one, other))
 
 
-def halo_fault(
-    halo: Margin, names: list[bytes], statements: list[tuple[int, model.Statement]]
-) -> Optional[tuple[int, bytes]]:
-    """Return the line and the text of the first statement that cannot run in a tile."""
-    margins = {name: halo for name in names}
-    for line, statement in statements:
-        if isinstance(statement, model.Stats) and b"l" in statement.flags:
-            return line, b"labels in a tile"
-        left = [margin_after_read(margins[name], reach) for name, reach in reads_of(statement)]
-        if any(side is not None and side < 0 for margin in left for side in margin):
-            return line, b"halo too small"
-        made = getattr(statement, "target", b"")
-        if isinstance(statement, model.Clump):
-            margins[made] = NO_MARGIN
-        elif made:
-            margins[made] = halo
-            for margin in left:
-                margins[made] = smaller(margins[made], margin)
-    return None
+@dataclass
+class Halo:
+    """The margins of the maps of a tile, by name."""
+
+    given: Margin
+    margins: dict[bytes, Margin]
+
+    def fault(self, statements: list[tuple[int, model.Statement]]) -> Optional[tuple[int, bytes]]:
+        """Return the line and the text of the first statement that cannot run in a tile. If there
+        is none, add the margins of the maps that the statements make."""
+        for line, statement in statements:
+            if has_labels(statement):
+                return line, b"labels in a tile"
+            reads = reads_of(statement)
+            left = [margin_after_read(self.margins[name], reach) for name, reach in reads]
+            if any(map(is_exceeded, left)):
+                return line, b"halo too small"
+            made = getattr(statement, "target", b"")
+            if made:
+                is_clump = isinstance(statement, model.Clump)
+                self.margins[made] = NO_MARGIN if is_clump else reduce(smaller, left, self.given)
+        return None
+
+    def question_fault(self, questions: list[Question]) -> Optional[tuple[int, bytes]]:
+        """Return the number and the text of the first question that is rejected after the
+        statements."""
+        for number, asked in enumerate(questions, 1):
+            if not {asked.map, asked.zones or asked.map} <= self.margins.keys():
+                return number, b"unknown map"
+            if asked.kind & PATCHES and is_exceeded(self.margins[asked.map], asked.depth):
+                return number, b"halo too small"
+        return None
+
+
+def halo_of(margin: Margin, maps: list[Raster]) -> Halo:
+    return Halo(margin, {it.name: margin for it in maps})
 
 
 # Requests made at random
@@ -112,6 +143,16 @@ def random_maps(choice: random.Random) -> list[Raster]:
     names = choice.sample(NAMES, choice.choice([1, 1, 2, 3]))
     edges = random_edges(choice)
     return [random_raster(choice, name, edges, rows, cols) for name in names]
+
+
+def with_larger_patches(of: Raster) -> Raster:
+    """Return a map of squares, whose cells are the first rows and columns of a map."""
+
+    def squares(rows: list[list[int]]) -> list[list[int]]:
+        size = range(len(rows)), range(len(rows[0]))
+        return [[rows[row // SQUARE][col // SQUARE] for col in size[1]] for row in size[0]]
+
+    return replace(of, rows=squares(of.rows), mask=of.mask and squares(of.mask))
 
 
 def statements_of(names: list[bytes], script: bytes) -> list[tuple[int, model.Statement]]:
@@ -184,10 +225,10 @@ def cut_maps(maps: list[Raster], height: Span, width: Span) -> list[Raster]:
 
 def least_halo(maps: list[Raster], script: bytes) -> int:
     """Return the smallest number of rows and columns around a tile that are enough for a script."""
-    names = [it.name for it in maps]
-    statements = statements_of(names, script)
+    statements = statements_of([it.name for it in maps], script)
+    statements = [it for it in statements if not has_labels(it[1])]
     halo = 0
-    while halo_fault((halo,) * 4, names, statements):
+    while halo_of((halo,) * 4, maps).fault(statements):
         halo += 1
     return halo
 
@@ -253,23 +294,26 @@ def random_questions(choice: random.Random, names: list[bytes], script: bytes) -
     reader = ScriptReader(script, names)
     reader.read()
     known = sorted(reader.known)
-    return [
-        Question(
-            choice.choice(known),
-            choice.choice([4, 8]),
-            choice.choice([1, 2]),
-            choice.choice([b"", choice.choice(known)]),
-            choice.choice([1, 3]),
-        )
-        for _ in range(choice.choice([0, 1, 2]))
-    ]
+
+    def name() -> bytes:
+        return b"nowhere" if choice.random() < 0.02 else choice.choice(known)
+
+    def question(kind: int) -> Question:
+        zones = choice.choice([b"", name()]) if kind & PATCHES else b""
+        return Question(name(), choice.choice([4, 8]), choice.choice(DEPTHS), zones, kind)
+
+    return [question(choice.randint(1, 7)) for _ in range(choice.choice([0, 1, 1, 2]))]
 
 
-def random_tile(choice: random.Random, maps: list[Raster]) -> tuple[Span, Span, Span, Span]:
-    """Return the rows and columns of a tile, and the rows and columns of its maps."""
+def random_tile(
+    choice: random.Random, maps: list[Raster], halo: Optional[int] = None
+) -> tuple[Span, Span, Span, Span]:
+    """Return the rows and columns of a tile, and the rows and columns of its maps, with a halo of
+    at least some rows and columns."""
     sizes = len(maps[0].rows), len(maps[0].rows[0])
     tile = [choice.choice(random_spans(choice, size)) for size in sizes]
-    outer = [widened(choice, span, size, choice.choice([0, 2])) for span, size in zip(tile, sizes)]
+    least = [choice.choice([0, 2]) if halo is None else halo for _ in sizes]
+    outer = [widened(choice, span, size, n) for span, size, n in zip(tile, sizes, least)]
     return tile[0], tile[1], outer[0], outer[1]
 
 
@@ -280,29 +324,60 @@ def wrong_tile_alone(
     map."""
     rows, cols, outer_rows, outer_cols = random_tile(choice, maps)
     place = place_of(maps, rows, cols, outer_rows, outer_cols)
-    questions = random_questions(choice, [it.name for it in maps], script)
     sent = cut_maps(maps, outer_rows, outer_cols)
-    found = program.frames(tile_request(place, sent, script, questions))
-    wanted = program.frames(request(cut_maps(maps, rows, cols), script, questions))
+    found = program.frames(tile_request(place, sent, script))
+    wanted = program.frames(request(cut_maps(maps, rows, cols), script))
     return "" if found == wanted else f"{script!r} at {place}: {found} is not {wanted}"
 
 
-def wrong_halo(program: Program, maps: list[Raster], script: bytes, choice: random.Random) -> str:
-    """Return the error if a halo that does not allow a script is not rejected as the plain model
-    says."""
-    rows, cols, outer_rows, outer_cols = random_tile(choice, maps)
-    place, names = place_of(maps, rows, cols, outer_rows, outer_cols), [it.name for it in maps]
-    halo = halo_margin(place, outer_rows[1], outer_cols[1])
-    fault = halo_fault(halo, names, statements_of(names, script))
-    *frames, end = program.frames(
-        tile_request(place, cut_maps(maps, outer_rows, outer_cols), script)
-    )
-    found = [end[key] for key in ("status", "source", "maps", "line", "column", "text")]
-    wanted = [STATUS_DONE, 0, 0, 0, 0, b""]
-    if fault:
-        wanted = [STATUS_REJECTED, 2, 0, fault[0], 0, fault[1]]
-    is_so = found == wanted and not (fault and frames)
-    return "" if is_so else f"{script!r} at {place}: {found} is not {wanted}"
+def cells_by_name(maps: list[Raster], frames: list[Frame]) -> dict[bytes, Cells]:
+    """Return the cells of the given maps, and of the maps that a response prints."""
+    grids = {it["name"]: it["rows"] for it in frames if it["kind"] == b"GRID"}
+    return {it.name: it.cells() for it in maps} | grids
+
+
+def frames_in_tile(
+    at: int, asked: Question, full: Cells, tile: dict[bytes, Cells], rows: Span, cols: Span
+) -> list[Frame]:
+    """Return the frames of a question about a tile, by the plain model: like a full map's, except
+    for the measures of the patches."""
+    frames = frames_of(at, asked, tile)
+    place = slice(rows[0], sum(rows)), slice(cols[0], sum(cols))
+    numbers = patch_numbers(tile[asked.map], asked.connectivity)
+    for frame in frames:
+        if frame["kind"] == b"PTCH":
+            parts = parts_of_tile(full, numbers, 0, place, asked.depth)
+            frame["patches"] = [it.patch for it in parts]
+    return frames
+
+
+def wrong_questions(
+    program: Program, maps: list[Raster], script: bytes, choice: random.Random
+) -> str:
+    """Return the error if the frames of a tile's questions differ from the plain model's, or if a
+    halo that does not allow a script or a question is not rejected as the plain model says."""
+    halo = choice.choice([None, least_halo(maps, script) + choice.choice(DEPTHS)])
+    rows, cols, *outer = random_tile(choice, maps, halo)
+    place, names = place_of(maps, rows, cols, *outer), [it.name for it in maps]
+    questions = random_questions(choice, names, script)
+    known = halo_of(halo_margin(place, outer[0][1], outer[1][1]), maps)
+    fault = known.fault(statements_of(names, script))
+    of_question = None if fault else known.question_fault(questions)
+    frames = program.frames(tile_request(place, cut_maps(maps, *outer), script, questions))
+    end = [frames[-1][key] for key in ("status", "source", "maps", "line", "column", "text")]
+    if fault or of_question:
+        line, text = fault or of_question
+        wanted = [STATUS_REJECTED, 2 if fault else 3, 0, line, 0, text]
+        is_so = end == wanted and len(frames) == 1
+        return "" if is_so else f"{script!r}, {questions} at {place}: {frames} is not {wanted}"
+    before = program.frames(request(maps, script))
+    full = cells_by_name(maps, before)
+    tile = cells_by_name(cut_maps(maps, rows, cols), frames)
+    answers = [
+        frames_in_tile(at, it, full[it.map], tile, rows, cols) for at, it in enumerate(questions)
+    ]
+    found, wanted = frames[len(before) - 1 :], [*chain(*answers), before[-1]]
+    return "" if found == wanted else f"{script!r} at {place}: {found} is not {wanted}"
 
 
 def wrong_reading(program: Program, data: bytes) -> str:
@@ -369,8 +444,9 @@ def check_random(program: Program, count: cases.Count, choice: random.Random, ru
         labelled = local + b"r.stats -cl input=" + names[0] + b"\n"
         count.add(f"tiles {number}", wrong_tiles(program, maps, local, choice))
         count.add(f"a tile alone {number}", wrong_tile_alone(program, maps, alone, choice))
-        for script in (local, alone, labelled):
-            count.add(f"the halo {number}", wrong_halo(program, maps, script, choice))
+        squares = list(map(with_larger_patches, maps))
+        for of, script in (maps, local), (maps, alone), (maps, labelled), (squares, local):
+            count.add(f"questions {number}", wrong_questions(program, of, script, choice))
 
 
 def check_damage(program: Program, count: cases.Count, choice: random.Random, runs: int) -> None:

@@ -166,8 +166,8 @@ patches_frame_if_wanted place question (Some measures) = Patches (record {
   zones = measures.zones;
 }) ∷ []
 
--- the frames for the question at index `place`, if they are wanted: the numbers of the patches of the named map, without
--- halo in a tile, the map's border, and the measures of the patches in the full map, with their zones
+-- the frames for the question at index `place`, if they are wanted: the numbers of the patches of the named map, which
+-- has no halo, the map's border, and the measures of the patches in the full map, with their zones
 pub record AreFramesForQuestion (shelves : RunShelvesValue) (place : ℕ) (question : PatchQuestionValue)
     (frames : List OutputFrame) : Type 0 where
   pub map : Grid

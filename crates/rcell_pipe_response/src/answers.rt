@@ -142,8 +142,8 @@ fn position_of_tile(place: &TilePlace) -> TilePosition
     }
 }
 
-// Returns the measures in the full map of the patches of the map that a question names. In a tile, its map with the halo
-// has the cells around a patch.
+// Returns the measures in the full map of the patches of the map that a question names. In a tile, the map with the halo
+// has the cells around the patches.
 fn patch_measures_in_full_map(
     alloc: Global,
     shelves: &RunShelves,
@@ -151,7 +151,8 @@ fn patch_measures_in_full_map(
     map: &CellMap,
     numbers: &CellMap,
 ) -> Result<Vec<Patch>, Memory>
-    requires known { is_none (place_of_name question.now.map.items shelves.now.outer.names) ≡ false }
+    requires known { is_none (place_of_name question.now.map.items shelves.now.outer.names)
+        ≡ false }
     requires map { IsShelfMapWithName (inner_shelf shelves.now) question.now.map.items map.now }
     requires clumping { IsClumpMapOf question.now.joining map.now numbers.now }
     ensures { IfOk result (λ patches. AreMeasuresInFullMap shelves.now.place shelves.now.outer
@@ -162,7 +163,14 @@ fn patch_measures_in_full_map(
         Some(place) => {
             let outer = map_named(shelves.outer(), &question.map);
             let position = position_of_tile(&place);
-            patch_measures_in_tile(alloc, outer, position, numbers, question.joining, question.depth)
+            patch_measures_in_tile(
+                alloc,
+                outer,
+                position,
+                numbers,
+                question.joining,
+                question.depth,
+            )
         }
     }
 }

@@ -93,8 +93,8 @@ fn question_error_kind_if_rejected(
     }
 }
 
-/// Returns the error of the first question that is rejected. `names` contains the names of all maps, and `margins` their
-/// margins in a tile.
+/// Returns the error of the first question that is rejected. `names` contains the names of all maps, and `margins`
+/// their margins in a tile.
 pub(crate) fn first_question_error(
     form: ResponseForm,
     names: &Names,
