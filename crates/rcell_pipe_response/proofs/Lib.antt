@@ -1,3 +1,4 @@
 pub mod ExecutionLemmas
 pub mod EndLemmas
 pub mod QuestionLemmas
+pub mod TileQuestionLemmas

@@ -1,6 +1,6 @@
 -- Questions are handled one after another.
 use Rattle.std.proofs.Common.{◌≡◌, ℕ, suc, ◌+◌, ◌<◌, List, [], ◌∷◌, ◌++◌, length}
-use Rattle.std.proofs.Common.{take, drop, get_or, Option}
+use Rattle.std.proofs.Common.{take, drop, get_or, Option, Bool, true, false, All, if◌then◌else◌}
 use Rattle.std.proofs.Common.{Some, None, refl, ap, sym, ◌∙◌, subst, append_assoc, append-nil, add-one, arith}
 use Rattle.std.proofs.Common.{take-append-drop}
 use Rattle.std.proofs.Math.Seq.{drop-cons}
@@ -9,18 +9,21 @@ use Rattle.std.proofs.lemmas.List.Concat.{flat_map-append}
 use Rattle.cell_core_devices.specs.Device.{SinkFaults}
 use Rattle.cell_core_devices.specs.Blocks.{OutputBlockValue, IsTextAppendedToSink, IsTextAppendedThroughBlock}
 use Rattle.cell_core_devices.proofs.BlockLemmas.{appends_none, appends_then}
-use Rattle.cell_core.specs.Shelf.{ShelfValue}
 use Rattle.rcell_tile.specs.TileRuns.{RunShelvesValue}
+use Rattle.rcell_tile.specs.declared.halo_margins.HaloMargin.{HaloMargin}
 use Rattle.rcell_script.specs.declared.statement.Statement.{Statement}
 use Rattle.rcell_pipe_request.specs.declared.question.Question.{Question}
 use Rattle.rcell_pipe_request.specs.Questions.{PatchQuestionValue, question_as_value, questions_as_values}
 use Rattle.rcell_pipe_response.specs.declared.frame_run.ResponseForm.{ResponseForm}
+use Rattle.rcell_pipe_response.specs.declared.frame_run.ResponseForm.TheVariants.{Frames}
 use Rattle.rcell_pipe_response.specs.declared.question_error.QuestionErrorKind.{QuestionErrorKind}
+use Rattle.rcell_pipe_response.specs.declared.question_error.QuestionErrorKind.TheVariants.{UnknownMap, HaloTooSmall}
 use Rattle.rcell_pipe_response.specs.declared.question_error.QuestionError.{QuestionError}
 use Rattle.rcell_pipe_frames.specs.Frames.{OutputFrame, StatementsGiveFrames}
 use Rattle.rcell_pipe_frames.specs.FrameBytes.{frame_bytes, frames_bytes, response_magic}
 use Rattle.rcell_pipe_response.specs.QuestionFrames.{names_of_all_maps, question_error_kind_if_rejected}
-use Rattle.rcell_pipe_response.specs.QuestionFrames.{error_of_question_or_later_one}
+use Rattle.rcell_pipe_response.specs.QuestionFrames.{error_of_question_or_later_one, question_has_unknown_map}
+use Rattle.rcell_pipe_response.specs.QuestionFrames.{question_lacks_halo}
 use Rattle.rcell_pipe_response.specs.QuestionFrames.{first_question_error}
 use Rattle.rcell_pipe_response.specs.QuestionFrames.{AreFramesForQuestion, AreFramesForAllQuestions}
 use Rattle.rcell_pipe_response.specs.RunEnds.{AreFramesOfStatementsAndQuestions}
@@ -40,65 +43,76 @@ none_of_both : (number : ℕ) (fault : Option QuestionErrorKind) (others : Optio
 none_of_both number None others h = (refl, h)
 none_of_both number (Some kind) others h = absurd (cc h)
 
-module _ (form : ResponseForm) (names : List (List ℕ)) (questions : List Question) (i : ℕ) (q : Question)
-    (h : i < length questions) (read : q ≡ get_or questions i q) where
-  abbrev after : Option QuestionError
-  after = first_question_error form names (questions_as_values (drop (i + 1) questions))
+module _ (form : ResponseForm) (names : List (List ℕ)) (margins : Option (List HaloMargin)) (questions : List Question)
+    (i : ℕ) (q : Question) (h : i < length questions) (read : q ≡ get_or questions i q) where
+  abbrev kind_here : Option QuestionErrorKind
+  kind_here = question_error_kind_if_rejected form names margins (question_as_value q)
 
-  opened : first_question_error form names (questions_as_values (drop i questions))
-      ≡ error_of_question_or_later_one q.number (question_error_kind_if_rejected form names (question_as_value q)) after
+  abbrev error_from : ℕ → Option QuestionError
+  error_from k = first_question_error form names margins (questions_as_values (drop k questions))
+
+  opened : error_from i ≡ error_of_question_or_later_one q.number kind_here (error_from (i + 1))
   unfolding first_question_error
-  opened = ap (λ (l : List Question). first_question_error form names (questions_as_values l))
+  opened = ap (λ (l : List Question). first_question_error form names margins (questions_as_values l))
       (next_at questions i q h read)
 
   -- if the question at place i is rejected, its error is the first
-  pub fault_here : {all : Option QuestionError} (kind : QuestionErrorKind)
-      → first_question_error form names (questions_as_values (drop i questions)) ≡ all
-      → question_error_kind_if_rejected form names (question_as_value q) ≡ Some kind
-      → Some (record { kind = kind; number = q.number }) ≡ all
+  pub fault_here : {all : Option QuestionError} (kind : QuestionErrorKind) → error_from i ≡ all
+      → kind_here ≡ Some kind → Some (record { kind = kind; number = q.number }) ≡ all
   fault_here kind before fault =
-      sym (ap (λ (f : Option QuestionErrorKind). error_of_question_or_later_one q.number f after) fault) ∙ sym opened
-      ∙ before
+      sym (ap (λ (f : Option QuestionErrorKind). error_of_question_or_later_one q.number f (error_from (i + 1))) fault)
+      ∙ sym opened ∙ before
 
   -- if the question at place i is accepted, the first error belongs to a later question
-  pub fault_after : {all : Option QuestionError}
-      → first_question_error form names (questions_as_values (drop i questions)) ≡ all
-      → question_error_kind_if_rejected form names (question_as_value q) ≡ None
-      → first_question_error form names (questions_as_values (drop (i + 1) questions)) ≡ all
+  pub fault_after : {all : Option QuestionError} → error_from i ≡ all → kind_here ≡ None → error_from (i + 1) ≡ all
   fault_after before fine =
-      sym (ap (λ (f : Option QuestionErrorKind). error_of_question_or_later_one q.number f after) fine) ∙ sym opened
-      ∙ before
-
-  -- if no question is rejected, the question at place i and those after it are not rejected
-  pub none_here : first_question_error form names (questions_as_values (drop i questions)) ≡ None
-      → (question_error_kind_if_rejected form names (question_as_value q) ≡ None)
-      × (first_question_error form names (questions_as_values (drop (i + 1) questions)) ≡ None)
-  none_here none = none_of_both q.number (question_error_kind_if_rejected form names (question_as_value q)) after
-      (sym opened ∙ none)
+      sym (ap (λ (f : Option QuestionErrorKind). error_of_question_or_later_one q.number f (error_from (i + 1))) fine)
+      ∙ sym opened ∙ before
 
 -- no questions have no error
-pub none_left : (form : ResponseForm) (names : List (List ℕ)) → first_question_error form names [] ≡ None
+pub none_left : (form : ResponseForm) (names : List (List ℕ)) (margins : Option (List HaloMargin))
+    → first_question_error form names margins [] ≡ None
 unfolding first_question_error
-none_left form names = refl
+none_left form names margins = refl
+
+-- a question that is not rejected names known maps
+known-if-accepted : (unknown lacks : Bool)
+    → (if unknown then Some UnknownMap else (if lacks then Some HaloTooSmall else None)) ≡ None → unknown ≡ false
+known-if-accepted false lacks h = refl
+known-if-accepted true lacks h = absurd (cc h)
+
+-- if no question is rejected, each names known maps
+pub all_known : (names : List (List ℕ)) (margins : Option (List HaloMargin)) (questions : List Question)
+    → first_question_error Frames names margins (questions_as_values questions) ≡ None
+    → All (λ q. question_has_unknown_map names (question_as_value q) ≡ false) questions
+unfolding first_question_error
+all_known names margins [] none = _
+all_known names margins (q ∷ qs) none =
+    let both = none_of_both q.number (question_error_kind_if_rejected Frames names margins (question_as_value q))
+    (first_question_error Frames names margins (questions_as_values qs)) none in (
+      known-if-accepted (question_has_unknown_map names (question_as_value q))
+          (question_lacks_halo names margins (question_as_value q)) both.0,
+      all_known names margins qs both.1,
+    )
 
 -- one more question adds its frames
-answers_more : (first : List PatchQuestionValue) (shelf : ShelfValue) (question : PatchQuestionValue) (place n : ℕ)
-    (frames more : List OutputFrame) → n ≡ place + length first → AreFramesForAllQuestions shelf place first frames
-    → AreFramesForQuestion shelf n question more → AreFramesForAllQuestions shelf place (first ++ question
+answers_more : (first : List PatchQuestionValue) (shelves : RunShelvesValue) (question : PatchQuestionValue) (place n : ℕ)
+    (frames more : List OutputFrame) → n ≡ place + length first → AreFramesForAllQuestions shelves place first frames
+    → AreFramesForQuestion shelves n question more → AreFramesForAllQuestions shelves place (first ++ question
     ∷ []) (frames ++ more)
-answers_more [] shelf question place n frames more is x answer =
+answers_more [] shelves question place n frames more is x answer =
     let none : n ≡ place + 0 = is in
     let same : n ≡ place = omega (arith, none) in (
       more,
       (
         [],
         (
-          subst (λ (k : ℕ). AreFramesForQuestion shelf k question more) same answer,
+          subst (λ (k : ℕ). AreFramesForQuestion shelves k question more) same answer,
           (refl, ap (λ t. t ++ more) x ∙ sym (append-nil more)),
         ),
       ),
     )
-answers_more (q ∷ qs) shelf question place n frames more is x answer =
+answers_more (q ∷ qs) shelves question place n frames more is x answer =
     let count : n ≡ place + suc (length qs) = is in
     let next : n ≡ (place + 1) + length qs = omega (arith, count) in (
       x.0,
@@ -107,7 +121,7 @@ answers_more (q ∷ qs) shelf question place n frames more is x answer =
         (
           x.1.1.0,
           (
-            answers_more qs shelf question (place + 1) n x.1.0 more next x.1.1.1.0 answer,
+            answers_more qs shelves question (place + 1) n x.1.0 more next x.1.1.1.0 answer,
             ap (λ t. t ++ more) x.1.1.1.1 ∙ append_assoc x.0 x.1.0 more,
           ),
         ),
@@ -133,20 +147,20 @@ module _ {S : Type 0} {taken : S → Option (List ℕ)} {faults : S → SinkFaul
       (sym (flat_map-append frame_bytes first second)) (appends_then one two)
 
 -- before any question, there are no frames of questions
-pub answered_none : {S : Type 0} {taken : S → Option (List ℕ)} {faults : S → SinkFaults} (shelf : ShelfValue) (now : S)
-    (block : OutputBlockValue) → AreAllQuestionFramesAppended taken faults shelf [] now block now block
-answered_none shelf now block = record { frames = []; answers = refl; appends = appends_none }
+pub answered_none : {S : Type 0} {taken : S → Option (List ℕ)} {faults : S → SinkFaults} (shelves : RunShelvesValue) (now : S)
+    (block : OutputBlockValue) → AreAllQuestionFramesAppended taken faults shelves [] now block now block
+answered_none shelves now block = record { frames = []; answers = refl; appends = appends_none }
 
-module _ {S : Type 0} {taken : S → Option (List ℕ)} {faults : S → SinkFaults} {shelf : ShelfValue}
+module _ {S : Type 0} {taken : S → Option (List ℕ)} {faults : S → SinkFaults} {shelves : RunShelvesValue}
     (questions : List Question) (i : ℕ) {old was : S} {block middle : OutputBlockValue}
-    (given : AreAllQuestionFramesAppended taken faults shelf (questions_as_values
+    (given : AreAllQuestionFramesAppended taken faults shelves (questions_as_values
     (take i questions)) old block was middle) where
   -- the question at place i has its frames
   pub answered_more : (q : Question) → i < length questions → q ≡ get_or questions i q
       → {mid now : S} {between new : OutputBlockValue}
-      → AreQuestionFramesAppended taken faults shelf i (question_as_value q) was middle mid between
+      → AreQuestionFramesAppended taken faults shelves i (question_as_value q) was middle mid between
       → IsTextAppendedThroughBlock taken faults mid between [] now new
-      → AreAllQuestionFramesAppended taken faults shelf (questions_as_values (take (i + 1) questions)) old block now new
+      → AreAllQuestionFramesAppended taken faults shelves (questions_as_values (take (i + 1) questions)) old block now new
   answered_more q h read {mid} {now} {between} {new} answer emptied =
       let more = answer.frames in
       let short : length (take i questions) ≡ i = length-take-le i questions (omega (arith, h)) in
@@ -156,12 +170,12 @@ module _ {S : Type 0} {taken : S → Option (List ℕ)} {faults : S → SinkFaul
       let list : all ≡ questions_as_values (take (i + 1) questions) =
       sym (map-append question_as_value (take i questions) (q ∷ []))
       ∙ ap questions_as_values (ap (λ x. take i questions ++ x ∷ []) read ∙ sym (take_more questions i q h)) in
-      let answers : AreFramesForAllQuestions shelf 0 all (given.frames ++ more) =
-      answers_more (questions_as_values (take i questions)) shelf (question_as_value q) 0 i given.frames more
+      let answers : AreFramesForAllQuestions shelves 0 all (given.frames ++ more) =
+      answers_more (questions_as_values (take i questions)) shelves (question_as_value q) 0 i given.frames more
       (omega (arith, long)) given.answers answer.answer in
       record {
         frames = given.frames ++ more;
-        answers = subst (λ (l : List PatchQuestionValue). AreFramesForAllQuestions shelf 0 l (given.frames
+        answers = subst (λ (l : List PatchQuestionValue). AreFramesForAllQuestions shelves 0 l (given.frames
             ++ more)) list answers;
         appends = frames_then given.frames more given.appends
             (subst (λ (bytes : List ℕ). IsTextAppendedThroughBlock taken faults was middle bytes now new)
@@ -182,7 +196,7 @@ module _ {S : Type 0} {taken : S → Option (List ℕ)} {faults : S → SinkFaul
 
 -- ---- after the frames of statements
 
--- the names on the shelf after all statements are all names
+-- the names on the shelves after all statements are all names
 pub names_at_end : (statements : List Statement) (shelves after : RunShelvesValue) (frames : List OutputFrame)
     → StatementsGiveFrames shelves statements frames after
     → after.outer.names ≡ names_of_all_maps shelves.outer.names statements

@@ -158,19 +158,14 @@ fn patch_measures_in_full_map(
     ensures { IfOk result (λ patches. AreMeasuresInFullMap shelves.now.place shelves.now.outer
         question.now.map.items map.now numbers.now question.now.depth patches.items) }
 {
+    let joining = question.joining;
+    let depth = question.depth;
     match shelves.place() {
-        None => patch_measures(alloc, map, numbers, question.joining, question.depth),
+        None => patch_measures(alloc, map, numbers, joining, depth),
         Some(place) => {
             let outer = map_named(shelves.outer(), &question.map);
             let position = position_of_tile(&place);
-            patch_measures_in_tile(
-                alloc,
-                outer,
-                position,
-                numbers,
-                question.joining,
-                question.depth,
-            )
+            patch_measures_in_tile(alloc, outer, position, numbers, joining, depth)
         }
     }
 }
@@ -288,8 +283,8 @@ pub(crate) fn push_frames_for_all_questions<W: Sink>(
     block: &mut OutputBlock,
     out: &mut W,
 ) -> Result<(), AnswerWritingStop>
-    requires { All (λ question. question_has_unknown_map shelves.now.outer.names question ≡ false)
-        (questions_as_values questions.now) }
+    requires { All (λ question. question_has_unknown_map shelves.now.outer.names
+        (question_as_value question) ≡ false) questions.now }
     ensures ok { OnOk result (AreAllQuestionFramesAppended W.taken W.faults shelves.now
         (questions_as_values questions.now)
         out.old block.old out.new block.new) }

@@ -12,7 +12,7 @@ ghost use Rattle.rcell_script.specs.ScriptTexts.{script_error_text};
 ghost use Rattle.rcell_tile.specs.TileRuns.{RunShelvesValue};
 ghost use Rattle.rcell_pipe_request.specs.declared.error.RequestError.{RequestError};
 ghost use Rattle.rcell_pipe_request.specs.Requests.{RunRequestValue, run_request_as_value};
-ghost use Rattle.rcell_pipe_request.specs.Questions.{PatchQuestionValue, questions_as_values};
+ghost use Rattle.rcell_pipe_request.specs.Questions.{PatchQuestionValue, question_as_value, questions_as_values};
 ghost use Rattle.rcell_pipe_response.specs.declared.frame_run.ResponseForm.TheVariants.{Frames, Text};
 ghost use Rattle.rcell_pipe_frames.specs.Frames.{OutputFrame, StatementsGiveFrames};
 ghost use Rattle.rcell_pipe_frames.specs.FrameBytes.{response_magic, frames_bytes, response_bytes, run_end_frame_bytes};
@@ -29,7 +29,7 @@ use crate::end::{
 };
 use crate::frame_execution::{FrameExecutionStop, execute_statements_into_frames};
 use crate::made_names::names_of_all_maps;
-use crate::question_error::first_question_error;
+use crate::question_error::{QuestionError, first_question_error};
 use cell_core::block::OutputBlock;
 use cell_core::memory::Memory;
 use cell_core::name::Names;
@@ -204,8 +204,8 @@ fn answer_questions<W: Sink>(
     mut block: OutputBlock,
     out: &mut W,
 ) -> PipeOutcome
-    requires { All (λ question. question_has_unknown_map shelves.now.outer.names question ≡ false)
-        (questions_as_values questions.now) }
+    requires { All (λ question. question_has_unknown_map shelves.now.outer.names
+        (question_as_value question) ≡ false) questions.now }
     ensures { (before : Option (List ℕ)) (start : SinkFaults)
         (read : Result RunRequestValue RequestError)
         (given : RunShelvesValue) (statements : List Statement) (frames : List OutputFrame)
@@ -331,6 +331,25 @@ fn margins_in_tile_at_end(
     }
 }
 
+// Returns the error of the first question that is rejected.
+fn question_error_after_statements(
+    alloc: Global,
+    shelves: &RunShelves,
+    names: Names,
+    script: &Script,
+    questions: &[Question],
+    form: ResponseForm,
+) -> Result<Option<QuestionError>, Memory>
+    requires same { names ≡ shelves.now.outer.names }
+    requires fits { StatementsFitKnownMaps names script.now }
+    ensures { IfOk result (λ error. error ≡ question_error_after_statements form shelves.now script.now
+        (questions_as_values questions.now)) }
+{
+    let all = names_of_all_maps(alloc, names, script.statements())?;
+    let margins = margins_in_tile_at_end(alloc, shelves, script)?;
+    Ok(first_question_error(form, &all, &margins, questions))
+}
+
 // Runs a script over maps, unless a question is rejected.
 fn run_script<W: Sink>(
     alloc: Global,
@@ -351,19 +370,14 @@ fn run_script<W: Sink>(
           questions = questions_as_values questions.now;
         }))) (W.taken out.old) (W.faults out.old) (W.taken out.new) (W.faults out.new) result }
 {
-    let Ok(all) = names_of_all_maps(alloc, names, script.statements()) else {
-        return reject(out, PipeError::Memory, &memory_end(0));
-    };
-    let Ok(margins) = margins_in_tile_at_end(alloc, &shelves, script) else {
-        return reject(out, PipeError::Memory, &memory_end(0));
-    };
-    match first_question_error(form, &all, &margins, questions) {
-        Some(error) => reject(
+    match question_error_after_statements(alloc, &shelves, names, script, questions, form) {
+        Err(_) => reject(out, PipeError::Memory, &memory_end(0)),
+        Ok(Some(error)) => reject(
             out,
             PipeError::Question(error),
             &end_frame_of_rejected_question(error),
         ),
-        None => match form {
+        Ok(None) => match form {
             ResponseForm::Frames => run_statements_and_questions(
                 alloc, shelves, script, questions, out,
             ),

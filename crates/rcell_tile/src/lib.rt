@@ -3,7 +3,8 @@
 //! - `tile_place`: `TilePlace`: the size of the full map, the rectangle of the maps with their halo, and the tile
 //! - `run_shelves`: `RunShelves`: the maps of a run over full maps or over a tile; `making_in_tiles` adds the map that a
 //!   command makes
-//! - `halo_margins`: `first_halo_fault`: the first statement for which the halo is too small
+//! - `halo_margins`: `first_halo_fault`: the first statement for which the halo is too small; `depth_exceeds_margin`:
+//!   whether a map has too little halo for a question
 //! - `tile_maps`: maps without their halo, and with null in it
 //! - `law`: `tile_runs_have_full_map_cells`: after the same statements, a tile has the full maps' cells;
 //!   `tables_after_runs_merge_into_full_table`: tables of tiles merge into the table of the full maps

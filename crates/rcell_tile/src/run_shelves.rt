@@ -1,6 +1,6 @@
 //! The maps of a run: of a tile with its halo, or full maps.
 
-ghost use Rattle.std.specs.Prelude.{◌≡◌, Some, None, IfOk, OnOk};
+ghost use Rattle.std.specs.Prelude.{◌≡◌, Some, None, IfOk, IfSome, OnOk};
 ghost use Rattle.cell_core_values.specs.Name.{place_of_name};
 ghost use Rattle.rcell.specs.Making.{shelf_with_map_at_end};
 ghost use Rattle.rcell_tile.specs.TileMaps.{IsPlaceOfMaps, tile_shelf};
@@ -136,7 +136,8 @@ impl RunShelves {
 
     /// Returns the place of the tile, if the run is over a tile.
     pub fn place(&self) -> Option<TilePlace>
-        ensures { result ≡ self.now.place }
+        ensures value { result ≡ self.now.place }
+        ensures covers { IfSome result (λ place. IsPlaceOfMaps place self.now.outer.region) }
     {
         match &self.tile {
             None => None,

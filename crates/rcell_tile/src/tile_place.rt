@@ -187,27 +187,27 @@ impl TilePlace {
     pub fn rows_above(&self) -> u32
         ensures { result ≡ halo_rows_above self.now }
     {
-        self.tile.top - self.outer_top()
+        self.tile_top() - self.outer_top()
     }
 
     /// Returns the number of rows of the halo below the tile.
     pub fn rows_below(&self) -> u32
         ensures { result ≡ halo_rows_below self.now }
     {
-        (self.outer_top() + self.outer_rows()) - (self.tile.top + self.tile_rows())
+        (self.outer_top() + self.outer_rows()) - (self.tile_top() + self.tile_rows())
     }
 
     /// Returns the number of columns of the halo to the left of the tile.
     pub fn columns_left(&self) -> u32
         ensures { result ≡ halo_columns_left self.now }
     {
-        self.tile.left - self.outer_left()
+        self.tile_left() - self.outer_left()
     }
 
     /// Returns the number of columns of the halo to the right of the tile.
     pub fn columns_right(&self) -> u32
         ensures { result ≡ halo_columns_right self.now }
     {
-        (self.outer_left() + self.outer_cols()) - (self.tile.left + self.tile_cols())
+        (self.outer_left() + self.outer_cols()) - (self.tile_left() + self.tile_cols())
     }
 }

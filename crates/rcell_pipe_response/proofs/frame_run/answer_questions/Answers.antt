@@ -28,7 +28,7 @@ returns-in-Ok g c = λ before start read shelves statements frames accepted give
             after = c.args.shelves.now;
             given = given;
             answers = answered.frames;
-            answered = rw c.maps_without_halo.ensures.value at answered.answers;
+            answered = answered.answers;
             both = refl;
           },
           refl,
@@ -60,7 +60,7 @@ returns-in-Memory g c = λ before start read shelves statements frames accepted 
             after = c.args.shelves.now;
             given = given;
             answers = answered.frames;
-            answered = rw c.maps_without_halo.ensures.value at answered.answers;
+            answered = answered.answers;
             both = refl;
           },
           refl,
@@ -91,7 +91,7 @@ returns-in-Write g c = λ before start read shelves statements frames accepted g
           after = c.args.shelves.now;
           given = given;
           answers = answered.frames;
-          answered = rw c.maps_without_halo.ensures.value at answered.answers;
+          answered = answered.answers;
           both = refl;
         },
         refl,

@@ -1,25 +1,25 @@
-use Rattle.std.proofs.Common.{◌≡◌, ◌∙◌, ◌++◌, ◌∷◌, List, [], ℕ, None, Some, inr, refl, sym, subst}
-use Rattle.rcell_pipe_request.specs.Questions.{questions_as_values}
+use Rattle.std.proofs.Common.{◌≡◌, ◌++◌, ◌∷◌, All, List, [], ℕ, Some, false, inr, sym, refl, subst}
+use Rattle.rcell_pipe_request.specs.Questions.{question_as_value, questions_as_values}
 use Rattle.rcell_pipe_response.specs.declared.end.PipeError.TheVariants as errors
 use Rattle.rcell_pipe_frames.specs.FrameBytes.{response_magic, frames_bytes}
-use Rattle.rcell_pipe_response.specs.QuestionFrames.{first_question_error}
+use Rattle.rcell_pipe_response.specs.QuestionFrames.{margins_in_tile_at_end, names_of_all_maps}
+use Rattle.rcell_pipe_response.specs.QuestionFrames.{question_has_unknown_map}
 use Rattle.rcell_pipe_response.specs.RunEnds.{memory_end, IsRunRequestAccepted, IsResponseToRunRequest}
 use Rattle.rcell_pipe_response.specs.RunEnds.{end_frame_as_value}
 use Rattle.rcell_pipe_response.specs.declared.frame_run.ResponseForm.TheVariants.{Frames}
 use Rattle.rcell_pipe_response.proofs.EndLemmas.{finished_frames, ends_as, cut, end_broken}
-use Rattle.rcell_pipe_response.proofs.ExecutionLemmas.{inner_names}
-use Rattle.rcell_pipe_response.proofs.QuestionLemmas.{names_at_end, gives_none}
+use Rattle.rcell_pipe_response.proofs.QuestionLemmas.{all_known, names_at_end, gives_none}
 use Rattle.rcell_pipe_response.proofs.frame_run.run_statements_and_questions.Goals as goal
 
 pub answer_questions-requires : goal.answer_questions-requires
 answer_questions-requires g c =
     let given = rw c.statements.ensures at c.in-Ok.ensures.ok.given in
-    subst (λ (names : List (List ℕ)). first_question_error Frames names (questions_as_values c.args.questions.now)
-    ≡ None)
-    (sym (inner_names c.execute_statements_into_frames.new.shelves
-    ∙ names_at_end c.args.script.now c.args.shelves c.execute_statements_into_frames.new.shelves
+    subst (λ (names : List (List ℕ)). All (λ q. question_has_unknown_map names (question_as_value q) ≡ false)
+    c.args.questions.now)
+    (sym (names_at_end c.args.script.now c.args.shelves c.execute_statements_into_frames.new.shelves
     c.in-Ok.ensures.ok.frames given))
-    c.requires.known
+    (all_known (names_of_all_maps c.args.shelves.outer.names c.args.script.now)
+    (margins_in_tile_at_end c.args.shelves c.args.script.now) c.args.questions.now c.requires.known)
 
 pub returns-in-Ok : goal.returns-in-Ok
 returns-in-Ok g c = λ read accepted.

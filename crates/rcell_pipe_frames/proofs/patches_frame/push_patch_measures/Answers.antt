@@ -1,7 +1,7 @@
 use Rattle.std.proofs.Common.{rules, w32, SFits}
 use Rattle.std.proofs.lemmas.Int.{to_z-of_z}
 use Rattle.cell_core_devices.proofs.BlockLemmas.{appends_then}
-use Rattle.rcell_pipe_frames.proofs.patches_frame.push_patch.Goals as goal
+use Rattle.rcell_pipe_frames.proofs.patches_frame.push_patch_measures.Goals as goal
 
 pub returns : goal.returns
 returns g c =
