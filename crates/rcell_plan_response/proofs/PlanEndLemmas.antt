@@ -37,7 +37,7 @@ use Rattle.rcell_pipe_response.specs.RunEnds.{IsResponseOfAcceptedRequest, IsTex
 use Rattle.rcell_pipe_response.specs.RunEnds.{AreFramesOfStatementsAndQuestions, IsRunRequestAccepted}
 use Rattle.rcell_pipe_response.specs.RunEnds.{halo_fault_of_statements}
 use Rattle.rcell_pipe_response.specs.FrameEndings.{IsTextSentWithOutcome, IsErrorOfRejectedScript, IsEndOfResponseSent}
-use Rattle.rcell_pipe_response.specs.QuestionFrames.{names_of_all_maps, first_question_error}
+use Rattle.rcell_pipe_response.specs.QuestionFrames.{names_of_all_maps, question_error_after_statements}
 use Rattle.rcell_pipe_response.specs.declared.frame_run.ResponseForm.TheVariants.{Frames}
 use Rattle.rcell_pipe_response.proofs.EndLemmas.{ended_failed, ended_reported, ended_taken, of_run}
 use Rattle.rcell_pipe_response.specs.declared.frame_run.ResponseForm.{ResponseForm}
@@ -351,13 +351,12 @@ refused law one (Ok (form.Run run, rest)) accepted response (errors.Question err
     one is.shelves.outer.names is.script accepted.1.0 is.statements
     (subst (λ (r : RunRequestValue). IsScript r.shelves.outer.names r.script accepted.1.0) same given.denoted)
     is.denoted in
-    let known : first_question_error form (names_of_all_maps is.shelves.outer.names accepted.1.0) is.questions ≡ None =
-    subst (λ (r : RunRequestValue). first_question_error form (names_of_all_maps r.shelves.outer.names accepted.1.0)
-    r.questions ≡ None) same
+    let known : question_error_after_statements form is.shelves accepted.1.0 is.questions ≡ None =
+    subst (λ (r : RunRequestValue). question_error_after_statements form r.shelves accepted.1.0 r.questions ≡ None) same
     given.known in
-    let none : first_question_error form (names_of_all_maps is.shelves.outer.names is.statements) is.questions ≡ None =
-    subst (λ (l : List Statement). first_question_error form (names_of_all_maps is.shelves.outer.names l) is.questions
-    ≡ None) statements known in
+    let none : question_error_after_statements form is.shelves is.statements is.questions ≡ None =
+    subst (λ (l : List Statement). question_error_after_statements form is.shelves l is.questions ≡ None) statements
+    known in
     cc (is.first, none)
 refused law one (Ok (form.Plan, rest)) accepted response (errors.Request e) lasts fine is =
     cc (is.0, accepted.1.1.request)
