@@ -6,6 +6,7 @@ use Rattle.std.proofs.Common.{take-append-drop}
 use Rattle.std.proofs.Math.Seq.{drop-cons}
 use Rattle.std.proofs.lemmas.List.{take_more, length-map, length-take-le, map-append}
 use Rattle.std.proofs.lemmas.List.Concat.{flat_map-append}
+use Rattle.std.proofs.lemmas.List.Elements.{All-nil, All-cons}
 use Rattle.cell_core_devices.specs.Device.{SinkFaults}
 use Rattle.cell_core_devices.specs.Blocks.{OutputBlockValue, IsTextAppendedToSink, IsTextAppendedThroughBlock}
 use Rattle.cell_core_devices.proofs.BlockLemmas.{appends_none, appends_then}
@@ -82,18 +83,21 @@ known-if-accepted false lacks h = refl
 known-if-accepted true lacks h = absurd (cc h)
 
 -- if no question is rejected, each names known maps
-pub all_known : (names : List (List ℕ)) (margins : Option (List HaloMargin)) (questions : List Question)
-    → first_question_error Frames names margins (questions_as_values questions) ≡ None
-    → All (λ q. question_has_unknown_map names (question_as_value q) ≡ false) questions
-unfolding first_question_error
-all_known names margins [] none = _
-all_known names margins (q ∷ qs) none =
-    let both = none_of_both q.number (question_error_kind_if_rejected Frames names margins (question_as_value q))
-    (first_question_error Frames names margins (questions_as_values qs)) none in (
-      known-if-accepted (question_has_unknown_map names (question_as_value q))
-          (question_lacks_halo names margins (question_as_value q)) both.0,
-      all_known names margins qs both.1,
-    )
+module _ (names : List (List ℕ)) (margins : Option (List HaloMargin)) where
+  abbrev NamesKnownMaps : Question → Type 0
+  NamesKnownMaps q = question_has_unknown_map names (question_as_value q) ≡ false
+
+  pub all_known : (questions : List Question)
+      → first_question_error Frames names margins (questions_as_values questions) ≡ None → All NamesKnownMaps questions
+  unfolding first_question_error
+  all_known [] none = All-nil NamesKnownMaps
+  all_known (q ∷ qs) none =
+      let both = none_of_both q.number (question_error_kind_if_rejected Frames names margins (question_as_value q))
+      (first_question_error Frames names margins (questions_as_values qs)) none in
+      All-cons NamesKnownMaps q qs
+      (known-if-accepted (question_has_unknown_map names (question_as_value q))
+      (question_lacks_halo names margins (question_as_value q)) both.0)
+      (all_known qs both.1)
 
 -- one more question adds its frames
 answers_more : (first : List PatchQuestionValue) (shelves : RunShelvesValue) (question : PatchQuestionValue) (place n : ℕ)
@@ -184,7 +188,7 @@ module _ {S : Type 0} {taken : S → Option (List ℕ)} {faults : S → SinkFaul
       }
 
   -- the frames of questions end before the question at place i
-  pub answers_first : AreFirstQuestionFramesAppended taken faults shelf
+  pub answers_first : AreFirstQuestionFramesAppended taken faults shelves
       (questions_as_values questions) old block was middle
   answers_first = record {
     first = questions_as_values (take i questions);

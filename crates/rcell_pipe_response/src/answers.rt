@@ -165,7 +165,8 @@ fn patch_measures_in_full_map(
         Some(place) => {
             let outer = map_named(shelves.outer(), &question.map);
             let position = position_of_tile(&place);
-            patch_measures_in_tile(alloc, outer, position, numbers, joining, depth)
+            let patches = patch_measures_in_tile(alloc, outer, position, numbers, joining, depth)?;
+            Ok(patches)
         }
     }
 }
