@@ -100,8 +100,9 @@ module _ (names : List (List ℕ)) (margins : Option (List HaloMargin)) where
       (all_known qs both.1)
 
 -- one more question adds its frames
-answers_more : (first : List PatchQuestionValue) (shelves : RunShelvesValue) (question : PatchQuestionValue) (place n : ℕ)
-    (frames more : List OutputFrame) → n ≡ place + length first → AreFramesForAllQuestions shelves place first frames
+answers_more : (first : List PatchQuestionValue) (shelves : RunShelvesValue) (question : PatchQuestionValue)
+    (place n : ℕ) (frames more : List OutputFrame) → n ≡ place + length first
+    → AreFramesForAllQuestions shelves place first frames
     → AreFramesForQuestion shelves n question more → AreFramesForAllQuestions shelves place (first ++ question
     ∷ []) (frames ++ more)
 answers_more [] shelves question place n frames more is x answer =
@@ -151,8 +152,8 @@ module _ {S : Type 0} {taken : S → Option (List ℕ)} {faults : S → SinkFaul
       (sym (flat_map-append frame_bytes first second)) (appends_then one two)
 
 -- before any question, there are no frames of questions
-pub answered_none : {S : Type 0} {taken : S → Option (List ℕ)} {faults : S → SinkFaults} (shelves : RunShelvesValue) (now : S)
-    (block : OutputBlockValue) → AreAllQuestionFramesAppended taken faults shelves [] now block now block
+pub answered_none : {S : Type 0} {taken : S → Option (List ℕ)} {faults : S → SinkFaults} (shelves : RunShelvesValue)
+    (now : S) (block : OutputBlockValue) → AreAllQuestionFramesAppended taken faults shelves [] now block now block
 answered_none shelves now block = record { frames = []; answers = refl; appends = appends_none }
 
 module _ {S : Type 0} {taken : S → Option (List ℕ)} {faults : S → SinkFaults} {shelves : RunShelvesValue}
@@ -164,7 +165,8 @@ module _ {S : Type 0} {taken : S → Option (List ℕ)} {faults : S → SinkFaul
       → {mid now : S} {between new : OutputBlockValue}
       → AreQuestionFramesAppended taken faults shelves i (question_as_value q) was middle mid between
       → IsTextAppendedThroughBlock taken faults mid between [] now new
-      → AreAllQuestionFramesAppended taken faults shelves (questions_as_values (take (i + 1) questions)) old block now new
+      → AreAllQuestionFramesAppended taken faults shelves (questions_as_values (take (i + 1) questions)) old block now
+      new
   answered_more q h read {mid} {now} {between} {new} answer emptied =
       let more = answer.frames in
       let short : length (take i questions) ≡ i = length-take-le i questions (omega (arith, h)) in

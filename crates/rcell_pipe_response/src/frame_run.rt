@@ -342,7 +342,8 @@ fn question_error_after_statements(
 ) -> Result<Option<QuestionError>, Memory>
     requires same { names ≡ shelves.now.outer.names }
     requires fits { StatementsFitKnownMaps names script.now }
-    ensures { IfOk result (λ error. error ≡ question_error_after_statements form shelves.now script.now
+    ensures { IfOk result (λ error. error
+        ≡ question_error_after_statements form shelves.now script.now
         (questions_as_values questions.now)) }
 {
     let all = names_of_all_maps(alloc, names, script.statements())?;

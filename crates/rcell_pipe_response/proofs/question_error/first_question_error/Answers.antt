@@ -9,7 +9,8 @@ use Rattle.rcell_pipe_response.proofs.question_error.first_question_error.Goals 
 pub returns-in-Some : goal.returns-in-Some
 returns-in-Some c =
     fault_here c.args.form c.args.names.now (option_map (λ m. m.items) c.args.margins.now) c.args.questions.now
-    c.loop-question.question-index c.question-item.result c.loop-question-test.true c.question-item.is c.in-Some.kind c.loop-question.invariant
+    c.loop-question.question-index c.question-item.result c.loop-question-test.true c.question-item.is c.in-Some.kind
+    c.loop-question.invariant
     (sym c.question_error_kind_if_rejected.ensures ∙ c.in-Some.is)
 
 pub loop-question-preserved : goal.loop-question-preserved
