@@ -2,3 +2,8 @@ pub mod NumberLemmas
 pub mod PartLemmas
 pub mod CellSumLemmas
 pub mod PatchPartLemmas
+pub mod RunLookupLemmas
+pub mod TileCountLemmas
+pub mod RenumberedTileLemmas
+pub mod TilePatchLemmas
+pub mod JoinedGridLemmas

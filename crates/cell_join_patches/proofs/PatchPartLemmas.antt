@@ -1,6 +1,6 @@
 -- The measures of parts that make up a patch of the full map.
-use Rattle.std.proofs.Common.{◌≡◌, ◌∙◌, ℕ, ℤ, zero, suc, pos, ◌+◌, ◌-◌, ◌<◌, ◌≤◌, Bool, true, false, cond, ◌&&◌}
-use Rattle.std.proofs.Common.{List, [], ◌∷◌, All, Contains, length, map, count_by, sum_by, Some, None, refl, ap, sym}
+use Rattle.std.proofs.Common.{◌≡◌, ◌∙◌, ℕ, ℤ, zero, suc, pos, ◌+◌, ◌-◌, ◌≤◌, Bool, true, false, cond, ◌&&◌}
+use Rattle.std.proofs.Common.{List, [], ◌∷◌, All, Contains, map, count_by, sum_by, Some, None, refl, ap, sym}
 use Rattle.std.proofs.Common.{subst, arith, ◌⊎◌, inl, inr, nat_le, if◌then◌else◌}
 use Rattle.std.specs.List.{AllZip}
 use Rattle.std.proofs.lemmas.Bool.{and_left, and_parts, and_right, le-leb, leb-true, lt-leb}
@@ -45,7 +45,7 @@ has-inside p r c =
     ∙ ap (λ (i : ℕ). is_in_patch p.numbers p.number i (l + c - l)) row
     ∙ ap (λ (k : ℕ). is_in_patch p.numbers p.number r k) col
 
-has-parts : (p : PatchPlace) (r c : ℕ) → place_has_cell r c p ≡ true
+pub has-parts : (p : PatchPlace) (r c : ℕ) → place_has_cell r c p ≡ true
     → (p.position.first_row ≤ r) × (p.position.first_col ≤ c)
     × (is_in_patch p.numbers p.number (r - p.position.first_row) (c - p.position.first_col) ≡ true)
 has-parts p r c has =
@@ -96,7 +96,7 @@ place-sum full f p inside =
     (λ r c. value_or_0_outside_patch p.numbers p.number r c (f (t + r) (l + c))) cols rows
     (λ r c lt less. ap (λ (b : Bool). cond b (f (t + r) (l + c)) 0) (has-inside p r c))
 
-abbrev one_if : Bool → ℕ
+abbrev pub one_if : Bool → ℕ
 one_if b = cond b 1 0
 
 none-sum : (f : ℕ → ℕ → ℕ) (r c : ℕ) (ps : List PatchPlace) → count_by (place_has_cell r c) ps ≡ 0

@@ -2,4 +2,5 @@
 pub mod PatchNumbers
 pub mod JoinedPatches
 pub mod PatchPartLaw
+pub mod TileGridLaw
 pub mod parts
