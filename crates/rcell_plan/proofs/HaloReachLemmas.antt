@@ -1,5 +1,5 @@
 -- A rectangle with a halo as wide as an expression's reach contains all cells that the expression reads.
-use Rattle.std.proofs.Common.{◌+◌, ◌-◌, ◌<◌, ◌≤◌, max, min, cond, eqb, ap, sym, ◌∙◌, arith, inl, inr, ⊎_elim}
+use Rattle.std.proofs.Common.{◌+◌, ◌-◌, ◌<◌, ◌≤◌, max, min, cond, eqb, ap, ◌∙◌, arith, inl, inr, ⊎_elim}
 use Rattle.std.specs.Prelude.{◌≡◌, ℕ, ◌⊎◌, Bool, true, false, List, All}
 use Rattle.std.proofs.lemmas.Bool.{cases_lt}
 use Rattle.cell_core_values.specs.Region.{RegionValue}
@@ -13,14 +13,14 @@ use Rattle.cell_calc_language.specs.Reach.{rows_read_above_by_formulas, rows_rea
 use Rattle.cell_calc_language.specs.Value.{value}
 use Rattle.rcell_plan.specs.HaloParts.{columns_read_left_by_formula, columns_read_right_by_formula}
 use Rattle.rcell_plan.specs.HaloParts.{columns_read_left_by_formulas, columns_read_right_by_formulas}
-use Rattle.rcell_plan.specs.HaloParts.{ReadsInRectangleOrOutsideRegion, value_seen_from}
+use Rattle.rcell_plan.specs.HaloParts.{ReadsInRectangleOrOutsideRegion}
 use Rattle.rcell_plan.specs.HaloParts.{calls, is_row_or_nrows_function, is_col_or_ncols_function}
 use Rattle.cell_join_numbers.specs.Parts.{Rectangle, RowsAreCutOutOfMaps}
 use Rattle.rcell_plan.specs.ReachParts as reached
 use Rattle.rcell_plan.specs.ReachParts.{Halo, reach_of, reach_of_all, ExpressionReadsWithinReach}
 use Rattle.rcell_plan.specs.ReachParts.{rectangle_with_halo_in_region}
 use Rattle.rcell_plan.specs.ReachParts.{IsCellInRectangleInRegion}
-use Rattle.rcell_plan.proofs.HaloLemmas.{halo-is-enough, reach-is-enough}
+use Rattle.rcell_plan.proofs.HaloLemmas.{halo-is-enough}
 
 -- the position of a cell of the region within a part of the region
 abbrev pub position_in : Rectangle → (row col : ℕ) → PositionAndGridSize
@@ -146,19 +146,4 @@ pub its-reach-is-enough : (f : Formula) (whole part : List Grid) (region : Regio
 its-reach-is-enough f whole part region r all cut no_rows no_cols row col holds =
     halo-is-enough f whole part region (rectangle_with_halo_in_region region (reach_of f) r) _ _ all cut
     (record { reads = reads f region r row col holds; rows = inl no_rows; cols = inl no_cols })
-    ∙ ap (value f whole) (there f region r row col holds)
-
--- any expression has the values of the full map if row() and similar functions give the position there
-pub its-reach-is-enough-elsewhere : (f : Formula) (whole part : List Grid) (region : RegionValue) (r : Rectangle)
-    → All (λ m. RowsFillRegion region m.rows) whole → RowsAreCutOutOfMaps (rectangle_with_halo_in_region region
-    (reach_of f) r) whole part
-    → (row col : ℕ) → IsCellInRectangleInRegion region r row col
-    → value_seen_from f part (position_in (rectangle_with_halo_in_region region (reach_of f) r) row col)
-    (grid_position region row col)
-    ≡ value f whole (grid_position region row col)
-its-reach-is-enough-elsewhere f whole part region r all cut row col holds =
-    let here = position_in (rectangle_with_halo_in_region region (reach_of f) r) row col in
-    ap (value_seen_from f part here) (sym (there f region r row col holds))
-    ∙ reach-is-enough f whole part region (rectangle_with_halo_in_region region (reach_of f) r) _ _ all cut
-    (reads f region r row col holds)
     ∙ ap (value f whole) (there f region r row col holds)

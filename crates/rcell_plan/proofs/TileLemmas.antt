@@ -1,8 +1,7 @@
 -- Maps of values, computed tile by tile with a halo.
 use Rattle.std.proofs.Common.{◌≡◌, ℕ, pos, ◌+◌, ◌-◌, ◌<◌, ◌≤◌, min, List, ◌∷◌, Some, refl, ap, sym, ◌∙◌, arith}
 use Rattle.cell_core_values.specs.Region.{RegionValue}
-use Rattle.cell_core.specs.Grid.{Grid, CellValue, cell_at}
-use Rattle.cell_core.specs.Shelf.{ShelfValue}
+use Rattle.cell_core.specs.Grid.{Grid, CellValue}
 use Rattle.cell_calc_grammar.specs.declared.function.Function.{Function}
 use Rattle.cell_calc_grammar.specs.declared.function.Function.TheVariants.{Row, Column}
 use Rattle.cell_calc_language.specs.Applied.{PositionAndGridSize, grid_position, negated_cell, logical_negation_of_cell, operator_value, call_result}
@@ -12,47 +11,31 @@ use Rattle.cell_calc_language.specs.Formula.{NoTrees, Then}
 use Rattle.cell_calc_language.specs.Value.{value, argument_values}
 use Rattle.rcell_plan.specs.HaloParts.{value_seen_from, values_seen_from}
 use Rattle.cell_join_numbers.specs.Parts.{Rectangle}
-use Rattle.rcell_plan.specs.ReachParts.{reach_of, IsCellInRectangleInRegion}
-use Rattle.rcell_plan.proofs.HaloReachLemmas.{its-reach-is-enough, its-reach-is-enough-elsewhere, position_in}
-use Rattle.rcell.specs.Making.{IsMapOfExpressionValues}
-use Rattle.rcell_plan.specs.TileLaw.{tile_rectangle_with_halo, IsHaloedTile, HaloedTileHasFullMapValues}
-use Rattle.rcell_plan.specs.TileLaw.{placed, all_placed, call_rewritten_for_tile, RewritingForTileKeepsValues}
+use Rattle.rcell_plan.specs.ReachParts.{reach_of}
+use Rattle.rcell_plan.proofs.HaloReachLemmas.{its-reach-is-enough, position_in}
+use Rattle.rcell_plan.specs.TileLaw.{tile_rectangle_with_halo, HaloedTileHasFullMapValues}
+use Rattle.rcell_plan.specs.TileLaw.{placed, all_placed, call_rewritten_for_tile}
 
 inside : (total first n up down i rows : ℕ)
     → rows ≡ min total (first + n + down) - (first - up) → first + n ≤ total → first ≤ i → i < first + n
     → i - (first - up) < rows
 inside total first n up down i rows is fits from to = omega (arith, fits, from, to, is)
 
-module _ (f g : Formula) (whole tile : ShelfValue) (r : Rectangle) (is : IsHaloedTile f r whole tile) (x y : Grid)
-    (are_x : IsMapOfExpressionValues f whole x) (are_y : IsMapOfExpressionValues g tile y) (row col : ℕ)
-    (holds : IsCellInRectangleInRegion whole.region r row col) where
-  abbrev h : Rectangle
-  h = tile_rectangle_with_halo f whole r
-
-  row-in : row < whole.region.rows
-  row-in = omega (arith, holds.high, holds.above)
-
-  col-in : col < whole.region.cols
-  col-in = omega (arith, holds.wide, holds.left)
-
-  -- if two expressions have the same value at a cell, their maps have the same cell
-  same-cell : value g tile.maps (position_in h row col) ≡ value f whole.maps (grid_position whole.region row col)
-      → cell_at y (row - h.top) (col - h.left) ≡ cell_at x row col
-  same-cell same =
-      let reach = reach_of f in
-      let row_in = inside whole.region.rows r.top r.rows reach.up reach.down row tile.region.rows is.rows in
-      let col_in = inside whole.region.cols r.left r.cols reach.left reach.right col tile.region.cols is.cols in
-      let row_here = row_in holds.high holds.below holds.above in
-      let col_here = col_in holds.wide holds.right holds.left in
-      let here : grid_position tile.region (row - h.top) (col - h.left) ≡ position_in h row col =
-      λ i. record { rows = is.rows i; cols = is.cols i; row = row - h.top; col = col - h.left } in
-      are_y.cells (row - h.top) (col - h.left) row_here col_here
-      ∙ ap (value g tile.maps) here ∙ same ∙ sym (are_x.cells row col row-in col-in)
-
 pub tiles-make-the-map : HaloedTileHasFullMapValues
 tiles-make-the-map f whole tile r is no_rows no_cols x y are_x are_y row col holds =
-    same-cell f f whole tile r is x y are_x are_y row col holds
-    (its-reach-is-enough f whole.maps tile.maps whole.region r is.filled is.cells no_rows no_cols row col holds)
+    let h = tile_rectangle_with_halo f whole r in
+    let reach = reach_of f in
+    let row_in : row < whole.region.rows = omega (arith, holds.high, holds.above) in
+    let col_in : col < whole.region.cols = omega (arith, holds.wide, holds.left) in
+    let row_inside = inside whole.region.rows r.top r.rows reach.up reach.down row tile.region.rows is.rows
+    holds.high holds.below holds.above in
+    let col_inside = inside whole.region.cols r.left r.cols reach.left reach.right col tile.region.cols is.cols
+    holds.wide holds.right holds.left in
+    let here : grid_position tile.region (row - h.top) (col - h.left) ≡ position_in h row col =
+    λ i. record { rows = is.rows i; cols = is.cols i; row = row - h.top; col = col - h.left } in
+    are_y.cells (row - h.top) (col - h.left) row_inside col_inside ∙ ap (value f tile.maps) here
+    ∙ its-reach-is-enough f whole.maps tile.maps whole.region r is.filled is.cells no_rows no_cols row col holds
+    ∙ sym (are_x.cells row col row_in col_in)
 
 -- ---- an expression that is placed in a region is given the position of the cell there
 
@@ -90,13 +73,3 @@ module _ (region : RegionValue) (r : Rectangle) (maps : List Grid) (row col : �
     all-read (Then a xs) =
         ap (λ (x : CellValue). x ∷ argument_values (all_placed region r xs) maps here) (placed-reported a)
         ∙ ap (λ (l : List CellValue). value_seen_from a maps here there ∷ l) (all-read xs)
-
-pub placed-tiles-make-the-map : RewritingForTileKeepsValues
-placed-tiles-make-the-map f whole tile r is few_rows few_cols x y are_x are_y row col holds =
-    let h = tile_rectangle_with_halo f whole r in
-    let row_lt = row-in f (placed whole.region h f) whole tile r is x y are_x are_y row col holds in
-    let col_lt = col-in f (placed whole.region h f) whole tile r is x y are_x are_y row col holds in
-    same-cell f (placed whole.region h f) whole tile r is x y are_x are_y row col holds
-    (placed-reported whole.region h tile.maps row col (omega (arith, holds.below)) (omega (arith, holds.right))
-    (omega (arith, row_lt, few_rows)) (omega (arith, col_lt, few_cols)) f
-    ∙ its-reach-is-enough-elsewhere f whole.maps tile.maps whole.region r is.filled is.cells row col holds)

@@ -1,7 +1,7 @@
 -- Values over tiles: an expression computed over a tile with its halo agrees, in the tile, with the expression computed
 -- over the full map.
-use Rattle.std.specs.Prelude.{ℕ, ◌≡◌, ◌≤◌, ◌-◌, false, All}
-use Rattle.cell_core_values.specs.Region.{RegionValue, most_cells}
+use Rattle.std.specs.Prelude.{ℕ, ◌≡◌, ◌-◌, false, All}
+use Rattle.cell_core_values.specs.Region.{RegionValue}
 use Rattle.cell_core.specs.Grid.{Grid, RowsFillRegion, cell_at}
 use Rattle.cell_core.specs.Shelf.{ShelfValue}
 use Rattle.cell_calc_grammar.specs.declared.function.Function.{Function}
@@ -58,15 +58,3 @@ abbrev mutual
   pub all_placed : RegionValue → Rectangle → ArgumentFormulas → ArgumentFormulas
   all_placed region r NoTrees = NoTrees
   all_placed region r (Then a xs) = Then (placed region r a) (all_placed region r xs)
-
--- an expression has the same values in a tile, whether it is computed over the full map or, rewritten for the tile,
--- over the tile with its halo
-abbrev pub RewritingForTileKeepsValues : Type 0
-RewritingForTileKeepsValues =
-    (f : Formula) (whole tile : ShelfValue) (r : Rectangle) → IsHaloedTile f r whole tile
-    → whole.region.rows ≤ most_cells → whole.region.cols ≤ most_cells
-    → (x y : Grid) → IsMapOfExpressionValues f whole x
-    → IsMapOfExpressionValues (placed whole.region (tile_rectangle_with_halo f whole r) f) tile y
-    → (row col : ℕ) → IsCellInRectangleInRegion whole.region r row col
-    → cell_at y (row - (tile_rectangle_with_halo f whole r).top) (col - (tile_rectangle_with_halo f whole r).left)
-    ≡ cell_at x row col

@@ -8,9 +8,9 @@
 //! - `law`: `map_needs_are_enough`: no value depends on a cell outside the needs
 //! - `values_law`: laws about the values of expressions, as r.mapcalc computes them
 //!
-//! The main law in `values_law` is `haloed_tile_has_full_map_values`: an expression computed over a tile with its halo has, in the
-//! tile, the same cells as computed over the full map, if it calls none of `row()`, `col()`, `nrows()` and `ncols()`.
-//! `rewriting_for_tile_keeps_values` allows these functions, with the position of the tile added. The laws are in this order:
+//! The main law in `values_law` is `haloed_tile_has_full_map_values`: an expression computed over a tile with its halo
+//! has, in the tile, the same cells as computed over the full map, if it calls none of `row()`, `col()`, `nrows()` and
+//! `ncols()`. `tile_runs_have_full_map_cells` in rcell_tile allows these functions. The laws are in this order:
 //! expressions without offsets, whose values depend only on the combination of categories; copies; offsets, which shift
 //! a map and add up; halos and reach; tiles.
 //!

@@ -4,7 +4,7 @@ ghost use Rattle.rcell_plan.specs.HaloParts.{HaloIsEnough, ReachAndPositionAreEn
 ghost use Rattle.rcell_plan.specs.LocalLaw.{ValueCountSumsCombinations, CombinationDeterminesValue, SameCombinationGivesSameValue};
 ghost use Rattle.rcell_plan.specs.ReachParts.{NoMapIsReadBeyondReach};
 ghost use Rattle.rcell_plan.specs.ShiftLaw.{NullBeyondTheEdge, ShiftsAddUp};
-ghost use Rattle.rcell_plan.specs.TileLaw.{RewritingForTileKeepsValues, HaloedTileHasFullMapValues};
+ghost use Rattle.rcell_plan.specs.TileLaw.{HaloedTileHasFullMapValues};
 
 /// A local expression has the same value at all cells with the same combination of the maps that it reads.
 pub fn same_combination_gives_same_value()
@@ -54,11 +54,4 @@ pub fn no_map_is_read_beyond_reach()
 /// uses a row or column number.
 pub fn haloed_tile_has_full_map_values()
     ensures { HaloedTileHasFullMapValues }
-{}
-
-/// An expression has the same values in a tile, whether it is computed over the full map or, rewritten for the tile,
-/// over the tile with its halo. Rewriting replaces `row()` with `row() + t`, where t rows are above the tile, and
-/// adapts `col()`, `nrows()` and `ncols()`.
-pub fn rewriting_for_tile_keeps_values()
-    ensures { RewritingForTileKeepsValues }
 {}
