@@ -11,7 +11,7 @@ import os
 import re
 import sys
 from dataclasses import dataclass, replace
-from typing import Optional, Sequence
+from typing import Optional
 
 from model_expressions import CalcRefused, Expression, Parser, Place
 from model_grids import (
@@ -157,9 +157,6 @@ Maps = dict[bytes, CellMap]
 class Mapcalc:
     target: bytes
     expression: Expression
-    calls: Sequence[
-        tuple[bytes, int, int]
-    ] = ()  # functions, with the columns of their first and last bytes
 
     def run(self, maps: Maps, region: Region) -> bytes:
         maps[self.target] = map_of(
@@ -364,11 +361,7 @@ class ScriptReader:
                 self.at, f"{fault.text} at column {begin + fault.column}"
             ) from None
         self.make(target)
-        return Mapcalc(
-            target,
-            expression,
-            [(name, begin + first, begin + last) for name, first, last in parser.calls],
-        )
+        return Mapcalc(target, expression)
 
     def flags_and_options(
         self, command: bytes, tokens: list[bytes]

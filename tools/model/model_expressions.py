@@ -264,9 +264,6 @@ class Parser:
         self.tokens = calc_tokens(text)
         self.at = 0
         self.maps: list[tuple[bytes, int]] = []  # names with their columns, in order of the text
-        self.calls: list[
-            tuple[bytes, int, int]
-        ] = []  # functions with the columns of their names and last parentheses
 
     def next_is(self, *signs: bytes) -> bool:
         return self.tokens[self.at].kind == "sign" and self.tokens[self.at].text in signs
@@ -338,10 +335,9 @@ class Parser:
         while arguments and self.next_is(b","):
             self.step()
             arguments.append(self.expression())
-        last = self.take_sign(b")")
+        self.take_sign(b")")
         if not function.takes(len(arguments)):
             raise CalcRefused(name.column, "wrong number of arguments")
-        self.calls.append((name.text, name.column, last.column))
         return Call(function, arguments)
 
     def map_cell(self, name: CalcToken) -> Expression:

@@ -30,9 +30,8 @@ from model_grids import Refused, is_name
 from pipe_model import NULL
 
 MOST_NAMES = 65535
-WRITES, LABELS, WHOLE, POSITION = 1, 2, 4, 8
+WRITES, LABELS, WHOLE = 1, 2, 4
 COMMANDS = (model.Mapcalc, model.Reclass, model.Clump, model.Stats, model.OutAscii)
-POSITIONS = (b"row", b"col", b"nrows", b"ncols")
 
 
 class Need(NamedTuple):
@@ -63,7 +62,6 @@ class Frame:
     options: int
     inputs: tuple[bytes, ...]
     after: tuple[int, ...]
-    calls: tuple[tuple[int, int, int], ...]
     labels: tuple[tuple[int, bytes], ...]
 
 
@@ -134,15 +132,6 @@ def after_of(statement: model.Statement) -> tuple[int, ...]:
     return tuple(NULL if cell is None else cell for cell in after)
 
 
-def calls_of(statement: model.Statement) -> tuple[tuple[int, int, int], ...]:
-    """Return the columns of the first and last byte of each call, and the number of its
-    function."""
-    calls = getattr(statement, "calls", [])
-    return tuple(
-        (first, last, POSITIONS.index(name) + 1) for name, first, last in calls if name in POSITIONS
-    )
-
-
 def labels_of(statement: model.Statement) -> tuple[tuple[int, bytes], ...]:
     """Return the labels of rules, in order."""
     return tuple(
@@ -153,11 +142,9 @@ def labels_of(statement: model.Statement) -> tuple[tuple[int, bytes], ...]:
 
 
 def flags_of(statement: model.Statement) -> int:
-    if isinstance(statement, model.Mapcalc):
-        return POSITION if calls_of(statement) else 0
     if isinstance(statement, model.Stats):
         return WRITES + (LABELS if b"l" in statement.flags else 0)
-    return {model.Reclass: 0, model.Clump: WHOLE, model.OutAscii: WRITES}[type(statement)]
+    return {model.Clump: WHOLE, model.OutAscii: WRITES}.get(type(statement), 0)
 
 
 def joined(found: list[tuple[bytes, Need]], order: list[bytes]) -> Needs:
@@ -188,7 +175,6 @@ def plan(names: list[bytes], statements: list[tuple[int, model.Statement]]) -> l
             needs_of[made] = needs
         command = COMMANDS.index(type(statement)) + 1
         options = options_of(statement), tuple(inputs_of(statement)), after_of(statement)
-        details = calls_of(statement), labels_of(statement)
         frames.append(
             Frame(
                 line,
@@ -198,7 +184,7 @@ def plan(names: list[bytes], statements: list[tuple[int, model.Statement]]) -> l
                 tuple(reads.items()),
                 tuple(needs.items()),
                 *options,
-                *details,
+                labels_of(statement),
             )
         )
     return frames
@@ -301,13 +287,8 @@ class ResponseReader(Reader):
         reads, needs, options = self.needs(False), self.needs(True), self.number("B")
         inputs = tuple(self.text() for _ in range(self.number("Q")))
         after = tuple(self.number("i") for _ in range(self.number("Q")))
-        calls = tuple(
-            (self.number("Q"), self.number("Q"), self.number("B")) for _ in range(self.number("Q"))
-        )
         labels = tuple((self.number("i"), self.text()) for _ in range(self.number("Q")))
-        return Frame(
-            line, command, flags, made, reads, needs, options, inputs, after, calls, labels
-        )
+        return Frame(line, command, flags, made, reads, needs, options, inputs, after, labels)
 
     def response(self) -> Response:
         if self.take(8) != b"RCELLA1\n":
@@ -345,10 +326,6 @@ EXAMPLES = {
     ),
     "maps in their order": (b"r.stats -nlc input=h,g,h after=1,*,-2\nr.stats -1N input=k\n", {}),
     "a position needs no map": (b"r.mapcalc a = row() * ncols()\n", {b"a": {}}),
-    "calls at their columns": (
-        b" \tr.mapcalc\trow=if( row\t( ) ,g,col()+nrows())*abs(ncols(\t))\r\nr.mapcalc b = row + g",
-        {},
-    ),
     "labels in the order of the rules": (
         b"r.reclass input=g output=a\n# 7 = 7 no\n1 = 2 wood\n\n 3 thru 5=+2  a = b \n9 = NULL gone\n6 = 1\n* = * kept\n end \r\n"
         b"r.reclass input=a output=b\n7 = -1 x\nend\nr.mapcalc c = a\n",

@@ -36,11 +36,12 @@ from fuzz import damaged_bytes
 from joined_patches import parts_of_tile
 from made_cases import NAMES, ScriptMaker
 from model import Refused, ScriptReader
+from model_expressions import FUNCTIONS, Call, MapCell
 from patch_model import Cells, patch_numbers
 from pipe_model import PATCHES, Frame, Place, Question, Raster, Reader, Rejected, Response
 from pipe_model import request, tile_request
 from test_pipe import BIN, frames_of, random_edges, random_raster
-from test_plan import Need, calls_of, reads_of
+from test_plan import Need, reads_of, within
 
 SIZES = [(1, 1), (1, 30), (3, 5), (7, 40), (12, 12), (30, 1), (9, 17), (2, 3), (20, 6)]
 STATUS_DONE, STATUS_REJECTED = 0, 1
@@ -48,6 +49,7 @@ SECONDS = 120
 NO_MARGIN = (0, 0, 0, 0)
 DEPTHS = [1, 1, 2, 3, 4]
 SQUARE = 7
+POSITIONS = [FUNCTIONS[name] for name in (b"row", b"col", b"nrows", b"ncols")]
 
 Margin = tuple[Optional[int], ...]
 Span = tuple[int, int]  # first row or column, and their number
@@ -165,7 +167,14 @@ def has_labels(statement: model.Statement) -> bool:
 
 def reads_beyond_cell(statement: model.Statement) -> bool:
     """Return whether a statement has an offset or depends on its position."""
-    return bool(calls_of(statement)) or any(reach != Need() for _, reach in reads_of(statement))
+    parts = within(statement.expression) if isinstance(statement, model.Mapcalc) else ()
+    return any(
+        isinstance(part, MapCell)
+        and (part.down or part.right)
+        or isinstance(part, Call)
+        and part.function in POSITIONS
+        for part in parts
+    )
 
 
 def random_script(choice: random.Random, names: list[bytes], clump: bool) -> bytes:

@@ -7,7 +7,6 @@ pub mod HaloReachLemmas
 pub mod ShiftLemmas
 pub mod TallyLemmas
 pub mod TileLemmas
-pub mod AskLemmas
 pub mod JoinedLemmas
 pub mod LawLemmas
 pub mod NeedLemmas

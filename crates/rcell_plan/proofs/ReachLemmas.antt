@@ -34,7 +34,7 @@ use Rattle.rcell_plan.specs.Plans.{command_needs, command_makes_map, needs_after
 use Rattle.rcell_plan.specs.Plans.{plans_of_statements}
 use Rattle.rcell_plan.specs.Plans.{needs_of_given_maps_from, needs_of_given_maps}
 use Rattle.rcell_plan.specs.ReadsLaw.{ExpressionReadsMatchReach, NeedPlacesAscendAbovePlace, NeedPlacesAscend}
-use Rattle.rcell_plan.specs.ReadsLaw.{PlansListMapsInOrder, UnflaggedFormulaIgnoresPosition}
+use Rattle.rcell_plan.specs.ReadsLaw.{PlansListMapsInOrder, ExpressionWithoutPositionIgnoresPosition}
 
 -- ---- the order of places
 
@@ -349,10 +349,5 @@ module _ (maps : List Grid) (here reported : PositionAndGridSize) where
         ap (λ (v : CellValue). v ∷ values_seen_from xs maps here reported) first
         ∙ ap (λ (vs : List CellValue). value a maps here ∷ vs) rest
 
-no_flag : (b : Bool) → ◌≡◌ {A = ℕ} (if b then 8 else 0) 0 → b ≡ false
-no_flag true h = absurd (omega (arith, h))
-no_flag false h = refl
-
-pub unflagged_formula_ignores_position : UnflaggedFormulaIgnoresPosition
-unflagged_formula_ignores_position f h maps here reported = reported_same maps here reported f
-    (no_flag (calls is_position_function f) h)
+pub expression_without_position_ignores_position : ExpressionWithoutPositionIgnoresPosition
+expression_without_position_ignores_position f h maps here reported = reported_same maps here reported f h

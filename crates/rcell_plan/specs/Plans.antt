@@ -5,8 +5,6 @@ use Rattle.cell_calc_language.specs.Formula.{Formula}
 use Rattle.cell_calc_grammar.specs.declared.step.Step.{Step}
 use Rattle.cell_calc_grammar.specs.declared.step.Step.TheVariants as step
 use Rattle.cell_calc_grammar.specs.Postfix.{postfix}
-use Rattle.rcell_plan.specs.HaloParts.{calls}
-use Rattle.rcell_plan.specs.LocalLaw.{is_position_function}
 use Rattle.rcell_script.specs.declared.command.Command.{Command}
 use Rattle.rcell_script.specs.declared.command.Command.TheVariants.{Mapcalc, Reclass, Clump, Stats, OutAscii}
 use Rattle.rcell_script.specs.declared.statement.Statement.{Statement}
@@ -82,14 +80,9 @@ needs_of_given_maps_from first (suc n) = (need_of_own_cell first ∷ []) ∷ nee
 abbrev pub needs_of_given_maps : ℕ → List (List MapNeed)
 needs_of_given_maps count = needs_of_given_maps_from 0 count
 
--- 8 if the values of an expression depend on the position of the cell
-abbrev pub position_flag_of_expression : Formula → ℕ
-position_flag_of_expression f = if calls is_position_function f then 8 else 0
-
--- the sum of: 1 if the command writes, 2 if it prints labels, 4 if it needs the full map, 8 if it depends on the
--- position
+-- the sum of: 1 if the command writes, 2 if it prints labels, 4 if it needs the full map
 abbrev pub command_flags : Command → ℕ
-command_flags (Mapcalc target bound) = position_flag_of_expression bound
+command_flags (Mapcalc target bound) = 0
 command_flags (Reclass place target rules) = 0
 command_flags (Clump place target joining) = 4
 command_flags (Stats places options) = if options.labels then 3 else 1

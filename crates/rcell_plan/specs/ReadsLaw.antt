@@ -1,16 +1,17 @@
--- What the reads and flags of an expression guarantee.
-use Rattle.std.specs.Prelude.{ℕ, ◌≡◌, ◌<◌, List, [], ◌∷◌, All}
+-- What the reads of an expression guarantee, and that its value depends on the position only through its calls.
+use Rattle.std.specs.Prelude.{ℕ, ◌≡◌, ◌<◌, false, List, [], ◌∷◌, All}
 use Rattle.cell_core.specs.Grid.{Grid}
 use Rattle.cell_calc_language.specs.Applied.{PositionAndGridSize}
 use Rattle.cell_calc_language.specs.Formula.{Formula}
 use Rattle.cell_calc_language.specs.Reach.{rows_read_above_by_formula, rows_read_below_by_formula}
 use Rattle.cell_calc_language.specs.Value.{value}
-use Rattle.rcell_plan.specs.HaloParts.{columns_read_left_by_formula, columns_read_right_by_formula, value_seen_from}
+use Rattle.rcell_plan.specs.HaloParts.{columns_read_left_by_formula, columns_read_right_by_formula, calls}
+use Rattle.rcell_plan.specs.HaloParts.{value_seen_from}
+use Rattle.rcell_plan.specs.LocalLaw.{is_position_function}
 use Rattle.rcell_script.specs.declared.statement.Statement.{Statement}
 use Rattle.rcell_plan.specs.declared.needs.Margin.{Margin}
 use Rattle.rcell_plan.specs.declared.needs.MapNeed.{MapNeed}
 use Rattle.rcell_plan.specs.Plans.{maps_read_by_expression, plans_of_statements, needs_of_given_maps}
-use Rattle.rcell_plan.specs.Plans.{position_flag_of_expression}
 
 -- how far an expression reads the map at index `i`
 abbrev pub reach_in_map_at_place : Formula → ℕ → Margin
@@ -42,9 +43,8 @@ PlansListMapsInOrder = (count : ℕ) (statements : List Statement)
     → All (λ p. NeedPlacesAscend p.reads × NeedPlacesAscend p.needs)
     (plans_of_statements (needs_of_given_maps count) statements)
 
--- if the position flag is not set, the value of an expression does not depend on the position that row() and similar
--- functions return
-abbrev pub UnflaggedFormulaIgnoresPosition : Type 0
-UnflaggedFormulaIgnoresPosition = (f : Formula) → position_flag_of_expression f ≡ 0
+-- an expression without calls of row(), col(), nrows() and ncols() has the same value whatever position these report
+abbrev pub ExpressionWithoutPositionIgnoresPosition : Type 0
+ExpressionWithoutPositionIgnoresPosition = (f : Formula) → calls is_position_function f ≡ false
     → (maps : List Grid) (here reported : PositionAndGridSize)
     → value_seen_from f maps here reported ≡ value f maps here

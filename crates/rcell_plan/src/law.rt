@@ -1,7 +1,7 @@
 //! What the plans of statements guarantee.
 
 ghost use Rattle.rcell_plan.specs.NeedsLaw.{MapNeedsAreEnough};
-ghost use Rattle.rcell_plan.specs.ReadsLaw.{UnflaggedFormulaIgnoresPosition, PlansListMapsInOrder, ExpressionReadsMatchReach};
+ghost use Rattle.rcell_plan.specs.ReadsLaw.{ExpressionWithoutPositionIgnoresPosition, PlansListMapsInOrder, ExpressionReadsMatchReach};
 
 /// Consider two shelves of maps with one region, and the same statements over both. A map has the same value at a cell
 /// on both shelves if they agree in what the map needs around the cell: within the margins, or in the full map if an
@@ -20,7 +20,8 @@ pub fn plans_list_maps_in_order()
     ensures { PlansListMapsInOrder }
 {}
 
-/// If the position flag of an expression is not set, its values depend only on the cells that it reads.
-pub fn unflagged_formula_ignores_position()
-    ensures { UnflaggedFormulaIgnoresPosition }
+/// The values of an expression that calls none of `row()`, `col()`, `nrows()` and `ncols()` depend only on the cells
+/// that it reads.
+pub fn expression_without_position_ignores_position()
+    ensures { ExpressionWithoutPositionIgnoresPosition }
 {}

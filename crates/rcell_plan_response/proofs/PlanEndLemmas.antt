@@ -1,6 +1,6 @@
 -- The ends of responses.
 use Rattle.std.proofs.Common.{◌≡◌, ◌∙◌, ℕ, suc, Bool, true, false, List, [], ◌∷◌, ◌++◌, Option, Some, None}
-use Rattle.std.proofs.Common.{Result, Ok, Err, refl, sym, ap, subst, append_assoc, map}
+use Rattle.std.proofs.Common.{Result, Ok, Err, refl, sym, ap, subst, append_assoc}
 use Rattle.std.specs.Prelude.{◌≢◌, length}
 use Rattle.cell_core_devices.specs.declared.source.Asked.{Asked}
 use Rattle.cell_core_devices.specs.declared.source.Asked.TheVariants.{Ended}
@@ -47,7 +47,6 @@ use Rattle.rcell_plan_response.specs.declared.responding.RequestForm.TheVariants
 use Rattle.rcell_plan.specs.declared.planning.Plan.{Plan}
 use Rattle.rcell_plan.specs.Plans.{plans_of_statements, needs_of_given_maps, needs_after_command}
 use Rattle.rcell_plan.specs.declared.needs.MapNeed.{MapNeed}
-use Rattle.rcell_plan_response.specs.PlanDetails.{CallsAndLabelsValue, calls_and_labels_of_statement}
 use Rattle.rcell_plan_response.specs.PlanRequests.{PlanRequestValue, plan_request_reading}
 use Rattle.rcell_plan_response.specs.PlanFrames.{plans_bytes, plan_response}
 use Rattle.rcell_plan_response.specs.PlanEnds.{IsPlanResponse}
@@ -89,19 +88,17 @@ pub length-plans : (known : List (List MapNeed)) (statements : List Statement)
 length-plans known [] = refl
 length-plans known (s ∷ ss) = ap suc (length-plans (needs_after_command known s.command) ss)
 
--- the response has the names of all maps, and the plans and details of the statements
+-- the response has the names of all maps, and the plans of the statements
 pub finished_plan : {before now : Option (List ℕ)} {start after : SinkFaults} {outcome : PipeOutcome}
-    (names all lines : List (List ℕ)) (statements : List Statement) (plans : List Plan)
-    (details : List CallsAndLabelsValue) → all ≡ names_of_all_maps names statements
+    (names all : List (List ℕ)) (statements : List Statement) (plans : List Plan)
+    → all ≡ names_of_all_maps names statements
     → plans ≡ plans_of_statements (needs_of_given_maps (length names)) statements
-    → details ≡ map (calls_and_labels_of_statement lines) statements
-    → IsTextSentWithOutcome before start now after None (response_magic ++ plans_bytes all plans statements details
+    → IsTextSentWithOutcome before start now after None (response_magic ++ plans_bytes all plans statements
     ++ run_end_frame_bytes end_frame_of_successful_run) outcome
-    → IsTextSentWithOutcome before start now after None (plan_response names lines statements) outcome
-finished_plan {before} {now} {start} {after} {outcome} names all lines statements plans details all_is plans_is
-    details_is finished =
+    → IsTextSentWithOutcome before start now after None (plan_response names statements) outcome
+finished_plan {before} {now} {start} {after} {outcome} names all statements plans all_is plans_is finished =
     subst (λ (t : List ℕ). IsTextSentWithOutcome before start now after None t outcome)
-    (λ i. response_magic ++ plans_bytes (all_is i) (plans_is i) statements (details_is i)
+    (λ i. response_magic ++ plans_bytes (all_is i) (plans_is i) statements
     ++ run_end_frame_bytes end_frame_of_successful_run)
     finished
 

@@ -2,8 +2,7 @@
 pub mod PlanRequests
 pub mod MapNames
 pub mod PlanOptions
-pub mod PositionCalls
-pub mod PlanDetails
+pub mod RuleLabels
 pub mod PlanFrames
 pub mod PlanEnds
 pub mod Responses

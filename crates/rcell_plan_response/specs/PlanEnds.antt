@@ -1,6 +1,5 @@
 -- The response to a plan request (profile).
 use Rattle.std.specs.Prelude.{ℕ, ◌≡◌, List, [], Option, Some, None, Result, Ok, Err}
-use Rattle.rcell_script.specs.Lines.{script_lines}
 use Rattle.rcell_script.specs.Scripts.{IsScript}
 use Rattle.rcell_script.specs.ReadScripts.{IsScriptFault}
 use Rattle.rcell_script.specs.declared.statement.Statement.{Statement}
@@ -25,7 +24,7 @@ pub record IsPlanRequestFulfilled (read : Result PlanRequestValue RequestError) 
   pub names : List (List ℕ)
   pub statements : List Statement
   pub accepted : IsPlanRequestAccepted read names statements
-  pub bytes : response ≡ plan_response names (script_lines accepted.script) statements
+  pub bytes : response ≡ plan_response names statements
 
 -- the script is rejected for its first error: the response is only the end
 pub record IsResponseToRejectedPlanScript (read : Result PlanRequestValue RequestError) (response : List ℕ)

@@ -1,6 +1,5 @@
 -- The frames of a plan, and the response to a plan request (profile).
-use Rattle.std.specs.Prelude.{ℕ, ℤ, List, [], ◌∷◌, ◌++◌, length, map, flat_map, codes, Option, Some, None}
-use Rattle.std.specs.Int.{w32, to_le_bytes, cast_unsigned}
+use Rattle.std.specs.Prelude.{ℕ, List, [], ◌∷◌, ◌++◌, length, flat_map, codes, Option, Some, None}
 use Rattle.std.specs.List.{zip}
 use Rattle.rcell_script.specs.declared.statement.Statement.{Statement}
 use Rattle.rcell_pipe_frames.specs.FrameBytes.{eight_bytes_of_number, length_and_text_bytes, one_if_true_else_zero}
@@ -12,9 +11,8 @@ use Rattle.rcell_plan.specs.declared.needs.Margin.{Margin}
 use Rattle.rcell_plan.specs.declared.needs.MapNeed.{MapNeed}
 use Rattle.rcell_plan.specs.declared.planning.Plan.{Plan}
 use Rattle.rcell_plan.specs.Plans.{plans_of_statements, needs_of_given_maps}
-use Rattle.rcell_plan_response.specs.declared.position_calls.PositionCall.{PositionCall}
-use Rattle.rcell_plan_response.specs.PlanDetails.{CallsAndLabelsValue, calls_and_labels_of_statement}
 use Rattle.rcell_plan_response.specs.PlanOptions.{command_options_bytes}
+use Rattle.rcell_plan_response.specs.RuleLabels.{command_labels_bytes}
 use Rattle.rcell_plan_response.specs.MapNames.{name_of_map_at_place}
 
 -- the name of the map that a statement makes, or an empty name if it makes none
@@ -48,39 +46,19 @@ plan_head_bytes names p =
     codes "PLAN" ++ eight_bytes_of_number p.line ++ (p.code ∷ p.flags ∷ [])
     ++ length_and_text_bytes (name_of_made_map names p.made)
 
--- a call: the columns of its first and last byte, and the code of its function
-abbrev pub position_call_bytes : PositionCall → List ℕ
-position_call_bytes call = eight_bytes_of_number call.first ++ eight_bytes_of_number call.last ++ call.code ∷ []
-
--- a category in four bytes
-abbrev pub category_bytes : ℤ → List ℕ
-category_bytes category = to_le_bytes w32 (cast_unsigned w32 category)
-
--- a category and its label
-abbrev pub category_and_label_bytes : ℤ × List ℕ → List ℕ
-category_and_label_bytes label = category_bytes label.0 ++ length_and_text_bytes label.1
-
--- the number of calls, then each call
-abbrev pub position_calls_bytes : List PositionCall → List ℕ
-position_calls_bytes calls = eight_bytes_of_number (length calls) ++ flat_map position_call_bytes calls
-
-abbrev pub count_and_labels_bytes : List (ℤ × List ℕ) → List ℕ
-count_and_labels_bytes labels = eight_bytes_of_number (length labels) ++ flat_map category_and_label_bytes labels
-
-abbrev pub calls_and_labels_bytes : CallsAndLabelsValue → List ℕ
-calls_and_labels_bytes details = position_calls_bytes details.calls ++ count_and_labels_bytes details.labels
-
--- the frame of a statement, from its plan and details; `names` contains the names of all maps
-abbrev pub plan_bytes : List (List ℕ) → (Plan × Statement) × CallsAndLabelsValue → List ℕ
+-- the frame of a statement, from its plan; `names` contains the names of all maps
+abbrev pub plan_bytes : List (List ℕ) → Plan × Statement → List ℕ
 plan_bytes names p =
-    plan_head_bytes names p.0.0 ++ map_reads_bytes names p.0.0.reads ++ needs_bytes names p.0.0.needs
-    ++ command_options_bytes names p.0.1.command ++ calls_and_labels_bytes p.1
+    plan_head_bytes names p.0 ++ map_reads_bytes names p.0.reads ++ needs_bytes names p.0.needs
+    ++ command_options_bytes names p.1.command ++ command_labels_bytes p.1.command
 
-abbrev pub plans_bytes : List (List ℕ) → List Plan → List Statement → List CallsAndLabelsValue → List ℕ
-plans_bytes names plans statements details = flat_map (plan_bytes names) (zip (zip plans statements) details)
+abbrev pub plans_bytes : List (List ℕ) → List Plan → List Statement → List ℕ
+plans_bytes names plans statements = flat_map (plan_bytes names) (zip plans statements)
 
--- the response to a plan request; its script has these lines and denotes these statements
-abbrev pub plan_response : List (List ℕ) → List (List ℕ) → List Statement → List ℕ
-plan_response names lines statements =
-    response_magic ++ plans_bytes (names_of_all_maps names statements) (plans_of_statements (needs_of_given_maps (length names)) statements) statements
-    (map (calls_and_labels_of_statement lines) statements) ++ run_end_frame_bytes end_frame_of_successful_run
+-- the response to a plan request whose script denotes these statements
+abbrev pub plan_response : List (List ℕ) → List Statement → List ℕ
+plan_response names statements =
+    response_magic
+    ++ plans_bytes (names_of_all_maps names statements)
+    (plans_of_statements (needs_of_given_maps (length names)) statements) statements
+    ++ run_end_frame_bytes end_frame_of_successful_run

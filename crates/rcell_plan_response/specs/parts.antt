@@ -1,4 +1,3 @@
 -- Definitions that only private functions and proofs use.
-pub mod DetailValues
 pub mod RequestStops
 pub mod Answered

@@ -5,14 +5,12 @@
 //! - `plan_request`: `read_plan_request` reads names of maps and a script, or reports the first error
 //! - `plan_response`: `plan_request` writes the plan of each statement, as computed by `rcell_plan`
 //! - specs/Responses.antt: the response to every request
-//! - private: `plan_frames` and `plan_options` write plans as bytes; `plan_details` collects a statement's position
-//!   calls (`position_calls`) and the labels in its rules
+//! - private: `plan_frames`, `plan_options` and `rule_labels` write plans as bytes
 #![tactic(auto)]
 
-mod plan_details;
 mod plan_frames;
 mod plan_options;
 pub mod plan_request;
 pub mod plan_response;
-mod position_calls;
 pub mod responding;
+mod rule_labels;

@@ -1,13 +1,11 @@
 //! Writes the frames of a plan.
 
-ghost use Rattle.std.specs.Prelude.{◌≡◌, length, map, flat_map};
+ghost use Rattle.std.specs.Prelude.{◌≡◌, length, flat_map};
 ghost use Rattle.cell_core_devices.specs.Blocks.{IsTextAppendedThroughBlock};
-ghost use Rattle.rcell_plan_response.specs.PlanFrames.{name_of_made_map, margin_bytes, map_read_bytes, need_bytes, map_reads_bytes, needs_bytes, plan_head_bytes, position_call_bytes, position_calls_bytes, category_bytes, category_and_label_bytes, count_and_labels_bytes, calls_and_labels_bytes, plan_bytes, plans_bytes};
-ghost use Rattle.rcell_plan_response.specs.parts.DetailValues.{calls_and_labels_as_value, category_and_label_as_value};
+ghost use Rattle.rcell_plan_response.specs.PlanFrames.{name_of_made_map, margin_bytes, map_read_bytes, need_bytes, map_reads_bytes, needs_bytes, plan_head_bytes, plan_bytes, plans_bytes};
 
-use crate::plan_details::{CallsAndLabelsOfStatement, CategoryAndLabel};
 use crate::plan_options::{name_of_map_at_place, push_command_options};
-use crate::position_calls::PositionCall;
+use crate::rule_labels::push_command_labels;
 use cell_core::block::OutputBlock;
 use cell_core::name::Names;
 use cell_core::sink::Sink;
@@ -125,97 +123,6 @@ fn push_plan_head<W: Sink>(out: &mut W, block: &mut OutputBlock, names: &Names, 
     push_length_and_text(out, block, name_of_made_map(names, plan.made));
 }
 
-fn push_position_call<W: Sink>(out: &mut W, block: &mut OutputBlock, call: PositionCall)
-    ensures { IsTextAppendedThroughBlock W.taken W.faults out.old block.old
-        (position_call_bytes call) out.new block.new }
-{
-    push_eight_byte_number(out, block, call.first as u64);
-    push_eight_byte_number(out, block, call.last as u64);
-    block.push(out, &[call.code]);
-}
-
-fn push_each_position_call<W: Sink>(out: &mut W, block: &mut OutputBlock, calls: &[PositionCall])
-    ensures { IsTextAppendedThroughBlock W.taken W.faults out.old block.old
-        (flat_map position_call_bytes calls.now)
-        out.new block.new }
-{
-    for call in calls {
-        push_position_call(out, block, *call);
-    }
-}
-
-fn push_count_and_position_calls<W: Sink>(
-    out: &mut W,
-    block: &mut OutputBlock,
-    calls: &[PositionCall],
-)
-    ensures { IsTextAppendedThroughBlock W.taken W.faults out.old block.old
-        (position_calls_bytes calls.now)
-        out.new block.new }
-{
-    push_eight_byte_number(out, block, calls.len() as u64);
-    push_each_position_call(out, block, calls);
-}
-
-fn push_category<W: Sink>(out: &mut W, block: &mut OutputBlock, category: i32)
-    ensures { IsTextAppendedThroughBlock W.taken W.faults out.old block.old
-        (category_bytes category)
-        out.new block.new }
-{
-    block.push(out, &category.to_le_bytes());
-}
-
-fn push_category_and_label<W: Sink>(
-    out: &mut W,
-    block: &mut OutputBlock,
-    label: &CategoryAndLabel<'_>,
-)
-    ensures { IsTextAppendedThroughBlock W.taken W.faults out.old block.old
-        (category_and_label_bytes (category_and_label_as_value label.now)) out.new block.new }
-{
-    push_category(out, block, label.category);
-    push_length_and_text(out, block, label.text);
-}
-
-fn push_each_category_and_label<W: Sink>(
-    out: &mut W,
-    block: &mut OutputBlock,
-    labels: &[CategoryAndLabel<'_>],
-)
-    ensures { IsTextAppendedThroughBlock W.taken W.faults out.old block.old
-        (flat_map (λ label. category_and_label_bytes
-        (category_and_label_as_value label)) labels.now)
-        out.new block.new }
-{
-    for label in labels {
-        push_category_and_label(out, block, label);
-    }
-}
-
-fn push_count_and_labels<W: Sink>(
-    out: &mut W,
-    block: &mut OutputBlock,
-    labels: &[CategoryAndLabel<'_>],
-)
-    ensures { IsTextAppendedThroughBlock W.taken W.faults out.old block.old
-        (count_and_labels_bytes (map category_and_label_as_value labels.now)) out.new block.new }
-{
-    push_eight_byte_number(out, block, labels.len() as u64);
-    push_each_category_and_label(out, block, labels);
-}
-
-fn push_calls_and_labels<W: Sink>(
-    out: &mut W,
-    block: &mut OutputBlock,
-    details: &CallsAndLabelsOfStatement<'_>,
-)
-    ensures { IsTextAppendedThroughBlock W.taken W.faults out.old block.old
-        (calls_and_labels_bytes (calls_and_labels_as_value details.now)) out.new block.new }
-{
-    push_count_and_position_calls(out, block, &details.calls);
-    push_count_and_labels(out, block, &details.labels);
-}
-
 // Writes the frame of a statement.
 fn push_plan<W: Sink>(
     out: &mut W,
@@ -223,35 +130,30 @@ fn push_plan<W: Sink>(
     names: &Names,
     plan: &Plan,
     statement: &Statement,
-    details: &CallsAndLabelsOfStatement<'_>,
 )
     ensures { IsTextAppendedThroughBlock W.taken W.faults out.old block.old
-        (plan_bytes names.now ((plan.now, statement.now), calls_and_labels_as_value details.now))
-        out.new block.new }
+        (plan_bytes names.now (plan.now, statement.now)) out.new block.new }
 {
     push_plan_head(out, block, names, plan);
     push_count_and_map_reads(out, block, names, plan.reads.in_order());
     push_count_and_map_needs(out, block, names, plan.needs.in_order());
     push_command_options(out, block, names, &statement.command);
-    push_calls_and_labels(out, block, details);
+    push_command_labels(out, block, &statement.command);
 }
 
-/// Writes the frames of statements from their plans and details. `names` contains the names of all maps.
+/// Writes the frames of statements from their plans. `names` contains the names of all maps.
 pub(crate) fn push_plans<W: Sink>(
     out: &mut W,
     block: &mut OutputBlock,
     names: &Names,
     plans: &[Plan],
     statements: &[Statement],
-    details: &[CallsAndLabelsOfStatement<'_>],
 )
-    requires plans { length plans.now ≡ length statements.now }
-    requires details { length details.now ≡ length statements.now }
+    requires { length plans.now ≡ length statements.now }
     ensures { IsTextAppendedThroughBlock W.taken W.faults out.old block.old
-        (plans_bytes names.now plans.now statements.now (map calls_and_labels_as_value details.now))
-        out.new block.new }
+        (plans_bytes names.now plans.now statements.now) out.new block.new }
 {
     for i in 0..plans.len() {
-        push_plan(out, block, names, &plans[i], &statements[i], &details[i]);
+        push_plan(out, block, names, &plans[i], &statements[i]);
     }
 }

@@ -1,20 +1,15 @@
 //! Writes the response to a plan request.
 
-ghost use Rattle.std.specs.Prelude.{◌≡◌, ◌++◌, length, map, None, Ok, Result};
+ghost use Rattle.std.specs.Prelude.{◌≡◌, ◌++◌, length, None, Ok, Result};
 ghost use Rattle.rcell_script.specs.FittingScripts.{StatementsFitKnownMaps};
-ghost use Rattle.rcell_script.specs.Scripts.{IsScript};
 ghost use Rattle.rcell_pipe_frames.specs.FrameBytes.{response_magic, run_end_frame_bytes};
 ghost use Rattle.rcell_pipe_response.specs.RunEnds.{end_frame_of_successful_run};
 ghost use Rattle.rcell_pipe_response.specs.FrameEndings.{IsTextSentWithOutcome, IsEndOfResponseSent};
 ghost use Rattle.rcell_pipe_request.specs.declared.error.RequestError.{RequestError};
 ghost use Rattle.rcell_plan_response.specs.PlanRequests.{PlanRequestValue, plan_request_as_value};
 ghost use Rattle.rcell_plan_response.specs.PlanFrames.{plans_bytes};
-ghost use Rattle.rcell_plan_response.specs.PlanEnds.{IsPlanResponse};
-ghost use Rattle.rcell_plan_response.specs.parts.DetailValues.{calls_and_labels_as_value};
+ghost use Rattle.rcell_plan_response.specs.PlanEnds.{IsPlanRequestAccepted, IsPlanResponse};
 
-use crate::plan_details::{
-    CallsAndLabelsOfStatement, plan_details_of_statements, script_split_into_lines,
-};
 use crate::plan_frames::push_plans;
 use crate::plan_request::PlanRequest;
 use cell_core::name::Names;
@@ -30,25 +25,22 @@ use rcell_script::script_parsing::parse_script;
 use rcell_script::statement::Statement;
 use std::alloc::Global;
 
-// Writes the plans and details of statements. `names` contains the names of all maps.
+// Writes the plans of statements. `names` contains the names of all maps.
 fn write_plan_response<W: Sink>(
     out: &mut W,
     names: &Names,
     plans: &[Plan],
     statements: &[Statement],
-    details: &[CallsAndLabelsOfStatement<'_>],
 ) -> PipeOutcome
-    requires plans { length plans.now ≡ length statements.now }
-    requires details { length details.now ≡ length statements.now }
+    requires { length plans.now ≡ length statements.now }
     ensures { IsTextSentWithOutcome (W.taken out.old) (W.faults out.old) (W.taken out.new)
         (W.faults out.new)
         None (response_magic
         ++ plans_bytes names.now plans.now statements.now
-        (map calls_and_labels_as_value details.now)
         ++ run_end_frame_bytes end_frame_of_successful_run) result }
 {
     let mut block = begin_response(out);
-    push_plans(out, &mut block, names, plans, statements, details);
+    push_plans(out, &mut block, names, plans, statements);
     end_response_and_flush(out, block, None, &end_frame_of_successful_run())
 }
 
@@ -56,31 +48,23 @@ fn write_plan_response<W: Sink>(
 fn respond_with_plans<W: Sink>(
     alloc: Global,
     names: Names,
-    script: &[u8],
     statements: &[Statement],
     out: &mut W,
 ) -> PipeOutcome
-    requires fits { StatementsFitKnownMaps names statements.now }
-    requires denoted { IsScript names script.now statements.now }
+    requires { StatementsFitKnownMaps names statements.now }
     ensures { (read : Result PlanRequestValue RequestError)
-        → read ≡ Ok (record { names = names; script = script.now })
+        → IsPlanRequestAccepted read names statements.now
         → IsEndOfResponseSent (IsPlanResponse read) (W.taken out.old) (W.faults out.old)
         (W.taken out.new)
         (W.faults out.new) result }
 {
-    let Ok(lines) = script_split_into_lines(alloc, script) else {
-        return reject(out, PipeError::Memory, &memory_end(0));
-    };
-    let Ok(details) = plan_details_of_statements(alloc, lines.as_slice(), statements) else {
-        return reject(out, PipeError::Memory, &memory_end(0));
-    };
     let Ok(plans) = plans_of_statements(alloc, names.len(), statements) else {
         return reject(out, PipeError::Memory, &memory_end(0));
     };
     let Ok(all) = names_of_all_maps(alloc, names, statements) else {
         return reject(out, PipeError::Memory, &memory_end(0));
     };
-    write_plan_response(out, &all, plans.as_slice(), statements, details.as_slice())
+    write_plan_response(out, &all, plans.as_slice(), statements)
 }
 
 /// Responds to a plan request with the plan of each statement, or with the first error of the script.
@@ -95,7 +79,7 @@ pub fn respond_to_plan_request<W: Sink>(
 {
     let PlanRequest { names, script } = request;
     match parse_script(alloc, &script, &names) {
-        Ok(parsed) => respond_with_plans(alloc, names, &script, parsed.statements(), out),
+        Ok(parsed) => respond_with_plans(alloc, names, parsed.statements(), out),
         Err(error) => match error.kind {
             ScriptKind::Memory => reject(out, PipeError::Memory, &memory_end(0)),
             _ => reject_script(alloc, out, error),

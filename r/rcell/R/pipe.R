@@ -12,10 +12,8 @@ COMMANDS <- c("r.mapcalc", "r.reclass", "r.clump", "r.stats", "r.out.ascii")
 IS_OUTPUT <- 1L
 FLAGS <- c("c", "l", "1", "n", "N")
 BITS_OF_FLAGS <- c(1L, 2L, 4L, 8L, 16L)
-# The bytes after the name in a plan's entries for a map that is read and a map that is needed, and
-# the bytes of an entry for a call such as row().
+# The bytes after the name in a plan's entries for a map that is read and a map that is needed.
 BYTES_OF_MARGINS <- c(32L, 33L)
-BYTES_OF_CALL <- 17L
 PATCH_MEASURES <- c("cells", "ends", "flanks", "core", "top", "bottom", "left", "right")
 # The class takes one word, each measure two.
 WORDS_OF_PATCH <- 1L + 2L * length(PATCH_MEASURES)
@@ -192,7 +190,6 @@ plan_frame <- function(reader) {
   options <- as.integer(reader$bytes(1))
   maps <- reader$texts(reader$numbers())
   after <- reader$integers(reader$numbers())
-  reader$bytes(BYTES_OF_CALL * reader$numbers())
   list(
     line = line, command = command, is_output = is_output, made = made,
     flags = FLAGS[bitwAnd(options, BITS_OF_FLAGS) > 0L], maps = maps, after = after,

@@ -1,5 +1,6 @@
 use Rattle.std.proofs.Common.{[], Ok, Some, refl}
 use Rattle.rcell_script.specs.ReadScripts.{IsScriptFault}
+use Rattle.rcell_script.specs.Scripts.{IsScript}
 use Rattle.rcell_pipe_response.specs.declared.end.PipeError.TheVariants as errors
 use Rattle.rcell_pipe_response.specs.RunEnds.{memory_end, end_frame_as_value}
 use Rattle.rcell_pipe_response.proofs.EndLemmas.{ends_as, finished_frames, not_write}
@@ -8,13 +9,13 @@ use Rattle.rcell_plan_response.specs.PlanEnds.{IsPlanResponse}
 use Rattle.rcell_plan_response.proofs.PlanEndLemmas.{plan_rejection}
 use Rattle.rcell_plan_response.proofs.plan_response.respond_to_plan_request.Goals as goal
 
-pub respond_with_plans-requires-clause-denoted : goal.respond_with_plans-requires-clause-denoted
-respond_with_plans-requires-clause-denoted g c =
-    rw c.deref-in-Ok.ensures.value (rw (← c.statements.ensures, c.deref.ensures.value) at c.in-Ok.ensures.ok)
-
 pub returns-in-Ok : goal.returns-in-Ok
 returns-in-Ok g c =
-    c.respond_with_plans.ensures (Ok (plan_request_as_value c.args.request)) (rw c.deref-in-Ok.ensures.value refl)
+    let script = c.args.request.script.items in
+    let denoted : IsScript c.args.request.names script c.statements.result.now =
+    rw (← c.statements.ensures, c.deref.ensures.value) at c.in-Ok.ensures.ok in
+    c.respond_with_plans.ensures (Ok (plan_request_as_value c.args.request))
+    (record { script = script; request = refl; denoted = denoted })
 
 pub returns-in-Memory : goal.returns-in-Memory
 returns-in-Memory g c =
