@@ -1,43 +1,21 @@
 use Rattle.std.proofs.Common.{arith}
-use Rattle.rcell_pipe_request.specs.RequestFields.{reading_repeated_n_times}
-use Rattle.rcell_pipe_request.specs.Feeds.{left}
 use Rattle.rcell_pipe_request.specs.Requests.{next_map_reading}
-use Rattle.rcell_pipe_request.proofs.StepLemmas.{steps-on, steps-end, steps-done, FailsWithErrorPosition-of}
+use Rattle.rcell_pipe_request.proofs.StepLemmas.{one-step-on, all-steps-done, step-fails}
 use Rattle.rcell_pipe_request.proofs.request.read_more_maps_onto_shelf.Goals as goal
 
 pub returns-in-Err : goal.returns-in-Err
-returns-in-Err g c = (
-  FailsWithErrorPosition-of c.in-Err.stop c.args.feed.now c.loop-i.feed c.read_next_map_onto_shelf.new.feed
-      (next_map_reading c.loop-i.shelf)
-      (reading_repeated_n_times next_map_reading c.args.shelf.now c.args.count) (λ w is. (c.loop-i.invariant.0 w is).0)
-      (λ w is error one. steps-end next_map_reading c.loop-i.shelf c.args.count c.loop-i.i
-      (left w c.loop-i.feed) error _
-      (omega arith) one (c.loop-i.invariant.0 w is).1)
-      c.in-Err.ensures.reads.0,
-  λ going. c.in-Err.ensures.reads.1 (c.loop-i.invariant.2 going),
-)
+returns-in-Err g c =
+    step-fails next_map_reading c.args.shelf.now c.args.count c.args.feed.now c.loop-i.i c.loop-i.shelf c.loop-i.feed
+    c.loop-i.invariant.0 c.in-Err.stop _ (omega arith) c.in-Err.ensures.reads
 
 pub loop-i-preserved : goal.loop-i-preserved
 loop-i-preserved g c = (
-  λ w is.
-      let one = c.in-Ok.ensures.reads.0 w is in
-      let before = c.loop-i.invariant.0 w one.0 in (
-        before.0,
-        steps-on next_map_reading c.loop-i.shelf c.read_next_map_onto_shelf.new.shelf c.args.count c.loop-i.i
-            (left w c.loop-i.feed)
-            (left w c.read_next_map_onto_shelf.new.feed) _ (omega arith) one.1 before.1,
-      ),
+  one-step-on next_map_reading c.args.shelf.now c.args.count c.args.feed.now c.loop-i.i c.loop-i.shelf c.loop-i.feed
+      c.loop-i.invariant.0 _ _ (omega arith) c.in-Ok.ensures.reads,
   omega (arith, c.in-Ok.ensures.count, c.loop-i.invariant.1),
-  λ going. c.in-Ok.ensures.reads.1 (c.loop-i.invariant.2 going),
 )
 
 pub returns : goal.returns
-returns g c = (
-  λ w is.
-      let before = c.loop-i.invariant.0 w is in (
-        before.0,
-        steps-done next_map_reading c.loop-i.shelf c.args.count c.loop-i.i (left w c.loop-i.feed) _
-            (omega arith) before.1,
-      ),
-  c.loop-i.invariant.2,
-)
+returns g c =
+    all-steps-done next_map_reading c.args.shelf.now c.args.count c.args.feed.now c.loop-i.i c.loop-i.shelf
+    c.loop-i.feed c.loop-i.invariant.0 (omega arith)
