@@ -12,12 +12,10 @@ from unittest import mock
 import numpy as np
 
 import rcell
-from rcell.core import programs
-from rcell.core.protocol import NULL, NULL_BYTE
+from rcell.core import programs, protocol
 from rcell.core.region import Region
-from rcell.core.runs import execute_once
-from rcell.core.sources import ArrayMap
-from rcell.core.tile_clumps import SIDES, begun_in, border_of, join, renumber
+from rcell.core.runs import values_of
+from rcell.core.tile_clumps import NO_CLUMP, join, renumber, wide
 
 # A longer run: RCELL_MORE=40 python3 tests/test_numpy_join.py
 TILINGS = 60 * int(os.environ.get("RCELL_MORE", "1"))
@@ -32,55 +30,49 @@ def cuts(random: np.random.Generator, total: int) -> list[slice]:
     return [slice(*part) for part in zip(ends, ends[1:])]
 
 
-def clumped(cells: Any, diagonal: bool) -> Any:
-    """Return the clump numbers of a map, with 0 for null."""
-    maps = {"a": ArrayMap("a", cells, Region.of_cells(*cells.shape), nodata_value=NULL_CELL)}
-    script = f"r.clump {'-d ' if diagonal else ''}input=a output=k"
-    numbers = execute_once(script, maps, wanted=("k",))[-1].values
-    null = NULL_BYTE if numbers.dtype == np.uint8 else NULL
-    return np.where(numbers == null, 0, numbers.astype(np.int32))
-
-
-def border(cells: Any, numbers: Any) -> Any:
-    """Return the border of a tile."""
-    own = np.where(cells == NULL_CELL, NULL, cells.astype(np.int32))
-    return border_of([(own[side], numbers[side]) for side in SIDES], begun_in(numbers))
+def clumped(cells: Any, connectivity: int) -> tuple[Any, Any]:
+    """Return the clump numbers of a map, with 0 for null, and its border."""
+    edges = Region.of_cells(*cells.shape).edges
+    block = protocol.Block(np.ascontiguousarray(cells).data)
+    sent = protocol.Map("a", edges, *cells.shape, "u8", [block], NULL_CELL)
+    question = protocol.Question("a", connectivity, kind=protocol.NUMBERS + protocol.BORDER)
+    numbers, border = protocol.run(programs.find_pipe(), [sent], b"", [question])
+    return wide(values_of(numbers), NO_CLUMP), values_of(border)
 
 
 class Tiles(unittest.TestCase):
     def test_clumps_of_tiles_join_to_those_of_the_full_map(self) -> None:
         for seed in range(TILINGS):
             with self.subTest(seed=seed):
-                self.assert_joins(np.random.default_rng(seed), bool(seed % 2))
+                self.assert_joins(np.random.default_rng(seed), 8 if seed % 2 else 4)
 
-    def assert_joins(self, random: np.random.Generator, diagonal: bool) -> None:
+    def assert_joins(self, random: np.random.Generator, connectivity: int) -> None:
         cells = random.choice(
             np.array([1, 1, 2, 30, NULL_CELL], np.uint8), random.integers(1, 12, 2)
         )
         rows, cols = (cuts(random, length) for length in cells.shape)
         places = [(row, col) for row in rows for col in cols]
-        tiles = [np.ascontiguousarray(cells[place]) for place in places]
-        numbers = [clumped(tile, diagonal) for tile in tiles]
-        joined = join([border(*both) for both in zip(tiles, numbers)], len(cols), diagonal)
-        found, expected = np.zeros(cells.shape, np.int64), clumped(cells, diagonal)
+        numbers, borders = zip(*(clumped(cells[place], connectivity) for place in places))
+        joined = join(borders, len(cols), connectivity)
+        expected, _ = clumped(cells, connectivity)
+        found = np.zeros(cells.shape, np.int64)
         for place, own, tile in zip(places, numbers, joined.tiles):
             found[place] = renumber(own, tile)
         self.assertEqual(found.tolist(), expected.tolist())
         self.assertEqual(joined.clumps, expected.max())
 
     def test_borders_that_are_not_of_tiles(self) -> None:
-        one = border(LAND, clumped(LAND, False))
-        wide = border(LAND[:1], clumped(LAND[:1], False))
+        (_, one), (_, wide_tile) = clumped(LAND, 4), clumped(LAND[:1], 4)
         other_number, other_cell = one.copy(), one.copy()
-        other_number[4], other_cell[2] = 9, NULL
+        other_number[4], other_cell[2] = 9, protocol.NULL
         for borders, told in (
-            ([one, wide], "tile 2: other size"),
+            ([one, wide_tile], "tile 2: other size"),
             ([one[:-1]], "tile 1: request too short"),
             ([one, other_number], "tile 2: bad border"),
             ([other_cell], "tile 1: bad border"),
         ):
             with self.subTest(told=told), self.assertRaisesRegex(rcell.WrongProgram, told):
-                join(borders, len(borders))
+                join(borders, len(borders), 4)
 
 
 class Programs(unittest.TestCase):
@@ -90,7 +82,7 @@ class Programs(unittest.TestCase):
         folder = tempfile.TemporaryDirectory()
         self.addCleanup(folder.cleanup)
         self.path = f"{folder.name}/rcell-pipe"
-        self.border = border(LAND, clumped(LAND, False))
+        _, self.border = clumped(LAND, 4)
 
     def join_with(self, body: str) -> None:
         """Join a tile with a shell script that is accepted as rcell-pipe without a test run."""
@@ -101,7 +93,7 @@ class Programs(unittest.TestCase):
         known = {self.path: (state.st_ino, state.st_size, state.st_mtime_ns)}
         with mock.patch.dict(os.environ, RCELL_PIPE=self.path):
             with mock.patch.dict(programs._known, known):
-                join([self.border], 1)
+                join([self.border], 1, 4)
 
     def test_errors(self) -> None:
         with self.assertRaises(rcell.Killed):
@@ -115,7 +107,7 @@ class Programs(unittest.TestCase):
                 self.join_with(body)
         with mock.patch.dict(os.environ, RCELL_PIPE=f"{self.path}.missing"):
             with self.assertRaises(rcell.MissingProgram):
-                join([self.border], 1)
+                join([self.border], 1, 4)
 
 
 if __name__ == "__main__":

@@ -19,7 +19,19 @@ from typing import Any, Optional
 
 from .hints import advice, lines_of_error
 from .process import WATCH_SECONDS, Started, close, pipe
-from .requests import Block, Buffer, Map, Margin, Question, join_request, plan_request, request
+from .requests import (
+    BORDER,
+    NUMBERS,
+    PATCHES,
+    Block,
+    Buffer,
+    Map,
+    Margin,
+    Question,
+    join_request,
+    plan_request,
+    request,
+)
 from .responses import (
     NULL,
     NULL_BYTE,
@@ -38,9 +50,12 @@ from .responses import (
 )
 
 __all__ = [
+    "BORDER",
     "NO_MEMORY",
     "NULL",
     "NULL_BYTE",
+    "NUMBERS",
+    "PATCHES",
     "Block",
     "BorderFrame",
     "Buffer",
@@ -212,6 +227,7 @@ def run(
     maps: Sequence[Map],
     script: bytes,
     questions: Sequence[Question] = (),
+    tile: Sequence[int] = (),
     *,
     seconds: Optional[float] = None,
     watch: Optional[Callable[[], None]] = None,
@@ -226,6 +242,9 @@ def run(
         The path of rcell-pipe.
     maps : sequence of Map
     script : bytes
+    questions : sequence of Question
+    tile : sequence of int
+        For a tile, the eight numbers of `request`.
     seconds : float, optional
         The time limit for the run, in seconds.
     watch : callable, optional
@@ -247,7 +266,7 @@ def run(
     """
     return [
         frame
-        for frame in _answered(program, request(maps, script, questions), seconds, watch)
+        for frame in _answered(program, request(maps, script, questions, tile), seconds, watch)
         if not isinstance(frame, (Statement, JoinFrame))
     ]
 
@@ -289,7 +308,7 @@ _PROBE_SCRIPT = (
     b"r.clump -d input=probe output=k\nr.stats -c input=probe,k after=7,1\nr.stats -1 "
     b"input=k\nr.out.ascii input=k\n"
 )
-_PROBE_QUESTION = Question("probe", 8, 1, with_numbers=True, with_border=True)
+_PROBE_QUESTION = Question("probe", 8, kind=PATCHES + NUMBERS + BORDER)
 _PROBE_ROWS = [7, NULL, 12, 1, NULL, 2] * 2  # the first and the last row, with their numbers
 _PROBE_CELLS = [struct.pack("<4i", 12, 2, NULL, NULL), struct.pack("<3i", 1, NULL, 2)]
 _PROBE_CELLS += [b"\1\xff\2"] * 2 + [struct.pack("<19i", 1, 3, *_PROBE_ROWS, 7, 1, 12, 2, 2)]

@@ -1,5 +1,5 @@
 # SPDX-License-Identifier: Apache-2.0 OR GPL-2.0-or-later
-"""Encode requests to rcell-pipe: maps, scripts, questions about patches, and borders of tiles."""
+"""Encode requests to rcell-pipe: maps, scripts, questions about patches, and parts of tiles."""
 
 from __future__ import annotations
 
@@ -9,6 +9,9 @@ from dataclasses import dataclass, field
 from typing import NamedTuple, Optional, Union
 
 __all__ = [
+    "BORDER",
+    "NUMBERS",
+    "PATCHES",
     "Block",
     "Buffer",
     "Map",
@@ -23,7 +26,8 @@ CELL_BYTES = {"u8": 1, "i8": 1, "u16": 2, "i16": 2, "u32": 4, "i32": 4, "i64": 8
 """The cell types of input maps, in the order of their codes, from 1."""
 
 _CODES = {name: code for code, name in enumerate(CELL_BYTES, 1)}
-_PATCHES, _NUMBERS, _BORDER = 1, 2, 4  # what a question asks for
+PATCHES, NUMBERS, BORDER = 1, 2, 4
+"""The frames that a question can ask for: of measures, of patch numbers, and of a map's border."""
 # Rows and masks are interleaved in pieces that fit in a processor's cache.
 PIECE_BYTES = 1 << 18
 
@@ -144,9 +148,13 @@ class Margin(NamedTuple):
     left: int = 0
     right: int = 0
 
+    def widened(self, other: Margin) -> Margin:
+        """Return the larger number on each side."""
+        return Margin(*(max(sides) for sides in zip(self, other)))
+
 
 class Question(NamedTuple):
-    """A request for the measures of the patches in a map.
+    """A question about the patches in a map.
 
     Attributes
     ----------
@@ -159,57 +167,57 @@ class Question(NamedTuple):
     zones : str
         The name of a map of zones, or an empty string. With zones, each patch is returned with the
         zone that contains most of its cells.
-    with_numbers, with_border : bool
-        Whether the map of patch numbers, and the map's border, are returned as well.
+    kind : int
+        The frames that the question asks for, as a sum of `PATCHES`, `NUMBERS` and `BORDER`.
 
     Examples
     --------
     >>> Question("lc", 4, 1).bytes()
     b'\\x01\\x02lc\\x04\\x01\\x00\\x00\\x00\\x00'
-    >>> Question("lc", 4, 1, with_numbers=True).bytes()
-    b'\\x03\\x02lc\\x04\\x01\\x00\\x00\\x00\\x00'
     """
 
     map: str
     connectivity: int
-    depth: int
+    depth: int = 1
     zones: str = ""
-    with_numbers: bool = False
-    with_border: bool = False
-
-    @property
-    def is_diagonal(self) -> bool:
-        """Whether cells that share only a corner are connected."""
-        return self.connectivity == 8
+    kind: int = PATCHES
 
     @property
     def reach(self) -> Margin:
         """The margin around a cell that determines whether the cell is in the core."""
-        return Margin(*[self.depth] * 4)
+        return Margin(*[self.depth if self.kind & PATCHES else 0] * 4)
 
     def bytes(self) -> bytes:
         """Return the bytes that encode the question."""
         numbers = struct.pack("<BI", self.connectivity, self.depth)
-        kind = _PATCHES + _NUMBERS * self.with_numbers + _BORDER * self.with_border
-        return bytes([kind]) + _short(self.map) + numbers + _short(self.zones)
+        return bytes([self.kind]) + _short(self.map) + numbers + _short(self.zones)
 
     def text(self) -> str:
-        """Return the question as a comment, which follows the script in records."""
+        """Return a question about measures as a comment, which follows the script in records."""
         numbers = f"connectivity {self.connectivity}, core depth {self.depth}"
         zones = f", zones {self.zones}" if self.zones else ""
-        wanted = f"patches of {self.map}" + ", their numbers" * self.with_numbers
-        wanted += ", the map's border" * self.with_border
-        return f"# question: {wanted}, {numbers}{zones}"
+        return f"# question: patches of {self.map}, {numbers}{zones}"
 
 
 def request(
     maps: Sequence[Map],
     script: bytes,
     questions: Sequence[Question] = (),
+    tile: Sequence[int] = (),
     magic: bytes = b"RCELLQ1\n",
 ) -> Iterator[Buffer]:
-    """Yield the bytes of a request with maps, a script, and questions."""
-    yield magic + struct.pack("<I", len(maps))
+    """Yield the bytes of a request with maps, a script, and questions.
+
+    A request for a tile contains eight numbers: the rows and columns of the full map; the first row
+    and column of the maps in it; and the first row and column, rows and columns of the tile.
+
+    Examples
+    --------
+    >>> next(request([], b"", tile=(9, 9, 0, 0, 1, 1, 2, 3)))[:28]
+    b'RCELLW1\\n\\t\\x00\\x00\\x00\\t\\x00\\x00\\x00\\x00\\x00\\x00\\x00\\x00\\x00\\x00\\x00\\x01\\x00\\x00\\x00'
+    """
+    head = b"RCELLW1\n" + struct.pack("<8I", *tile) if tile else magic
+    yield head + struct.pack("<I", len(maps))
     for each in maps:
         yield from each.pieces()
     yield struct.pack("<I", len(script)) + script

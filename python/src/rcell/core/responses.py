@@ -131,10 +131,12 @@ class PatchesFrame:
         contains the class as i32, followed by the cells, ends, flanks, core cells, first and last
         row, and first and last column as u64. Rows and columns are counted from 0. If the question
         has zones, the zone follows as i32, which is `NULL` if the patch has no zone.
+    has_zones : bool
     """
 
     question: int
     rows: memoryview
+    has_zones: bool
 
 
 @dataclass(frozen=True)
@@ -375,7 +377,7 @@ class _Response:
         question = self.count()
         *_, has_zones = self.take(6)  # after connectivity and depth, which are known
         row_bytes = PATCH_BYTES + (ZONE_BYTES if has_zones else 0)
-        return PatchesFrame(question, self.cells(row_bytes * self.count(), "B"))
+        return PatchesFrame(question, self.cells(row_bytes * self.count(), "B"), bool(has_zones))
 
     def statement(self) -> Statement:
         """Read the description of a statement in a plan."""

@@ -22,6 +22,7 @@ from .writing import replacing, write_errors
 
 __all__ = ["Shelf", "state_of"]
 
+_FORMAT = b"tiles 2"  # changes with the results that are kept
 # The attributes that define how a map is read from its files, such as its band.
 _DETAILS = ("layer", "band", "null_ranges", "file_nodata", "scale")
 
@@ -75,10 +76,10 @@ class Shelf:
 
         Files are identified by size and time, and other maps by their cells.
         """
-        texts = [work.text, *(question.text() for question in work.questions)]
-        words = "\n".join(texts).encode("utf-8", "surrogateescape")
-        place = repr(tuple(work.place)).encode()
-        sum_of = hashlib.sha256(b"\0".join([self.state, words, place]))
+        words = work.text.encode("utf-8", "surrogateescape")
+        questions = [question.bytes() for question in work.questions]
+        place = repr((*work.place, *work.outer)).encode()
+        sum_of = hashlib.sha256(b"\0".join([_FORMAT, self.state, words, place, *questions]))
         for name, map in maps.items():
             if isinstance(map, Piece):
                 block = map.block

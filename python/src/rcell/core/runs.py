@@ -16,21 +16,38 @@ from .host import host
 from .programs import Path, find_pipe, program_errors
 from .rectangles import Rectangle
 from .region import CELL_LIMIT, SIDE_LIMIT, fits_one_run
+from .responses import PATCH_BYTES, ZONE_BYTES
 from .sources import Source
 
 __all__ = [
+    "PATCH",
     "Fold",
     "Output",
     "PatchFold",
     "ask",
     "check_size",
-    "entries_of",
     "execute",
     "execute_once",
     "grid_text",
     "planned",
     "printed",
+    "values_of",
 ]
+
+PATCH = np.dtype(
+    [("class", "<i4")]
+    + [
+        (name, "<i8")
+        for name in ("cells", "ends", "flanks", "core", "top", "bottom", "left", "right")
+    ]
+)
+"""The program's measures of a patch.
+
+`ends` counts the northern and southern cell sides on its border, and `flanks` the western and
+eastern cell sides.
+"""
+_ZONED_PATCH = np.dtype([*PATCH.descr, ("zones", "<i4")])  # with the zone of most of its cells
+assert (PATCH.itemsize, _ZONED_PATCH.itemsize) == (PATCH_BYTES, PATCH_BYTES + ZONE_BYTES)
 
 
 @dataclass(frozen=True)
@@ -191,31 +208,24 @@ def ask(
         Whether the patches were passed to the fold. Hosts that run scripts themselves do not
         support questions.
     """
-    from .tile_patches import PATCH, ZONED_PATCH
     from .tile_runs import ask_tiles, demand_of
     from .tiling import DryRun, describe, is_small, takes_one_run, work
 
     if work().engine is not None:
         return False
     if not is_small(maps) or work().is_dry:
-        lines = [clump, "r.out.ascii input=patch"]
-        lines += [f"r.stats -c -n input=patch,{question.zones}"] if question.zones else []
-        plan = planned("\n".join(lines), maps)
+        stats = [f"r.stats -c -n input=patch,{question.zones}"] if question.zones else []
+        plan = planned("\n".join([clump, *stats]), maps)
         demand = replace(demand_of(plan, maps), reach=question.reach)
         if work().is_dry:
             raise DryRun(describe(plan, maps, demand, 1))
         if not takes_one_run(plan, maps, demand):
             _tell_host("\n".join(["", question.text()]), maps)
-            # The question returns the numbers, so the script only counts zones.
-            script = [each for each in plan if each.command != "r.out.ascii"]
-            asked = question._replace(zones="", with_numbers=True, with_border=True)
-            ask_tiles(asked, script if question.zones else [], maps, demand, fold)
+            ask_tiles(question, plan, maps, demand, fold)
             return True
     [found] = _frames("", maps, (question,))
-    assert isinstance(found, protocol.PatchesFrame)
     full = Rectangle(0, 0, *next(iter(maps.values())).region.shape)
-    rows = np.frombuffer(found.rows, ZONED_PATCH if question.zones else PATCH)
-    fold.add(full, rows, np.empty(0, np.int64), [])
+    fold.add(full, values_of(found), np.empty(0, np.int64), [])
     fold.join(lambda _, numbers: numbers)
     return True
 
@@ -328,20 +338,29 @@ def _numbered(outputs: list[Output], wanted: int) -> list[Output]:
 
 def _output(frame: protocol.Frame) -> Output:
     """Convert a frame with a table or a map to an output."""
+    values = values_of(frame)
     if isinstance(frame, protocol.GridFrame):
-        return Output("r.out.ascii", frame.line, (frame.name,), _cells(frame))
+        return Output("r.out.ascii", frame.line, (frame.name,), values)
     assert isinstance(frame, protocol.TableFrame)
-    return Output(
-        "r.stats",
-        frame.line,
-        frame.names,
-        entries_of(frame),
-        frame.counts is not None,
-        frame.labels is not None,
-    )
+    has_counts, has_labels = frame.counts is not None, frame.labels is not None
+    return Output("r.stats", frame.line, frame.names, values, has_counts, has_labels)
 
 
-def entries_of(frame: protocol.TableFrame) -> NDArray[np.int64]:
+def values_of(frame: protocol.Frame) -> NDArray[Any]:
+    """Return the content of a frame: a table, a map, a border, or rows of patch measures.
+
+    Null in a map is `NULL_BYTE` if the cells are bytes, and otherwise `NULL`.
+    """
+    if isinstance(frame, protocol.TableFrame):
+        return _entries_of(frame)
+    if isinstance(frame, protocol.PatchesFrame):
+        return np.frombuffer(frame.rows, _ZONED_PATCH if frame.has_zones else PATCH)
+    if isinstance(frame, protocol.BorderFrame):
+        return np.asarray(frame.border)
+    return np.asarray(frame.cells).reshape(frame.rows, frame.cols)
+
+
+def _entries_of(frame: protocol.TableFrame) -> NDArray[np.int64]:
     """Return a table's entries and counts as an array in column-major order."""
     width = len(frame.names)
     columns = np.empty((width + (frame.counts is not None), frame.entries), np.int64)
@@ -349,8 +368,3 @@ def entries_of(frame: protocol.TableFrame) -> NDArray[np.int64]:
     if frame.counts is not None:
         columns[-1] = np.asarray(frame.counts)
     return columns.T
-
-
-def _cells(frame: protocol.GridFrame) -> NDArray[Any]:
-    """Return a map's cells as bytes with `NULL_BYTE` for null, or as int32 with `NULL` for null."""
-    return np.asarray(frame.cells).reshape(frame.rows, frame.cols)

@@ -2,7 +2,7 @@
 """Join the clumps of tiles and number them as in the full map.
 
 The proved program rcell-pipe joins the clumps, using only the borders of the tiles. This module
-writes the borders, and reads the numbers into numpy arrays, without a Python object per clump.
+reads the numbers into numpy arrays, without a Python object per clump.
 """
 
 from __future__ import annotations
@@ -20,24 +20,12 @@ from .host import host
 from .programs import find_pipe, program_errors
 from .protocol import NO_MEMORY, NULL
 
-__all__ = [
-    "SIDES",
-    "Joined",
-    "TileNumbers",
-    "begun_in",
-    "border_of",
-    "join",
-    "open_clumps",
-    "renumber",
-]
+__all__ = ["NO_CLUMP", "Joined", "TileNumbers", "join", "open_clumps", "renumber", "wide"]
 
 Integers = NDArray[Any]
 
 NO_CLUMP = 0
 """Null in a map of clumps, which are numbered from 1."""
-
-SIDES = (np.s_[:1, :], np.s_[-1:, :], np.s_[:, :1], np.s_[:, -1:])
-"""The first and last row and column of an array."""
 
 PIECE = 2**18
 """The number of cells that are renumbered at a time, which fit in a processor's cache."""
@@ -78,31 +66,6 @@ class Joined:
     tiles: Sequence[TileNumbers]
 
 
-def border_of(sides: Sequence[tuple[Integers, Integers]], begun: Integers) -> Integers:
-    """Return the border of a tile in the format of `requests.join_request`.
-
-    Parameters
-    ----------
-    sides : sequence of pairs of ndarrays
-        The cells, with `NULL` for null, and the clump numbers, with `NO_CLUMP` for null, of the
-        first row, last row, first column and last column.
-    begun : ndarray of integers
-        For each row, the number of clumps whose first cell is in the row.
-
-    Examples
-    --------
-    >>> sides = [(np.array([8, NULL]), np.array([1, 0]))] * 2 + [(np.array([8]), np.array([1]))] * 2
-    >>> border_of(sides, np.array([1])).tolist()[:6]
-    [1, 2, 8, -2147483648, 1, -2147483648]
-    """
-    first_cells, _ = sides[0]
-    parts = [np.array([begun.size, first_cells.size])]
-    for cells, numbers in sides:
-        parts += [cells.ravel(), np.where(numbers == NO_CLUMP, NULL, numbers).ravel()]
-    border: Integers = np.concatenate([*parts, begun]).astype(np.int32)
-    return border
-
-
 def open_clumps(border: Integers) -> Integers:
     """Return the clumps in the border of a tile, which may continue outside the tile.
 
@@ -117,33 +80,18 @@ def open_clumps(border: Integers) -> Integers:
     return clumps
 
 
-def begun_in(numbers: Integers) -> Integers:
-    """Return, for each row of a tile's clump numbers, the number of clumps that begin in the row.
-
-    Clumps are numbered in the order of their first cells, so the largest number up to a row counts
-    the clumps that have begun. Null may be `NO_CLUMP` or any smaller number.
-
-    Examples
-    --------
-    >>> begun_in(np.array([[1, 2], [0, 2], [3, 0]])).tolist()
-    [2, 0, 1]
-    """
-    largest = np.maximum.accumulate(numbers.max(axis=1).clip(min=NO_CLUMP))
-    begun: Integers = np.diff(largest, prepend=NO_CLUMP)
-    return begun
-
-
-def join(borders: Sequence[Integers], columns: int, diagonal: bool = False) -> Joined:
+def join(borders: Sequence[Integers], columns: int, connectivity: int) -> Joined:
     """Join the clumps of tiles and number them in the order of their first cells in the full map.
+
+    By the law `runs_number_full_map_patches`, these are the numbers of r.clump in the full map.
 
     Parameters
     ----------
     borders : sequence of ndarrays
-        The borders of all tiles from `border_of`, row by row from the top left (law `grids_cover`).
+        The borders of all tiles, row by row from the top left, as in `responses.BorderFrame`.
     columns : int
         The number of columns of tiles.
-    diagonal : bool
-        Whether cells that touch at a corner are connected.
+    connectivity : {4, 8}
 
     Raises
     ------
@@ -151,13 +99,12 @@ def join(borders: Sequence[Integers], columns: int, diagonal: bool = False) -> J
 
     Examples
     --------
-    >>> side = np.array([4]), np.array([1])
-    >>> border = border_of([side] * 4, np.array([1]))
-    >>> whole = join([border, border], columns=1)
+    >>> border = np.array([1, 1] + [4, 1] * 4 + [1], np.int32)  # a tile with one cell of class 4
+    >>> whole = join([border, border], columns=1, connectivity=4)
     >>> whole.clumps, renumber(np.array([[1]]), whole.tiles[1]).tolist()
     (1, [[1]])
     """
-    joined = _joined(borders, (len(borders) // columns, columns), 8 if diagonal else 4)
+    joined = _joined(borders, (len(borders) // columns, columns), connectivity)
     tile, first, last, number = np.asarray(joined.runs).view(np.int64).reshape(-1, 4).T
     ends = np.searchsorted(tile, np.arange(1, len(borders) + 2))
     tiles = []
@@ -219,3 +166,11 @@ def renumber(numbers: Integers, tile: TileNumbers, out: Optional[Integers] = Non
         piece = source[start : start + PIECE]
         target[start : start + PIECE] = tile.looked_up(piece) if table is None else table[piece]
     return out
+
+
+def wide(cells: Integers, null: int) -> Integers:
+    """Convert cells to int32, with the given value for null."""
+    old_null = protocol.NULL_BYTE if cells.dtype == np.uint8 else NULL
+    wide_cells: Integers = cells.astype(np.int32)
+    np.copyto(wide_cells, null, where=cells == old_null)
+    return wide_cells

@@ -11,41 +11,16 @@ import numpy as np
 
 from .arrays import NDArray
 from .counting import places_of
-from .protocol import (
-    NULL,
-    BorderFrame,
-    Frame,
-    NumbersFrame,
-    PatchesFrame,
-    Question,
-    TableFrame,
-)
+from .protocol import NULL, BorderFrame, Frame, NumbersFrame, PatchesFrame, Question
 from .rectangles import Rectangle
-from .responses import PATCH_BYTES, ZONE_BYTES
-from .runs import entries_of
+from .runs import values_of
 from .sources import Block, null_cells
-from .tile_clumps import NO_CLUMP, open_clumps
+from .tile_clumps import NO_CLUMP, open_clumps, wide
 from .tile_tables import order_of
-from .tile_work import TileWork, wide
+from .tile_work import TileWork
 from .tiling import in_threads
 
-__all__ = ["PATCH", "ZONED_PATCH", "PatchSum", "measures_of"]
-
-PATCH = np.dtype(
-    [("class", "<i4")]
-    + [
-        (name, "<i8")
-        for name in ("cells", "ends", "flanks", "core", "top", "bottom", "left", "right")
-    ]
-)
-"""The program's measures of a patch.
-
-`ends` counts the northern and southern cell sides on its border, and `flanks` the western and
-eastern cell sides.
-"""
-ZONED_PATCH = np.dtype([*PATCH.descr, ("zones", "<i4")])
-"""The measures of a patch, and the zone that contains most of its cells."""
-assert (PATCH.itemsize, ZONED_PATCH.itemsize) == (PATCH_BYTES, PATCH_BYTES + ZONE_BYTES)
+__all__ = ["PatchSum", "measures_of"]
 
 PIECE = 2**14
 """The number of patches whose measures are written at a time, which fit in a processor's cache."""
@@ -74,7 +49,7 @@ def measures_of(work: TileWork, frames: Sequence[Frame]) -> list[Integers]:
     *tables, grid, sides, patches = frames
     assert isinstance(grid, NumbersFrame) and isinstance(patches, PatchesFrame)
     assert isinstance(sides, BorderFrame)
-    rows = np.frombuffer(patches.rows, PATCH)
+    rows = values_of(patches)
     source = work.maps[question.map]
     numbers = np.asarray(grid.cells).reshape(grid.rows, grid.cols)
     block = source.window(*work.outer)
@@ -85,7 +60,7 @@ def measures_of(work: TileWork, frames: Sequence[Frame]) -> list[Integers]:
         rows[name] += first
     border = np.asarray(sides.border)
     told = [border, rows, open_clumps(border)]
-    return told + [entries_of(table) for table in tables if isinstance(table, TableFrame)]
+    return told + [values_of(table) for table in tables]
 
 
 @dataclass(frozen=True)

@@ -2,8 +2,8 @@
 """Run a script over tiles, with the same outputs as one run over the full maps.
 
 Tables are added up, and maps are assembled. Each r.clump is processed first, tile by tile: the
-clumps are joined, and the clump map is then treated as a given map. The crate `cell_join_numbers`
-of this project proves that tiles have the same results as one run. Each step names its law.
+clumps are joined, and the clump map is then treated as a given map. Laws of this project state that
+tiles have the same results as one run. Each step names its law.
 """
 
 from __future__ import annotations
@@ -11,7 +11,6 @@ from __future__ import annotations
 from collections.abc import Callable, Iterator, Mapping, Sequence
 from contextlib import contextmanager
 from dataclasses import dataclass, replace
-from functools import partial
 from typing import Any
 from uuid import uuid4
 
@@ -24,16 +23,16 @@ from .errors import BadMap, ReadFailed
 from .host import host
 from .kept import cells_for
 from .pieces import is_file
-from .protocol import NULL, Question, Statement
+from .protocol import BORDER, NULL, NUMBERS, PATCHES, Question, Statement
 from .rectangles import Rectangle, rectangles_of
 from .resuming import Shelf, state_of
 from .runs import Fold, Output, PatchFold
 from .sources import MAX_CATEGORY, ArrayMap, Source
-from .tile_clumps import NO_CLUMP, Joined, join, renumber
+from .tile_clumps import NO_CLUMP, Joined, join, open_clumps, renumber, wide
 from .tile_patches import measures_of
-from .tile_scripts import TileScript, is_counted, is_diagonal
+from .tile_scripts import makers, maps_read_by, question_about, reach_of, text_of
 from .tile_tables import TableSum
-from .tile_work import TileDone, TileWork, clumps_of, outputs_of, patches_of, wide
+from .tile_work import TileDone, TileWork
 from .tiling import Demand, cluster, tile_size, work
 
 __all__ = ["ask_tiles", "demand_of", "outputs_in", "run_tiles", "table_output"]
@@ -44,10 +43,12 @@ Put = Callable[[Rectangle, list[Integers]], list[Integers]]
 
 def demand_of(plan: Sequence[Statement], maps: Mapping[str, Source]) -> Demand:
     """Return the memory per cell and the halo that a script needs for a tile."""
-    script = TileScript.of(plan, outputs_in(plan), maps)
-    grids = sum(output.command == "r.out.ascii" for output in script.outputs)
+    outputs = outputs_in(plan)
+    used = makers(plan, maps_read_by(outputs), maps)
+    grids = sum(output.command == "r.out.ascii" for output in outputs)
     clumps = sum(statement.command == "r.clump" for statement in plan)
-    return Demand.of(maps, script.maps + clumps, grids + 2 * (clumps > 0), clumps, script.reach)
+    reach = reach_of([*used, *outputs])
+    return Demand.of(maps, len(used) + clumps, grids + 2 * (clumps > 0), clumps, reach)
 
 
 def outputs_in(plan: Sequence[Statement]) -> list[Statement]:
@@ -202,16 +203,17 @@ class _Tiles:
             watch.finish()
 
     def outputs(self, plan: Sequence[Statement], outputs: Sequence[Statement]) -> list[Output]:
-        """Return the outputs of statements, whose clump maps must already be known."""
-        script = self._script(plan, outputs)
-        kinds_of_results = outputs_of([is_counted(statement) for statement in outputs])
+        """Return the outputs of statements, whose clump maps must already be known.
+
+        By the law `tables_after_runs_merge_into_full_table`, tables of tiles add up to the table.
+        """
         sums: list[TableSum | _Grid] = [
-            TableSum(len(statement.inputs), is_counted(statement))
+            TableSum(len(statement.inputs), "c" in statement.options)
             if statement.command == "r.stats"
             else _Grid(self._shape)
             for statement in outputs
         ]
-        for index, results in self._run(script, script.text, kinds_of_results):
+        for index, results in self._run(self._script(plan, outputs)):
             for total, result in zip(sums, results):
                 if isinstance(total, TableSum):
                     total.add(result)
@@ -226,14 +228,11 @@ class _Tiles:
 
         The clump map is never created.
         """
-        script = self._script(plan, [clump, stats])
-        text = partial(script.clump_text, clump, stats=stats)
-        borders = {}
-        results = patches_of(is_counted(stats))
-        for index, (border, table, sides) in self._run(script, text, results):
+        question, borders = question_about(clump, BORDER), {}
+        for index, (table, border) in self._run(self._script(plan, [stats]), question):
             borders[index] = border
-            fold.add(index, table, sides)
-        tiles = self._joined(borders, is_diagonal(clump)).tiles
+            fold.add(index, table, open_clumps(border))
+        tiles = self._joined(borders, question).tiles
         fold.join(lambda index, numbers: tiles[index].looked_up(numbers))
 
     def measure(self, plan: Sequence[Statement], question: Question, fold: PatchFold) -> None:
@@ -241,19 +240,18 @@ class _Tiles:
 
         The first column of each table is the patch number.
         """
-        script = self._script(plan, outputs_in(plan))
-
-        def text(place: Rectangle, _: Rectangle, shape: tuple[int, int]) -> str:
-            return script.text(place, place, shape)
 
         def add(place: Rectangle, results: list[Integers]) -> list[Integers]:
             border, rows, sides, *tables = results
             fold.add(place, rows, sides, tables)
             return [border]
 
-        found = self._run(script, text, measures_of, put=add, question=question)
+        asked = question._replace(zones="", kind=PATCHES + NUMBERS + BORDER)
+        found = self._run(
+            self._script(plan, outputs_in(plan)), asked, put=add, results_of=measures_of
+        )
         borders = {index: border for index, [border] in found}
-        tiles = dict(zip(self._places, self._joined(borders, question.is_diagonal).tiles))
+        tiles = dict(zip(self._places, self._joined(borders, question).tiles))
         fold.join(lambda place, numbers: tiles[place].looked_up(numbers))
 
     def add_clumps(self, plan: Sequence[Statement], clump: Statement, is_last: bool) -> None:
@@ -262,49 +260,46 @@ class _Tiles:
         Each tile's clump numbers are kept until the clumps are joined, and then replaced with the
         full map's clump numbers.
         """
-        script = self._script(plan, [clump])
+        question = question_about(clump, NUMBERS + BORDER)
         numbers = cells_for(self._shape, np.int32)
 
         def keep_numbers(place: Rectangle, results: list[Integers]) -> list[Integers]:
-            place.part_of(self._full, numbers)[...] = results[1]
-            return results[:1]
+            clumps, border = results
+            place.part_of(self._full, numbers)[...] = wide(clumps, NO_CLUMP)
+            return [border]
 
-        text = partial(script.clump_text, clump)
-        found = self._run(script, text, clumps_of, is_last, False, keep_numbers)
+        script = makers(plan, clump.inputs, self._maps)
+        found = self._run(script, question, is_last, False, keep_numbers)
         borders = {index: border for index, [border] in found}
-        joined = self._joined(borders, is_diagonal(clump))
         self._maps[clump.made] = ArrayMap(
             clump.made,
-            self._numbered(numbers, joined),
+            self._numbered(numbers, self._joined(borders, question)),
             next(iter(self._maps.values())).region,
             nodata_value=NO_CLUMP,
         )
 
-    def _script(self, plan: Sequence[Statement], outputs: Sequence[Statement]) -> TileScript:
-        needed = [
-            statement
-            for statement in plan
-            if statement.made not in self._maps and statement not in outputs
-        ]
-        return TileScript.of(needed, outputs, self._maps)
+    def _script(self, plan: Sequence[Statement], outputs: Sequence[Statement]) -> list[Statement]:
+        """Return outputs of a plan, after the statements that they need."""
+        return [*makers(plan, maps_read_by(outputs), self._maps), *outputs]
 
     def _run(
         self,
-        script: TileScript,
-        text: Callable[[Rectangle, Rectangle, tuple[int, int]], str],
-        results: Any,
+        script: Sequence[Statement],
+        question: Question | None = None,
         is_last: bool = True,
         is_kept: bool = True,
         put: Put = lambda _, results: results,
-        question: Question | None = None,
+        results_of: Any = None,
     ) -> Iterator[tuple[int, list[Integers]]]:
         """Yield the index and the results of each tile as tiles complete.
 
-        A run reads the maps that the script needs. The last run also reads all maps that no run has
-        read, to check their cells. Results are kept for resuming, unless `is_kept` is False because
-        they are too large. The tile's thread passes them to `put`, and what `put` returns is yielded.
+        A run reads the maps that the script and the question need. The last run also reads all maps
+        that no run has read, to check their cells. Results are kept for resuming, unless `is_kept`
+        is False because they are too large. The tile's thread passes them to `put`, and what `put`
+        returns is yielded.
         """
-        read = script.reads
+        questions = () if question is None else (question,)
+        read = maps_read_by(script) | {question.map for question in questions}
         if is_last:
             read |= set(self._unread)
         maps = {name: source for name, source in self._maps.items() if name in read}
@@ -312,14 +307,13 @@ class _Tiles:
             name = next(iter(self._maps))
             maps = {name: self._maps[name]}
         watched = tuple(name for name in maps if name in self._unread)
-        reach = script.reach if question is None else question.reach
-        common = maps, watched, results, host().words, self._call
-        questions = () if question is None else (question,)
+        reach = reach_of(script, questions)
+        text = text_of(script)
+        common = self._shape, maps, watched, host().words, self._call
 
         def prepare(place: Rectangle) -> TileWork:
             outer = place.with_halo(reach, self._shape)
-            words = text(place, outer, self._shape)
-            work = TileWork(words, place, outer, self._shape, *common, questions=questions)
+            work = TileWork(text, questions, place, outer, *common, results=results_of)
             return self._shelf.known(work) if is_kept else work
 
         def finish(work: TileWork, done: TileDone) -> list[Integers]:
@@ -345,10 +339,11 @@ class _Tiles:
         self._maps[output.inputs[0]] = replace(source, nodata_value=NULL)
         return Output("r.out.ascii", output.line, output.inputs, source.array)
 
-    def _joined(self, borders: Mapping[int, Integers], diagonal: bool) -> Joined:
+    def _joined(self, borders: Mapping[int, Integers], question: Question) -> Joined:
         """Join the clumps of all tiles, given the border of each tile by index."""
         columns = sum(place.top == 0 for place in self._places)
-        return join([borders[index] for index in range(len(borders))], columns, diagonal)
+        ordered = [borders[index] for index in range(len(borders))]
+        return join(ordered, columns, question.connectivity)
 
     @property
     def _full(self) -> Rectangle:
@@ -400,8 +395,6 @@ def _output(statement: Statement, total: TableSum | _Grid) -> Output:
 
 
 def table_output(statement: Statement, values: Any) -> Output:
-    """Return the output of an `r.stats` statement, with counts only if the flag `-c` is given."""
+    """Return the output of an `r.stats` statement, given the entries and counts of its table."""
     inputs, options = statement.inputs, statement.options
-    has_counts = "c" in options
-    values = values if has_counts else values[:, : len(inputs)]
-    return Output("r.stats", statement.line, inputs, values, has_counts, "l" in options)
+    return Output("r.stats", statement.line, inputs, values, "c" in options, "l" in options)

@@ -6,7 +6,6 @@ from __future__ import annotations
 from collections.abc import Callable, Mapping, Sequence
 from contextlib import suppress
 from dataclasses import replace
-from functools import partial
 from itertools import accumulate
 from typing import Any
 from uuid import uuid4
@@ -19,15 +18,15 @@ from ..core.clusters import run_on_worker, sent_parts
 from ..core.errors import BadArgument, BadMap
 from ..core.libraries import need
 from ..core.pieces import Chunks
-from ..core.protocol import NULL, Statement
+from ..core.protocol import BORDER, NULL, NUMBERS, Question, Statement
 from ..core.rectangles import Rectangle
 from ..core.runs import Fold, Output, planned
 from ..core.sources import MAX_CATEGORY, ArrayMap, Source
-from ..core.tile_clumps import NO_CLUMP, Joined, join, renumber
+from ..core.tile_clumps import NO_CLUMP, Joined, join, renumber, wide
 from ..core.tile_runs import demand_of, outputs_in, table_output
-from ..core.tile_scripts import TileScript, is_counted, is_diagonal
+from ..core.tile_scripts import makers, maps_read_by, question_about, reach_of, text_of
 from ..core.tile_tables import TableSum
-from ..core.tile_work import TileDone, TileWork, clumps_of, outputs_of, wide
+from ..core.tile_work import TileDone, TileWork
 from ..core.tiling import cluster, tile_size, working
 from .xarray import DataArrayMap, data_array, is_lazy
 
@@ -219,9 +218,7 @@ class _Graph:
     def outputs(self, plan: Sequence[Statement]) -> list[Output]:
         """Return the outputs of a plan, whose clump maps must have been added."""
         statements = outputs_in(plan)
-        script = self._script(plan, statements)
-        results = outputs_of([is_counted(statement) for statement in statements])
-        tiles = self._run(script, script.text, results)
+        tiles = self._run([*makers(plan, maps_read_by(statements), self._maps), *statements])
         outputs = []
         for index, statement in enumerate(statements):
             if statement.command == "r.stats":
@@ -235,37 +232,25 @@ class _Graph:
 
     def add_clumps(self, plan: Sequence[Statement], clump: Statement) -> None:
         """Add the map of an `r.clump` statement to the maps of the graph."""
-        script = self._script(plan, [clump])
-        tiles = self._run(script, partial(script.clump_text, clump), clumps_of)
+        question = question_about(clump, NUMBERS + BORDER)
+        tiles = self._run(makers(plan, clump.inputs, self._maps), question)
         _, col_chunks = self._chunks
-        full = self._delayed(_joined)(tiles, len(col_chunks), is_diagonal(clump))
+        full = self._delayed(_joined)(tiles, len(col_chunks), question.connectivity)
         cells = [self._delayed(_renumbered)(index, tile, full) for index, tile in enumerate(tiles)]
         self._maps[clump.made] = _ComputedMap(clump.made, self._array_of(cells), NO_CLUMP)
 
-    def _script(self, plan: Sequence[Statement], outputs: Sequence[Statement]) -> TileScript:
-        needed = [
-            statement
-            for statement in plan
-            if statement.made not in self._maps and statement not in outputs
-        ]
-        return TileScript.of(needed, outputs, self._maps)
-
-    def _run(
-        self, script: TileScript, text: Callable[[Rectangle, Rectangle, Any], str], results: Any
-    ) -> list[Any]:
-        """Return the delayed result of a script for each chunk."""
-        maps = {name: source for name, source in self._maps.items() if name in script.reads}
+    def _run(self, script: Sequence[Statement], *questions: Question) -> list[Any]:
+        """Return the delayed results of a script and of questions for each chunk."""
+        read = maps_read_by(script) | {question.map for question in questions}
+        maps = {name: source for name, source in self._maps.items() if name in read}
         if not maps:  # a script that reads no map still needs the region of a map
             name, source = next(iter(self._maps.items()))
             maps = {name: source}
-        run = self._delayed(run_on_worker)
+        run, text, reach = self._delayed(run_on_worker), text_of(script), reach_of(script)
         done = []
         for place in self._places:
-            outer = place.with_halo(script.reach, self._shape)
-            words, shape = text(place, outer, self._shape), self._shape
-            work = TileWork(
-                words, place, outer, shape, maps, watched=(), results=results, call=self._call
-            )
+            outer = place.with_halo(reach, self._shape)
+            work = TileWork(text, questions, place, outer, self._shape, maps, call=self._call)
             done.append(run(*sent_parts(work)))
         return done
 
@@ -283,7 +268,7 @@ class _Graph:
 
 def _added(statement: Statement, index: int, tiles: Sequence[TileDone]) -> Integers:
     """Add up the tables of all chunks and return the table of the full map."""
-    total = TableSum(len(statement.inputs), is_counted(statement))
+    total = TableSum(len(statement.inputs), "c" in statement.options)
     for tile in tiles:
         total.add(tile.results[index])
     return total.table()
@@ -295,9 +280,10 @@ def _cells_of(index: int, tile: TileDone) -> Integers:
     return cells if cells.dtype == np.int32 else wide(cells, NULL)
 
 
-def _joined(tiles: Sequence[TileDone], columns: int, diagonal: bool) -> Joined:
-    """Return the numbering of the full map, from the border and clumps of each chunk."""
-    full = join([border for border, _ in (tile.results for tile in tiles)], columns, diagonal)
+def _joined(tiles: Sequence[TileDone], columns: int, connectivity: int) -> Joined:
+    """Return the numbering of the full map, from the patch numbers and border of each chunk."""
+    borders = [border for _, border in (tile.results for tile in tiles)]
+    full = join(borders, columns, connectivity)
     if full.clumps > MAX_CATEGORY:
         problem = f"a lazy map can have at most {MAX_CATEGORY:,} patches; got {full.clumps:,}"
         raise BadMap("map", f"{problem}: omit compute=False")
@@ -306,5 +292,6 @@ def _joined(tiles: Sequence[TileDone], columns: int, diagonal: bool) -> Joined:
 
 def _renumbered(index: int, tile: TileDone, full: Joined) -> Integers:
     """Return a chunk's cells with the clump numbers of the full map."""
-    _, clumps = tile.results
-    return renumber(clumps, full.tiles[index], out=np.empty(clumps.shape, np.int32))
+    numbers, _ = tile.results
+    clumps = wide(numbers, NO_CLUMP)
+    return renumber(clumps, full.tiles[index], out=clumps)
