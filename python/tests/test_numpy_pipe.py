@@ -149,6 +149,16 @@ class Requests(Asked):
         labels = struct.pack("<iH", 1, 4) + b"wood" + struct.pack("<iH", -2, 2) + "ä".encode()
         self.assertEqual(found, head + labels + LAND + b"\x11\0\0\0r.stats input=lc\n" + bytes(4))
 
+    def test_a_question_about_a_tile(self) -> None:
+        question = protocol.Question("lc", 8, 300, "z", protocol.PATCHES + protocol.BORDER)
+        program, tile = self.answering(MAGIC + DONE), (9, 2**31 - 1, 3, 4, 3, 5, 2, 1)
+        protocol.run(program, [a_map()], b"", [question], tile)
+        with open(f"{self.folder}/request", "rb") as file:
+            found = file.read()
+        self.assertEqual(found[:44], b"RCELLW1\n" + struct.pack("<8I", *tile) + b"\1\0\0\0")
+        asked = b"\1\0\0\0\5\2lc\x08" + struct.pack("<I", 300) + b"\1z"
+        self.assertTrue(found.endswith(LAND + bytes(4) + asked), found)
+
     def test_rows_and_masks(self) -> None:
         cells, mask = array("h", [1, -1, 300, 4, 5, 6]), bytes([0, 1, 0, 1, 1, 0])
         for blocks in (
@@ -298,6 +308,19 @@ class Answers(Asked):
         for answer in (MAGIC + DONE, MAGIC + GRID + DONE, MAGIC + JOIN + JOIN + DONE):
             with self.subTest(answer=answer), self.assertRaises(protocol.NoAnswer):
                 protocol.join(self.answering(answer), borders, (2, 1), 8)
+
+    def test_a_join_of_patches(self) -> None:
+        row = struct.pack("<i8Q", -5, 3, 4, 2, 1, 0, 1, 2, 2**33)
+        runs = memoryview(array("Q", [1, 1, 2, 1]))
+        answer = MAGIC + b"PATS" + struct.pack("<2Q", 1, 2**40) + row + DONE
+        found = protocol.join_patches(self.answering(answer), runs, 1, b"tile" + row)
+        self.assertEqual(bytes(found.rows), struct.pack("<Q", 2**40) + row)
+        with open(f"{self.folder}/request", "rb") as file:
+            head = b"RCELLJ1\n" + struct.pack("<B6Q", 2, 1, 1, 1, 2, 1, 1)
+            self.assertEqual(file.read(), head + b"tile" + row)
+        for answer in (MAGIC + DONE, MAGIC + JOIN + DONE):
+            with self.subTest(answer=answer), self.assertRaises(protocol.NoAnswer):
+                protocol.join_patches(self.answering(answer), runs, 1, row)
 
     def test_what_is_cut_or_goes_on_is_no_answer(self) -> None:
         answer = MAGIC + TABLE + GRID + CELLS + PLAN + JOIN + DONE

@@ -3,7 +3,6 @@
 
 from __future__ import annotations
 
-from collections.abc import Callable
 from typing import Any, NamedTuple, Optional
 
 import numpy as np
@@ -13,6 +12,7 @@ from .arrays import Floats, Integers
 from .columns import Column, Table
 from .counting import Maps, places_of, sums_of
 from .runs import execute
+from .tile_clumps import Joined
 
 __all__ = ["class_summary"]
 
@@ -94,17 +94,14 @@ class _Summary:
         self._waiting[tile] = patches[is_open], area[is_open]
         self._complete[tile] = self._counted(patches[~is_open], area[~is_open])
 
-    def join(self, numbers_of: Callable[[int, Integers], Integers]) -> None:
-        """Count the patches that were set aside.
-
-        `numbers_of` returns the numbers of a tile's patches in the full map.
-        """
+    def join(self, joined: Joined) -> None:
+        """Count the patches that were set aside, using their numbers in the full map."""
         if not self._waiting:
             return
         tiles = sorted(self._waiting)
         for tile in tiles:
             patches = self._waiting[tile][0]
-            patches[:, 1] = numbers_of(tile, patches[:, 1])
+            patches[:, 1] = joined.tiles[tile].looked_up(patches[:, 1])
         tables, areas = zip(*(self._waiting.pop(tile) for tile in tiles))
         patches, area = _added(np.concatenate(tables), np.concatenate(areas))
         # Joined patches are counted last, as if they were in another tile.

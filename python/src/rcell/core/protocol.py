@@ -15,7 +15,7 @@ import select
 import struct
 from collections.abc import Callable, Iterator, Sequence
 from dataclasses import replace
-from typing import Any, Optional
+from typing import Any, Optional, TypeVar
 
 from .hints import advice, lines_of_error
 from .process import WATCH_SECONDS, Started, close, pipe
@@ -29,6 +29,7 @@ from .requests import (
     Margin,
     Question,
     join_request,
+    patches_request,
     plan_request,
     request,
 )
@@ -41,6 +42,7 @@ from .responses import (
     Done,
     Frame,
     GridFrame,
+    JoinedPatchesFrame,
     JoinFrame,
     NumbersFrame,
     PatchesFrame,
@@ -64,6 +66,7 @@ __all__ = [
     "Frame",
     "GridFrame",
     "JoinFrame",
+    "JoinedPatchesFrame",
     "Killed",
     "Map",
     "Margin",
@@ -79,12 +82,15 @@ __all__ = [
     "failure_of",
     "is_known",
     "join",
+    "join_patches",
     "plan",
     "request",
     "run",
     "script_bytes",
     "text",
 ]
+
+Joined = TypeVar("Joined", JoinFrame, JoinedPatchesFrame)
 
 NO_MEMORY = 3
 """The status if the program runs out of memory."""
@@ -267,7 +273,7 @@ def run(
     return [
         frame
         for frame in _answered(program, request(maps, script, questions, tile), seconds, watch)
-        if not isinstance(frame, (Statement, JoinFrame))
+        if not isinstance(frame, (Statement, JoinFrame, JoinedPatchesFrame))
     ]
 
 
@@ -309,30 +315,40 @@ _PROBE_SCRIPT = (
     b"input=k\nr.out.ascii input=k\n"
 )
 _PROBE_QUESTION = Question("probe", 8, kind=PATCHES + NUMBERS + BORDER)
+_PROBE_TILE = (1, 4, 0, 0, 0, 1, 1, 3)  # after the first of four cells
 _PROBE_ROWS = [7, NULL, 12, 1, NULL, 2] * 2  # the first and the last row, with their numbers
-_PROBE_CELLS = [struct.pack("<4i", 12, 2, NULL, NULL), struct.pack("<3i", 1, NULL, 2)]
-_PROBE_CELLS += [b"\1\xff\2"] * 2 + [struct.pack("<19i", 1, 3, *_PROBE_ROWS, 7, 1, 12, 2, 2)]
+_PROBE_RESPONSE = [
+    struct.pack("<4i", 12, 2, NULL, NULL),
+    struct.pack("<3i", 1, NULL, 2),
+    b"\1\xff\2",
+    b"\1\xff\2",
+    struct.pack("<19i", 1, 3, *_PROBE_ROWS, 7, 1, 12, 2, 2),
+    struct.pack("<i8Qi8Q", 7, 1, 2, 1, 0, 0, 0, 1, 1, 12, 1, 2, 2, 0, 0, 0, 3, 3),
+]
 
 
 def is_known(program: str, seconds: float) -> bool:
-    """Test a program on three cells and return whether it is this version's rcell-pipe.
+    """Test a program on four cells and return whether it is this version's rcell-pipe.
 
     Raises
     ------
     NotStarted, TimeoutError
         As in `run`.
     """
-    probe = Map("probe", ("1", "0", "3", "0"), 1, 3, "u8", [Block(b"\7\xff\14")], nodata=255)
+    probe = Map("probe", ("1", "0", "4", "0"), 1, 4, "u8", [Block(b"\7\7\xff\14")], nodata=255)
+    words = _PROBE_SCRIPT, [_PROBE_QUESTION], _PROBE_TILE
     try:
-        frames = run(program, [probe], _PROBE_SCRIPT, [_PROBE_QUESTION], seconds=seconds)
+        frames = run(program, [probe], *words, seconds=seconds)
     except (Rejected, Killed, NoAnswer):
         return False
-    cells = [
-        bytes(frame.border if isinstance(frame, BorderFrame) else frame.cells)
-        for frame in frames
-        if not isinstance(frame, PatchesFrame)
-    ]
-    return cells == _PROBE_CELLS
+    return [bytes(_content(frame)) for frame in frames] == _PROBE_RESPONSE
+
+
+def _content(frame: Frame) -> memoryview:
+    """Return the cells, border or patches of a frame."""
+    if isinstance(frame, BorderFrame):
+        return frame.border
+    return frame.rows if isinstance(frame, PatchesFrame) else frame.cells
 
 
 def plan(
@@ -388,9 +404,30 @@ def join(
         As in `run`, which also lists the errors.
     """
     sent = join_request(borders, shape, connectivity)
-    frames = _answered(program, sent, seconds, watch)
-    if len(frames) != 1 or not isinstance(frames[0], JoinFrame):
-        raise NoAnswer("the program did not return the numbers of the patches")
+    return _joined(_answered(program, sent, seconds, watch), JoinFrame)
+
+
+def join_patches(
+    program: str,
+    runs: Buffer,
+    patches: int,
+    rows: Buffer,
+    *,
+    seconds: Optional[float] = None,
+    watch: Optional[Callable[[], None]] = None,
+) -> JoinedPatchesFrame:
+    """Join the measures of the patches of tiles.
+
+    The parameters are the same as for `patches_request` and `run`, which lists the errors.
+    """
+    sent = patches_request(runs, patches, rows)
+    return _joined(_answered(program, sent, seconds, watch), JoinedPatchesFrame)
+
+
+def _joined(frames: Sequence[AnyFrame], kind: type[Joined]) -> Joined:
+    """Return the only frame of the response to a join request."""
+    if len(frames) != 1 or not isinstance(frames[0], kind):
+        raise NoAnswer("the program did not join the tiles")
     return frames[0]
 
 

@@ -18,6 +18,7 @@ __all__ = [
     "Margin",
     "Question",
     "join_request",
+    "patches_request",
     "plan_request",
     "request",
 ]
@@ -28,6 +29,7 @@ CELL_BYTES = {"u8": 1, "i8": 1, "u16": 2, "i16": 2, "u32": 4, "i32": 4, "i64": 8
 _CODES = {name: code for code, name in enumerate(CELL_BYTES, 1)}
 PATCHES, NUMBERS, BORDER = 1, 2, 4
 """The frames that a question can ask for: of measures, of patch numbers, and of a map's border."""
+RUN_BYTES = 32  # of each run of a numbering
 # Rows and masks are interleaved in pieces that fit in a processor's cache.
 PIECE_BYTES = 1 << 18
 
@@ -252,3 +254,23 @@ def join_request(
     yield b"RCELLJ1\n" + struct.pack("<BII", connectivity, *shape)
     for border in borders:
         yield memoryview(border).cast("B")
+
+
+def patches_request(runs: Buffer, patches: int, rows: Buffer) -> Iterator[Buffer]:
+    """Yield the bytes of a request to join the measures of patches.
+
+    Parameters
+    ----------
+    runs : buffer
+        The runs of a `responses.JoinFrame`.
+    patches : int
+        The number of patches.
+    rows : buffer
+        For each patch, its tile and its number in the tile as u64, and its measures in the full map
+        as in `responses.PatchesFrame`. Patches are ordered by tile.
+    """
+    run_bytes = memoryview(runs).cast("B")
+    yield b"RCELLJ1\n" + struct.pack("<BQ", 2, len(run_bytes) // RUN_BYTES)
+    yield run_bytes
+    yield struct.pack("<Q", patches)
+    yield memoryview(rows).cast("B")

@@ -23,6 +23,7 @@ __all__ = [
     "Frame",
     "GridFrame",
     "JoinFrame",
+    "JoinedPatchesFrame",
     "NumbersFrame",
     "PatchesFrame",
     "Statement",
@@ -254,8 +255,22 @@ class JoinFrame:
     runs: memoryview
 
 
+@dataclass(frozen=True)
+class JoinedPatchesFrame:
+    """The joined measures of the patches of tiles.
+
+    Attributes
+    ----------
+    rows : memoryview
+        For each patch of the full map, its number as u64, and `PATCH_BYTES` bytes as in
+        `PatchesFrame`.
+    """
+
+    rows: memoryview
+
+
 Frame = Union[TableFrame, GridFrame, PatchesFrame, NumbersFrame, BorderFrame]
-AnyFrame = Union[Frame, Statement, JoinFrame]
+AnyFrame = Union[Frame, Statement, JoinFrame, JoinedPatchesFrame]
 
 
 class Done(NamedTuple):
@@ -424,6 +439,9 @@ class _Response:
         patches, runs = self.numbers(2)
         return JoinFrame(patches, self.cells(_RUN_NUMBERS * runs, "Q"))
 
+    def joined_patches(self) -> JoinedPatchesFrame:
+        return JoinedPatchesFrame(self.cells((8 + PATCH_BYTES) * self.count(), "B"))
+
     def done(self) -> Done:
         """Read the program's final status and error from the end of the response."""
         status, source, map, line, column = self.numbers(5)
@@ -448,6 +466,7 @@ class _Response:
             b"PTCH": self.patches,
             b"PLAN": self.statement,
             b"JOIN": self.join,
+            b"PATS": self.joined_patches,
         }
         if self.take(8) != b"RCELLA1\n":
             raise _NotUnderstood

@@ -4,7 +4,7 @@
 from __future__ import annotations
 
 from dataclasses import dataclass, replace
-from typing import Any, Callable, Iterable, Iterator, Mapping, Protocol, Sequence
+from typing import Any, Iterable, Iterator, Mapping, Protocol, Sequence
 
 import numpy as np
 
@@ -14,13 +14,11 @@ from .borders import watched
 from .errors import BadMap
 from .host import host
 from .programs import Path, find_pipe, program_errors
-from .rectangles import Rectangle
 from .region import CELL_LIMIT, SIDE_LIMIT, fits_one_run
-from .responses import PATCH_BYTES, ZONE_BYTES
 from .sources import Source
+from .tile_clumps import PATCH, ZONED_PATCH, Joined
 
 __all__ = [
-    "PATCH",
     "Fold",
     "Output",
     "PatchFold",
@@ -33,21 +31,6 @@ __all__ = [
     "printed",
     "values_of",
 ]
-
-PATCH = np.dtype(
-    [("class", "<i4")]
-    + [
-        (name, "<i8")
-        for name in ("cells", "ends", "flanks", "core", "top", "bottom", "left", "right")
-    ]
-)
-"""The program's measures of a patch.
-
-`ends` counts the northern and southern cell sides on its border, and `flanks` the western and
-eastern cell sides.
-"""
-_ZONED_PATCH = np.dtype([*PATCH.descr, ("zones", "<i4")])  # with the zone of most of its cells
-assert (PATCH.itemsize, _ZONED_PATCH.itemsize) == (PATCH_BYTES, PATCH_BYTES + ZONE_BYTES)
 
 
 @dataclass(frozen=True)
@@ -86,7 +69,7 @@ class Fold(Protocol):
         Patches are numbered within the tile.
         """
 
-    def join(self, numbers_of: Callable[[int, NDArray[Any]], NDArray[Any]]) -> None:
+    def join(self, joined: Joined) -> None:
         """Count the waiting patches, using their numbers in the full map."""
 
 
@@ -94,20 +77,16 @@ class PatchFold(Protocol):
     """Receives the program's patch measures, tile by tile."""
 
     def add(
-        self,
-        place: Rectangle,
-        rows: NDArray[Any],
-        waiting: NDArray[Any],
-        tables: list[NDArray[Any]],
+        self, tile: int, rows: NDArray[Any], waiting: NDArray[Any], tables: list[NDArray[Any]]
     ) -> None:
-        """Receive a tile's patches, which are numbered within the tile, in any thread.
+        """Receive a tile's patches, which are numbered within the tile.
 
         `waiting` lists the patches that may continue in other tiles. The first column of each table
         in `tables` is the patch number.
         """
 
-    def join(self, numbers_of: Callable[[Rectangle, NDArray[Any]], NDArray[Any]]) -> None:
-        """Join the patches of all tiles, using their numbers in the full map."""
+    def join(self, joined: Joined | None) -> None:
+        """Join the patches of all tiles, unless there was only one run."""
 
 
 def execute(
@@ -224,9 +203,8 @@ def ask(
             ask_tiles(question, plan, maps, demand, fold)
             return True
     [found] = _frames("", maps, (question,))
-    full = Rectangle(0, 0, *next(iter(maps.values())).region.shape)
-    fold.add(full, values_of(found), np.empty(0, np.int64), [])
-    fold.join(lambda _, numbers: numbers)
+    fold.add(0, values_of(found), np.empty(0, np.int64), [])
+    fold.join(None)
     return True
 
 
@@ -354,7 +332,7 @@ def values_of(frame: protocol.Frame) -> NDArray[Any]:
     if isinstance(frame, protocol.TableFrame):
         return _entries_of(frame)
     if isinstance(frame, protocol.PatchesFrame):
-        return np.frombuffer(frame.rows, _ZONED_PATCH if frame.has_zones else PATCH)
+        return np.frombuffer(frame.rows, ZONED_PATCH if frame.has_zones else PATCH)
     if isinstance(frame, protocol.BorderFrame):
         return np.asarray(frame.border)
     return np.asarray(frame.cells).reshape(frame.rows, frame.cols)

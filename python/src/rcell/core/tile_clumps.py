@@ -1,5 +1,5 @@
 # SPDX-License-Identifier: Apache-2.0 OR GPL-2.0-or-later
-"""Join the clumps of tiles and number them as in the full map.
+"""Join the clumps of tiles: their numbers in the full map, and their measures.
 
 The proved program rcell-pipe joins the clumps, using only the borders of the tiles. This module
 reads the numbers into numpy arrays, without a Python object per clump.
@@ -7,7 +7,8 @@ reads the numbers into numpy arrays, without a Python object per clump.
 
 from __future__ import annotations
 
-from collections.abc import Sequence
+from collections.abc import Iterator, Sequence
+from contextlib import contextmanager
 from dataclasses import dataclass
 from typing import Any, Optional
 
@@ -19,13 +20,44 @@ from .errors import OutOfMemory, WrongProgram
 from .host import host
 from .programs import find_pipe, program_errors
 from .protocol import NO_MEMORY, NULL
+from .responses import PATCH_BYTES, ZONE_BYTES
 
-__all__ = ["NO_CLUMP", "Joined", "TileNumbers", "join", "open_clumps", "renumber", "wide"]
+__all__ = [
+    "NO_CLUMP",
+    "PATCH",
+    "ZONED_PATCH",
+    "Joined",
+    "TileNumbers",
+    "join",
+    "join_patches",
+    "open_clumps",
+    "renumber",
+    "wide",
+]
 
 Integers = NDArray[Any]
 
 NO_CLUMP = 0
 """Null in a map of clumps, which are numbered from 1."""
+
+PATCH = np.dtype(
+    [("class", "<i4")]
+    + [
+        (name, "<i8")
+        for name in ("cells", "ends", "flanks", "core", "top", "bottom", "left", "right")
+    ]
+)
+"""The program's measures of a patch.
+
+`ends` counts the northern and southern cell sides on its border, and `flanks` the western and
+eastern cell sides.
+"""
+ZONED_PATCH = np.dtype([*PATCH.descr, ("zones", "<i4")])
+"""The measures of a patch, and the zone that contains most of its cells."""
+assert (PATCH.itemsize, ZONED_PATCH.itemsize) == (PATCH_BYTES, PATCH_BYTES + ZONE_BYTES)
+# The measures of a tile's patch, as sent to join them, and of a patch of the full map.
+_TILE_PATCH = np.dtype([("tile", "<u8"), ("patch", "<u8"), ("measures", PATCH)])
+_JOINED_PATCH = np.dtype([("number", "<i8"), ("measures", PATCH)])
 
 PIECE = 2**18
 """The number of cells that are renumbered at a time, which fit in a processor's cache."""
@@ -60,10 +92,14 @@ class TileNumbers:
 
 @dataclass(frozen=True, eq=False)
 class Joined:
-    """The number of clumps in the full map, and the `TileNumbers` of each tile in order."""
+    """The number of clumps in the full map, and the `TileNumbers` of each tile in order.
+
+    `runs` contains the numbers of all tiles, as in `responses.JoinFrame`.
+    """
 
     clumps: int
     tiles: Sequence[TileNumbers]
+    runs: Integers
 
 
 def open_clumps(border: Integers) -> Integers:
@@ -104,29 +140,58 @@ def join(borders: Sequence[Integers], columns: int, connectivity: int) -> Joined
     >>> whole.clumps, renumber(np.array([[1]]), whole.tiles[1]).tolist()
     (1, [[1]])
     """
-    joined = _joined(borders, (len(borders) // columns, columns), connectivity)
-    tile, first, last, number = np.asarray(joined.runs).view(np.int64).reshape(-1, 4).T
+    shape = len(borders) // columns, columns
+    given = [border.data for border in borders]
+    with _joining("the border of tile") as path:
+        joined = protocol.join(path, given, shape, connectivity, watch=host().watch)
+    runs = np.asarray(joined.runs).view(np.int64)
+    tile, first, last, number = runs.reshape(-1, 4).T
     ends = np.searchsorted(tile, np.arange(1, len(borders) + 2))
     tiles = []
     for begin, end in zip(ends, ends[1:]):
         clumps = int(last[end - 1]) if end > begin else 0
         tiles.append(TileNumbers(clumps, first[begin:end], number[begin:end]))
-    return Joined(joined.patches, tiles)
+    return Joined(joined.patches, tiles, runs)
 
 
-def _joined(
-    borders: Sequence[Integers], shape: tuple[int, int], connectivity: int
-) -> protocol.JoinFrame:
-    """Return the program's response to the borders, or raise one of this package's errors."""
+def join_patches(joined: Joined, patches: Sequence[tuple[Integers, Integers]]) -> Integers:
+    """Join the measures of patches of tiles, which must be in the full map.
+
+    Parameters
+    ----------
+    joined : Joined
+    patches : sequence of pairs of ndarrays
+        For each tile, the numbers of patches in ascending order, and their measures.
+
+    Returns
+    -------
+    ndarray of PATCH and a field `number`
+        A row for each patch of the full map that has a part in `patches`.
+    """
+    rows = np.empty(sum(numbers.size for numbers, _ in patches), _TILE_PATCH)
+    rows["tile"] = np.repeat(np.arange(len(patches)) + 1, [own.size for own, _ in patches])
+    rows["patch"] = np.concatenate([own for own, _ in patches])
+    rows["measures"] = np.concatenate([measures for _, measures in patches])
+    sent = rows.view(np.uint8).data
+    with _joining("list") as path:
+        found = protocol.join_patches(path, joined.runs.data, rows.size, sent, watch=host().watch)
+    return np.frombuffer(found.rows, _JOINED_PATCH)
+
+
+@contextmanager
+def _joining(part: str) -> Iterator[str]:
+    """Yield the program's path, and convert errors of a join to this package's errors.
+
+    `part` names the parts of the request, which are counted.
+    """
     with program_errors("", [], path := find_pipe()):
         try:
-            given = [border.data for border in borders]
-            return protocol.join(path, given, shape, connectivity, watch=host().watch)
+            yield path
         except protocol.Rejected as error:
             if error.status == NO_MEMORY:
                 problem = f"{error.text} to join the tiles"
                 raise OutOfMemory(problem, "arguments", status=error.status) from None
-            problem = f"{path} rejected the border of tile {error.map + 1}: {error.text}"
+            problem = f"{path} rejected {part} {error.map + 1}: {error.text}"
             raise WrongProgram(problem) from None
 
 

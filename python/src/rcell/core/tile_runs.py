@@ -29,7 +29,6 @@ from .resuming import Shelf, state_of
 from .runs import Fold, Output, PatchFold
 from .sources import MAX_CATEGORY, ArrayMap, Source
 from .tile_clumps import NO_CLUMP, Joined, join, open_clumps, renumber, wide
-from .tile_patches import measures_of
 from .tile_scripts import makers, maps_read_by, question_about, reach_of, text_of
 from .tile_tables import TableSum
 from .tile_work import TileDone, TileWork
@@ -232,27 +231,20 @@ class _Tiles:
         for index, (table, border) in self._run(self._script(plan, [stats]), question):
             borders[index] = border
             fold.add(index, table, open_clumps(border))
-        tiles = self._joined(borders, question).tiles
-        fold.join(lambda index, numbers: tiles[index].looked_up(numbers))
+        fold.join(self._joined(borders, question))
 
     def measure(self, plan: Sequence[Statement], question: Question, fold: PatchFold) -> None:
         """Pass each tile's patch measures and tables to a fold.
 
-        The first column of each table is the patch number.
+        By the law `halo_determines_measures`, the measures are the full map's. The first column of
+        each table is the patch number.
         """
-
-        def add(place: Rectangle, results: list[Integers]) -> list[Integers]:
-            border, rows, sides, *tables = results
-            fold.add(place, rows, sides, tables)
-            return [border]
-
-        asked = question._replace(zones="", kind=PATCHES + NUMBERS + BORDER)
-        found = self._run(
-            self._script(plan, outputs_in(plan)), asked, put=add, results_of=measures_of
-        )
-        borders = {index: border for index, [border] in found}
-        tiles = dict(zip(self._places, self._joined(borders, question).tiles))
-        fold.join(lambda place, numbers: tiles[place].looked_up(numbers))
+        question, borders = question._replace(zones="", kind=PATCHES + BORDER), {}
+        found = self._run(self._script(plan, outputs_in(plan)), question)
+        for index, (*tables, border, rows) in found:
+            borders[index] = border
+            fold.add(index, rows, open_clumps(border), tables)
+        fold.join(self._joined(borders, question))
 
     def add_clumps(self, plan: Sequence[Statement], clump: Statement, is_last: bool) -> None:
         """Compute the map of an `r.clump` statement, and add the map to the known maps.
@@ -289,7 +281,6 @@ class _Tiles:
         is_last: bool = True,
         is_kept: bool = True,
         put: Put = lambda _, results: results,
-        results_of: Any = None,
     ) -> Iterator[tuple[int, list[Integers]]]:
         """Yield the index and the results of each tile as tiles complete.
 
@@ -313,7 +304,7 @@ class _Tiles:
 
         def prepare(place: Rectangle) -> TileWork:
             outer = place.with_halo(reach, self._shape)
-            work = TileWork(text, questions, place, outer, *common, results=results_of)
+            work = TileWork(text, questions, place, outer, *common)
             return self._shelf.known(work) if is_kept else work
 
         def finish(work: TileWork, done: TileDone) -> list[Integers]:

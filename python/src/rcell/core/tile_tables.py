@@ -4,6 +4,7 @@
 from __future__ import annotations
 
 import sys
+from collections.abc import Sequence
 from typing import Optional
 
 import numpy as np
@@ -11,7 +12,7 @@ import numpy as np
 from .arrays import NDArray
 from .protocol import NULL
 
-__all__ = ["TableSum", "in_order", "order_of"]
+__all__ = ["TableSum", "in_order", "order_of", "summed"]
 
 Integers = NDArray[np.int64]
 
@@ -66,6 +67,14 @@ class TableSum:
         # If few combinations occur in several tiles, adding up before the end saves no memory.
         is_worth_it = self._rows < _SHRUNK * before
         self._most = max(2 * self._rows, _WAITING) if is_worth_it else sys.maxsize
+
+
+def summed(tables: Sequence[Integers], is_counted: bool = True) -> Integers:
+    """Return the sum of one or more tables of the same maps."""
+    total = TableSum(tables[0].shape[1] - is_counted, is_counted)
+    for table in tables:
+        total.add(table)
+    return total.table()
 
 
 def _added(rows: Integers, is_counted: bool) -> Integers:

@@ -3,7 +3,7 @@
 
 from __future__ import annotations
 
-from collections.abc import Callable, Mapping, Sequence
+from collections.abc import Mapping, Sequence
 from dataclasses import dataclass, field, replace
 from typing import Any, Optional
 
@@ -52,8 +52,6 @@ class TileWork:
         The path for keeping the results, or empty.
     known : TileDone, optional
         The results that an earlier call kept, if any.
-    results : callable, optional
-        Returns the results, given the work with the maps' cells, and the frames.
     """
 
     text: str
@@ -67,7 +65,6 @@ class TileWork:
     call: str = ""
     path: str = ""
     known: Optional[TileDone] = None
-    results: Optional[Callable[[TileWork, Sequence[protocol.Frame]], list[Integers]]] = None
 
 
 @dataclass(frozen=True)
@@ -98,12 +95,8 @@ def run_work(work: TileWork) -> TileDone:
 
     with serving(replace(host(), words=work.words, warn=collect, progress=None, started=None)):
         watches = {name: Watch(name, work.maps[name], work.shape) for name in work.watched}
-        pieces = {name: _read(source, work.outer) for name, source in work.maps.items()}
-        frames = _frames(work, [_sent(work, name, pieces[name], watches) for name in pieces])
-        if work.results is None:
-            results = [values_of(frame) for frame in frames]
-        else:
-            results = work.results(replace(work, maps=pieces), frames)
+        sent = [_sent(work, name, source, watches) for name, source in work.maps.items()]
+        results = [values_of(frame) for frame in _frames(work, sent)]
     counts = {name: watch.counts for name, watch in watches.items() if watch.counts.any()}
     return TileDone(results, counts, tuple(warnings))
 
@@ -120,14 +113,12 @@ def _frames(work: TileWork, sent: Sequence[protocol.Map]) -> list[protocol.Frame
         raise OutOfMemory(problem, "arguments", status=error.status) from None
 
 
-def _read(source: Any, outer: Rectangle) -> Piece:
-    """Read the cells of a tile and its halo, unless they have already been read."""
-    return source if isinstance(source, Piece) else Piece.of(source, outer)
-
-
-def _sent(work: TileWork, name: str, piece: Piece, watches: Mapping[str, Watch]) -> protocol.Map:
+def _sent(work: TileWork, name: str, source: Any, watches: Mapping[str, Watch]) -> protocol.Map:
     """Convert a tile's map for the program, and count nodata values along the full map's border."""
-    place, outer, block = work.place, work.outer, piece.block
+    place, outer = work.place, work.outer
+    # The cells may already have been read.
+    piece = source if isinstance(source, Piece) else Piece.of(source, outer)
+    block = piece.block
     if name in watches:
         null = None if block.null is None else place.part_of(outer, block.null)
         without_halo = replace(block, cells=place.part_of(outer, block.cells), null=null)

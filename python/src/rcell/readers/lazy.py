@@ -25,7 +25,7 @@ from ..core.sources import MAX_CATEGORY, ArrayMap, Source
 from ..core.tile_clumps import NO_CLUMP, Joined, join, renumber, wide
 from ..core.tile_runs import demand_of, outputs_in, table_output
 from ..core.tile_scripts import makers, maps_read_by, question_about, reach_of, text_of
-from ..core.tile_tables import TableSum
+from ..core.tile_tables import summed
 from ..core.tile_work import TileDone, TileWork
 from ..core.tiling import cluster, tile_size, working
 from .xarray import DataArrayMap, data_array, is_lazy
@@ -268,10 +268,7 @@ class _Graph:
 
 def _added(statement: Statement, index: int, tiles: Sequence[TileDone]) -> Integers:
     """Add up the tables of all chunks and return the table of the full map."""
-    total = TableSum(len(statement.inputs), "c" in statement.options)
-    for tile in tiles:
-        total.add(tile.results[index])
-    return total.table()
+    return summed([tile.results[index] for tile in tiles], "c" in statement.options)
 
 
 def _cells_of(index: int, tile: TileDone) -> Integers:
