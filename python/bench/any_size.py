@@ -4,8 +4,8 @@
     any_size.py [--side N] [--rounds N] [--workers W,..] [--folder F] [--write] [TASK ...]
 
 The map is land cover of N x N cells, 16,000 if N is not given, as a GeoTIFF that is kept in the folder F, and the same map moved by two
-cells. TASK is one of `reading` (alone), `composition`, `cross`, `change`, `majority` (3 x 3, written as a GeoTIFF), `patches` and
-`summary` (of patches by class); all if none is given. Each call runs in a process of its own, all calls of a task in turns. Seconds are
+cells. TASK is one of `reading` (alone), `composition`, `cross`, `change`, `majority` (3 x 3, written as a GeoTIFF), `clump`, `patches`
+and `summary` (of patches by class); all if none is given. Each call runs in a process of its own, all calls of a task in turns. Seconds are
 processor time of this process and of its programs; in parentheses by the clock, which means something if nothing else runs. The column
 "by the clock" is the time with the most workers divided by the time of one run. With --write the table takes its place in bench/RESULTS.md.
 
@@ -38,7 +38,7 @@ from rcell.core.rectangles import rectangles_of
 from rcell.core.sources import source_of
 from rcell.core.tiling import work, working
 
-TASKS = ("reading", "composition", "cross", "change", "majority", "patches", "summary")
+TASKS = ("reading", "composition", "cross", "change", "majority", "clump", "patches", "summary")
 # The side of tiles that calls with four workers choose.
 TILE = 2816
 CLASSES = 13
@@ -51,8 +51,8 @@ def call_of(task: str, path: str, other: str, out: str) -> Any:
         return cells_read(path)
     if task == "majority":
         return rcell.majority(path).write(out)
-    if task == "composition":
-        return rcell.composition(path)
+    if task in ("composition", "clump"):
+        return getattr(rcell, task)(path)
     if task == "cross":
         return rcell.cross(a=path, b=other)
     if task == "change":
@@ -64,6 +64,8 @@ def numbers_of(task: str, result: Any) -> Any:
     """Return the numbers that all ways return for a task: of cells, and of patches."""
     if task == "majority":
         return sum_of_file(result)
+    if task == "clump":
+        return int(result.array.max() if hasattr(result, "array") else result.size)
     if task == "patches":
         cells = np.sort(result if isinstance(result, np.ndarray) else result.cells.to_numpy())
         return [cells.size, zlib.crc32(cells.tobytes())]
@@ -74,8 +76,10 @@ def numbers_of(task: str, result: Any) -> Any:
     return result.cells.tolist()
 
 
-def sum_of_table(result: Any) -> int:
-    """Return a sum of all columns of a table, or 0 for other results."""
+def sum_of_content(result: Any) -> int:
+    """Return a sum of a map's cells or of all columns of a table, or 0 for other results."""
+    if hasattr(result, "array"):
+        return zlib.crc32(result.array.filled(0).astype(np.int32, copy=False).data)
     found = 0
     for name in getattr(result, "columns", ()):
         column = result[name].to_numpy(np.float64, na_value=np.nan)
@@ -161,7 +165,7 @@ def measured(task: str, path: str, other: str, workers: int) -> None:
             result = (peer_of if workers < 0 else call_of)(task, path, other, out)
         elapsed = time.monotonic() - begun
         used = [resource.getrusage(who) for who in (resource.RUSAGE_SELF, resource.RUSAGE_CHILDREN)]
-        numbers, full = numbers_of(task, result), sum_of_table(result)
+        numbers, full = numbers_of(task, result), sum_of_content(result)
     finally:
         if os.path.exists(out):
             os.unlink(out)
