@@ -15,7 +15,7 @@ import rcell
 from rcell.core import programs, protocol
 from rcell.core.region import Region
 from rcell.core.runs import values_of
-from rcell.core.tile_clumps import NO_CLUMP, join, renumber, wide
+from rcell.core.tile_clumps import join, renumber, wide
 
 # A longer run: RCELL_MORE=40 python3 tests/test_numpy_join.py
 TILINGS = 60 * int(os.environ.get("RCELL_MORE", "1"))
@@ -31,13 +31,13 @@ def cuts(random: np.random.Generator, total: int) -> list[slice]:
 
 
 def clumped(cells: Any, connectivity: int) -> tuple[Any, Any]:
-    """Return the clump numbers of a map, with 0 for null, and its border."""
+    """Return the clump numbers of a map, and its border."""
     edges = Region.of_cells(*cells.shape).edges
     block = protocol.Block(np.ascontiguousarray(cells).data)
     sent = protocol.Map("a", edges, *cells.shape, "u8", [block], NULL_CELL)
     question = protocol.Question("a", connectivity, kind=protocol.NUMBERS + protocol.BORDER)
     numbers, border = protocol.run(programs.find_pipe(), [sent], b"", [question])
-    return wide(values_of(numbers), NO_CLUMP), values_of(border)
+    return wide(values_of(numbers)), values_of(border)
 
 
 class Tiles(unittest.TestCase):
@@ -56,10 +56,10 @@ class Tiles(unittest.TestCase):
         joined = join(borders, len(cols), connectivity)
         expected, _ = clumped(cells, connectivity)
         found = np.zeros(cells.shape, np.int64)
-        for place, own, tile in zip(places, numbers, joined.tiles):
-            found[place] = renumber(own, tile)
+        for tile, (place, own) in enumerate(zip(places, numbers)):
+            renumber(own, joined.numbers_of(tile), out=found[place])
         self.assertEqual(found.tolist(), expected.tolist())
-        self.assertEqual(joined.clumps, expected.max())
+        self.assertEqual(joined.clumps, max(expected.max(), 0))
 
     def test_borders_that_are_not_of_tiles(self) -> None:
         (_, one), (_, wide_tile) = clumped(LAND, 4), clumped(LAND[:1], 4)

@@ -18,7 +18,7 @@ from .errors import BadArgument
 from .host import warn
 from .legends import labels_of
 from .protocol import NULL, Question
-from .runs import PatchFold, ask, execute
+from .runs import Fold, ask, execute
 from .sources import Source, source_of, sources_of
 from .tile_tables import in_order, order_of
 from .zones import Zones, zones_of
@@ -159,7 +159,7 @@ class Maps:
         merged = [in_order(np.concatenate(parts)) for parts in parts_of_tables[once:]]
         return tables_of_runs[0][:once] + merged
 
-    def ask(self, question: Question, clump: str, fold: PatchFold) -> bool:
+    def ask(self, question: Question, clump: str, fold: Fold) -> bool:
         """Pass the patches of a map to a fold with `runs.ask`, and return whether they were passed.
 
         No patches are passed if overlapping polygons are processed separately.

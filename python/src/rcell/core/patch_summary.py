@@ -8,9 +8,11 @@ from typing import Any, NamedTuple, Optional
 import numpy as np
 
 from .area import Measure
-from .arrays import Floats, Integers
+from .arrays import Floats, Integers, NDArray
 from .columns import Column, Table
 from .counting import Maps, places_of, sums_of
+from .patch_measures import clump_line
+from .protocol import Question
 from .runs import execute
 from .tile_clumps import Joined
 
@@ -19,7 +21,7 @@ __all__ = ["class_summary"]
 
 def class_summary(
     maps: Maps,
-    clump: str,
+    connectivity: int,
     measure: Measure,
     classes: Optional[list[int]],
     fewest: int,
@@ -30,8 +32,7 @@ def class_summary(
     Parameters
     ----------
     maps : Maps
-    clump : str
-        The script line that numbers the patches of `map` and creates the map `patch`.
+    connectivity : {4, 8}
     measure : Measure
     classes : list of int, optional
         Count only patches of these classes.
@@ -40,11 +41,14 @@ def class_summary(
     labels : any, optional
         A legend that replaces the labels of the map.
     """
-    summary = _Summary(measure, classes, fewest)
-    rows = [] if measure.by_row is None else ["r.mapcalc row = row()"]
-    inputs = "map,patch" + (",row" if rows else "")
-    script = "\n".join([clump, *rows, f"r.stats -c -n input={inputs}"])
-    execute(script, maps.sources, fold=summary)
+    summary, clump = _Summary(measure, classes, fewest), clump_line(connectivity)
+    question = Question("map", connectivity)
+    # In degrees, areas depend on the rows of a patch, which are not among its measures.
+    if measure.by_row is not None or not maps.ask(question, clump, summary):
+        rows = [] if measure.by_row is None else ["r.mapcalc row = row()"]
+        inputs = "map,patch" + (",row" if rows else "")
+        script = "\n".join([clump, *rows, f"r.stats -c -n input={inputs}"])
+        execute(script, maps.sources, fold=summary)
     return Table(summary.columns(maps, labels))
 
 
@@ -81,12 +85,13 @@ class _Summary:
         self._waiting: dict[int, tuple[Integers, Floats]] = {}
         self._complete: dict[int, dict[int, Numbers]] = {}
 
-    def add(self, tile: int, table: Integers, waiting: Integers) -> None:
-        """Add a tile's table and set aside the patches that may continue in other tiles.
+    def add(self, tile: int, rows: NDArray[Any], waiting: Integers, _: list[Integers]) -> None:
+        """Add a tile's patches and set aside those that may continue in other tiles.
 
-        The table's columns are class, patch, row (only in degrees) and cells. `waiting` lists the
-        numbers of the patches to set aside.
+        The rows are measures of patches, or a table with the columns class, patch, row (only in
+        degrees) and cells. `waiting` lists the numbers of the patches to set aside.
         """
+        table = rows if rows.dtype.names is None else _table_of(rows)
         if self._listed is not None:
             table = table[np.isin(table[:, 0], self._listed)]
         patches, area = self._patches_of(table)
@@ -94,14 +99,14 @@ class _Summary:
         self._waiting[tile] = patches[is_open], area[is_open]
         self._complete[tile] = self._counted(patches[~is_open], area[~is_open])
 
-    def join(self, joined: Joined) -> None:
+    def join(self, joined: Optional[Joined]) -> None:
         """Count the patches that were set aside, using their numbers in the full map."""
-        if not self._waiting:
+        if joined is None:
             return
         tiles = sorted(self._waiting)
         for tile in tiles:
             patches = self._waiting[tile][0]
-            patches[:, 1] = joined.tiles[tile].looked_up(patches[:, 1])
+            patches[:, 1] = joined.numbers_of(tile)[patches[:, 1]]
         tables, areas = zip(*(self._waiting.pop(tile) for tile in tiles))
         patches, area = _added(np.concatenate(tables), np.concatenate(areas))
         # Joined patches are counted last, as if they were in another tile.
@@ -165,6 +170,12 @@ class _Summary:
         columns.append(Column(f"area_{unit}", "measure", area))
         columns.append(Column(f"largest_{unit}", "measure", largest))
         return [*columns, Column(f"mean_{unit}", "measure", area / np.maximum(patches, 1))]
+
+
+def _table_of(rows: NDArray[Any]) -> Integers:
+    """Return a table of classes, patches and cells, given the measures of patches."""
+    order = np.argsort(rows["class"], kind="stable")
+    return np.array([rows["class"][order], order + 1, rows["cells"][order]]).T
 
 
 def _added(patches: Integers, area: Floats) -> tuple[Integers, Floats]:

@@ -113,7 +113,7 @@ def patches(
     maps = Maps({"map": map}, crs, zones, zone_field, layer, each)
     measure = maps.measure(area)
     if summary is not None:
-        return class_summary(maps, clump_line(connectivity), measure, listed, fewest, labels)
+        return class_summary(maps, connectivity, measure, listed, fewest, labels)
     measured = patch_measures(maps, measure, connectivity, depth, listed, fewest, zones is not None)
     transform = maps.first.transform
     *area_column, core_column = _areas(measured, measure)

@@ -21,7 +21,6 @@ from .tile_clumps import PATCH, ZONED_PATCH, Joined
 __all__ = [
     "Fold",
     "Output",
-    "PatchFold",
     "ask",
     "check_size",
     "execute",
@@ -61,32 +60,26 @@ class Output:
 
 
 class Fold(Protocol):
-    """Receives an `r.stats` table over patches tile by tile, instead of as one table."""
-
-    def add(self, tile: int, table: NDArray[Any], waiting: NDArray[Any]) -> None:
-        """Receive a tile's table, and the patches that may continue in other tiles.
-
-        Patches are numbered within the tile.
-        """
-
-    def join(self, joined: Joined) -> None:
-        """Count the waiting patches, using their numbers in the full map."""
-
-
-class PatchFold(Protocol):
-    """Receives the program's patch measures, tile by tile."""
+    """Receives patches tile by tile."""
 
     def add(
         self, tile: int, rows: NDArray[Any], waiting: NDArray[Any], tables: list[NDArray[Any]]
     ) -> None:
         """Receive a tile's patches, which are numbered within the tile.
 
-        `waiting` lists the patches that may continue in other tiles. The first column of each table
-        in `tables` is the patch number.
+        Parameters
+        ----------
+        tile : int
+        rows : array
+            The program's measures of the patches, or an `r.stats` table over patches.
+        waiting : array
+            The patches that may continue in other tiles.
+        tables : list of arrays
+            With measures, `r.stats` tables whose first column is the patch number.
         """
 
     def join(self, joined: Joined | None) -> None:
-        """Join the patches of all tiles, unless there was only one run."""
+        """Join the waiting patches, unless there was only one run."""
 
 
 def execute(
@@ -148,7 +141,7 @@ def execute(
     outputs = execute_once(script, maps, wanted=wanted, program=program)
     if fold is None:
         return outputs
-    fold.add(0, outputs[0].values, np.empty(0, np.int64))
+    fold.add(0, outputs[0].values, np.empty(0, np.int64), [])
     return []
 
 
@@ -168,7 +161,7 @@ def ask(
     question: protocol.Question,
     clump: str,
     maps: Mapping[str, Source],
-    fold: PatchFold,
+    fold: Fold,
 ) -> bool:
     """Measure the patches of a map, in one run or in tiles, and pass them to a fold.
 
@@ -179,7 +172,7 @@ def ask(
         The script line that numbers the patches as `patch`. Tiles use this line to count the zones
         of patches in a table.
     maps : mapping of str to Source
-    fold : PatchFold
+    fold : Fold
 
     Returns
     -------
@@ -195,7 +188,7 @@ def ask(
     if not is_small(maps) or work().is_dry:
         stats = [f"r.stats -c -n input=patch,{question.zones}"] if question.zones else []
         plan = planned("\n".join([clump, *stats]), maps)
-        demand = replace(demand_of(plan, maps), reach=question.reach)
+        demand = demand_of(plan, maps, question)
         if work().is_dry:
             raise DryRun(describe(plan, maps, demand, 1))
         if not takes_one_run(plan, maps, demand):

@@ -10,7 +10,7 @@ from __future__ import annotations
 from collections.abc import Iterator, Sequence
 from contextlib import contextmanager
 from dataclasses import dataclass
-from typing import Any, Optional
+from typing import Any
 
 import numpy as np
 
@@ -23,11 +23,9 @@ from .protocol import NO_MEMORY, NULL
 from .responses import PATCH_BYTES, ZONE_BYTES
 
 __all__ = [
-    "NO_CLUMP",
     "PATCH",
     "ZONED_PATCH",
     "Joined",
-    "TileNumbers",
     "join",
     "join_patches",
     "open_clumps",
@@ -36,9 +34,6 @@ __all__ = [
 ]
 
 Integers = NDArray[Any]
-
-NO_CLUMP = 0
-"""Null in a map of clumps, which are numbered from 1."""
 
 PATCH = np.dtype(
     [("class", "<i4")]
@@ -64,42 +59,31 @@ PIECE = 2**18
 
 
 @dataclass(frozen=True, eq=False)
-class TileNumbers:
-    """The numbers of a tile's clumps in the full map, stored as runs of consecutive numbers.
+class Joined:
+    """The numbers of the clumps of tiles in the full map.
 
     Attributes
     ----------
     clumps : int
-        The number of clumps in the tile.
-    firsts : ndarray of int64, shape (n,)
-        For each run, the number that its first clump has in the tile, ascending.
-    numbers : ndarray of int64, shape (n,)
-        For each run, the number that its first clump has in the full map. The other clumps of the
-        run have the next numbers.
+        The number of clumps in the full map.
+    runs : ndarray of int64, shape (n, 4)
+        Runs of clumps with consecutive numbers, as in `responses.JoinFrame`.
+    starts : ndarray of integers
+        The index of each tile's first run, followed by the number of runs.
     """
 
     clumps: int
-    firsts: Integers
-    numbers: Integers
-
-    def looked_up(self, numbers: Integers) -> Integers:
-        """Convert clump numbers of the tile to clump numbers of the full map, with 0 for null."""
-        if not self.clumps:
-            return np.zeros(numbers.shape, dtype=np.int64)
-        run = np.maximum(np.searchsorted(self.firsts, numbers, side="right") - 1, 0)
-        return np.where(numbers > 0, self.numbers[run] + (numbers - self.firsts[run]), 0)
-
-
-@dataclass(frozen=True, eq=False)
-class Joined:
-    """The number of clumps in the full map, and the `TileNumbers` of each tile in order.
-
-    `runs` contains the numbers of all tiles, as in `responses.JoinFrame`.
-    """
-
-    clumps: int
-    tiles: Sequence[TileNumbers]
     runs: Integers
+    starts: Integers
+
+    def numbers_of(self, tile: int) -> Integers:
+        """Return the numbers of a tile's clumps in the full map, by their numbers in the tile.
+
+        These begin at 1. The number at index 0 is `NULL`.
+        """
+        _, first, last, number = self.runs[self.starts[tile] : self.starts[tile + 1]].T
+        offsets = np.repeat(number - first, last - first + 1)
+        return np.concatenate([[NULL], offsets + np.arange(1, offsets.size + 1)])
 
 
 def open_clumps(border: Integers) -> Integers:
@@ -136,22 +120,17 @@ def join(borders: Sequence[Integers], columns: int, connectivity: int) -> Joined
     Examples
     --------
     >>> border = np.array([1, 1] + [4, 1] * 4 + [1], np.int32)  # a tile with one cell of class 4
-    >>> whole = join([border, border], columns=1, connectivity=4)
-    >>> whole.clumps, renumber(np.array([[1]]), whole.tiles[1]).tolist()
-    (1, [[1]])
+    >>> joined = join([border, border], columns=1, connectivity=4)
+    >>> joined.clumps, joined.numbers_of(1).tolist()
+    (1, [-2147483648, 1])
     """
     shape = len(borders) // columns, columns
     given = [border.data for border in borders]
     with _joining("the border of tile") as path:
         joined = protocol.join(path, given, shape, connectivity, watch=host().watch)
-    runs = np.asarray(joined.runs).view(np.int64)
-    tile, first, last, number = runs.reshape(-1, 4).T
-    ends = np.searchsorted(tile, np.arange(1, len(borders) + 2))
-    tiles = []
-    for begin, end in zip(ends, ends[1:]):
-        clumps = int(last[end - 1]) if end > begin else 0
-        tiles.append(TileNumbers(clumps, first[begin:end], number[begin:end]))
-    return Joined(joined.patches, tiles, runs)
+    runs = np.asarray(joined.runs).view(np.int64).reshape(-1, 4)
+    starts = np.searchsorted(runs[:, 0], np.arange(1, len(borders) + 2))
+    return Joined(joined.patches, runs, starts)
 
 
 def join_patches(joined: Joined, patches: Sequence[tuple[Integers, Integers]]) -> Integers:
@@ -174,7 +153,9 @@ def join_patches(joined: Joined, patches: Sequence[tuple[Integers, Integers]]) -
     rows["measures"] = np.concatenate([measures for _, measures in patches])
     sent = rows.view(np.uint8).data
     with _joining("list") as path:
-        found = protocol.join_patches(path, joined.runs.data, rows.size, sent, watch=host().watch)
+        found = protocol.join_patches(
+            path, joined.runs.reshape(-1).data, rows.size, sent, watch=host().watch
+        )
     return np.frombuffer(found.rows, _JOINED_PATCH)
 
 
@@ -195,47 +176,36 @@ def _joining(part: str) -> Iterator[str]:
             raise WrongProgram(problem) from None
 
 
-def renumber(numbers: Integers, tile: TileNumbers, out: Optional[Integers] = None) -> Integers:
+def renumber(clumps: Integers, numbers: Integers, out: Integers) -> None:
     """Replace the clump numbers of a tile with clump numbers of the full map.
 
     Parameters
     ----------
-    numbers : ndarray of integers, any shape
-        The clump numbers of the tile from r.clump, with 0 for null.
-    tile : TileNumbers
-        The result of `join` for the tile.
-    out : ndarray of integers, the same shape, optional
-        The array for the result, which may be `numbers`. Its type must be able to hold the number
-        of clumps in the full map.
-
-    Returns
-    -------
-    ndarray, the same shape
-        The clump numbers in the full map, with 0 for null: `out`, or a new int64 array.
+    clumps : ndarray of int32, rows x cols
+        The clump numbers of the tile from r.clump, with `NULL` for null.
+    numbers : ndarray
+        The result of `Joined.numbers_of` for the tile.
+    out : ndarray, rows x cols
+        The array for the result, which may be `clumps`. Its type must be able to hold the numbers.
 
     Examples
     --------
-    >>> renumber(np.array([[1, 0, 2]]), TileNumbers(2, np.array([1]), np.array([5]))).tolist()
-    [[5, 0, 6]]
+    >>> cells = np.array([[1, NULL, 2]], np.int32)
+    >>> renumber(cells, np.array([NULL, 5, 6]), out=cells)
+    >>> cells.tolist()
+    [[5, -2147483648, 6]]
     """
-    if out is None:
-        out = np.empty(numbers.shape, dtype=np.int64)
-    table = None
-    if numbers.size > tile.clumps:
-        table = np.zeros(tile.clumps + 1, dtype=out.dtype)
-        for start in range(1, tile.clumps + 1, PIECE):
-            piece = np.arange(start, min(start + PIECE, tile.clumps + 1))
-            table[piece] = tile.looked_up(piece)
-    source, target = numbers.reshape(-1), out.reshape(-1)
-    for start in range(0, source.size, PIECE):
-        piece = source[start : start + PIECE]
-        target[start : start + PIECE] = tile.looked_up(piece) if table is None else table[piece]
-    return out
+    numbers = numbers.astype(out.dtype)
+    step = max(PIECE // clumps.shape[1], 1)
+    for top in range(0, len(clumps), step):
+        rows = slice(top, top + step)
+        out[rows] = numbers.take(clumps[rows], mode="clip")  # null becomes index 0
 
 
-def wide(cells: Integers, null: int) -> Integers:
-    """Convert cells to int32, with the given value for null."""
-    old_null = protocol.NULL_BYTE if cells.dtype == np.uint8 else NULL
+def wide(cells: Integers) -> Integers:
+    """Convert the cells of a response to int32, with `NULL` for null."""
+    if cells.dtype == np.int32:
+        return cells
     wide_cells: Integers = cells.astype(np.int32)
-    np.copyto(wide_cells, null, where=cells == old_null)
+    np.copyto(wide_cells, NULL, where=cells == protocol.NULL_BYTE)
     return wide_cells

@@ -8,7 +8,7 @@ from typing import Any, Optional
 import numpy as np
 
 from .arrays import NDArray
-from .tile_clumps import Joined, TileNumbers, join_patches
+from .tile_clumps import Joined, join_patches
 from .tile_tables import summed
 from .tiling import in_threads
 
@@ -59,14 +59,15 @@ class PatchSum:
         closed = [self._closed[tile] for tile in sorted(self._closed)]
         numbers, parts = [own for own, _ in closed], [rows for _, rows in closed]
         if joined is not None:
-            numbers = in_threads(TileNumbers.looked_up, joined.tiles, numbers)
+            numbers_of = [joined.numbers_of(tile) for tile in sorted(self._closed)]
+            numbers = [in_map[own] for in_map, own in zip(numbers_of, numbers)]
             whole = join_patches(joined, [self._open[tile] for tile in sorted(self._open)])
             whole = whole[whole["measures"]["cells"] >= self._fewest]
             numbers.append(whole["number"])
             parts.append(whole["measures"])
             for tile, tables in self._tables.items():
                 for table in tables:
-                    table[:, 0] = joined.tiles[tile].looked_up(table[:, 0])
+                    table[:, 0] = numbers_of[tile][table[:, 0]]
         self.tables = [summed(tables) for tables in zip(*self._tables.values())]
         self.numbers, indices = _merged(numbers)
         for name in parts[0].dtype.names or ():

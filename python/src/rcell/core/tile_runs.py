@@ -26,9 +26,9 @@ from .pieces import is_file
 from .protocol import BORDER, NULL, NUMBERS, PATCHES, Question, Statement
 from .rectangles import Rectangle, rectangles_of
 from .resuming import Shelf, state_of
-from .runs import Fold, Output, PatchFold
+from .runs import Fold, Output
 from .sources import MAX_CATEGORY, ArrayMap, Source
-from .tile_clumps import NO_CLUMP, Joined, join, open_clumps, renumber, wide
+from .tile_clumps import Joined, join, open_clumps, renumber, wide
 from .tile_scripts import makers, maps_read_by, question_about, reach_of, text_of
 from .tile_tables import TableSum
 from .tile_work import TileDone, TileWork
@@ -40,13 +40,16 @@ Integers = NDArray[Any]
 Put = Callable[[Rectangle, list[Integers]], list[Integers]]
 
 
-def demand_of(plan: Sequence[Statement], maps: Mapping[str, Source]) -> Demand:
-    """Return the memory per cell and the halo that a script needs for a tile."""
+def demand_of(
+    plan: Sequence[Statement], maps: Mapping[str, Source], *questions: Question
+) -> Demand:
+    """Return the memory per cell and the halo that a tile needs for a script and for questions."""
     outputs = outputs_in(plan)
     used = makers(plan, maps_read_by(outputs), maps)
-    grids = sum(output.command == "r.out.ascii" for output in outputs)
+    # The patches that a question lists usually need less memory than a map.
+    grids = sum(output.command == "r.out.ascii" for output in outputs) + len(questions)
     clumps = sum(statement.command == "r.clump" for statement in plan)
-    reach = reach_of([*used, *outputs])
+    reach = reach_of([*used, *outputs], questions)
     return Demand.of(maps, len(used) + clumps, grids + 2 * (clumps > 0), clumps, reach)
 
 
@@ -114,7 +117,7 @@ def ask_tiles(
     plan: Sequence[Statement],
     maps: Mapping[str, Source],
     demand: Demand,
-    fold: PatchFold,
+    fold: Fold,
 ) -> None:
     """Measure the patches of a map tile by tile, and pass them to a fold.
 
@@ -125,7 +128,7 @@ def ask_tiles(
         The plan of a script that counts tables of patches, or empty.
     maps, demand
         See `run_tiles`, which also lists the errors.
-    fold : PatchFold
+    fold : Fold
     """
     found_cluster = cluster()
     size, workers = tile_size(maps, demand, found_cluster)
@@ -230,10 +233,10 @@ class _Tiles:
         question, borders = question_about(clump, BORDER), {}
         for index, (table, border) in self._run(self._script(plan, [stats]), question):
             borders[index] = border
-            fold.add(index, table, open_clumps(border))
+            fold.add(index, table, open_clumps(border), [])
         fold.join(self._joined(borders, question))
 
-    def measure(self, plan: Sequence[Statement], question: Question, fold: PatchFold) -> None:
+    def measure(self, plan: Sequence[Statement], question: Question, fold: Fold) -> None:
         """Pass each tile's patch measures and tables to a fold.
 
         By the law `halo_determines_measures`, the measures are the full map's. The first column of
@@ -257,7 +260,7 @@ class _Tiles:
 
         def keep_numbers(place: Rectangle, results: list[Integers]) -> list[Integers]:
             clumps, border = results
-            place.part_of(self._full, numbers)[...] = wide(clumps, NO_CLUMP)
+            place.part_of(self._full, numbers)[...] = wide(clumps)
             return [border]
 
         script = makers(plan, clump.inputs, self._maps)
@@ -267,7 +270,7 @@ class _Tiles:
             clump.made,
             self._numbered(numbers, self._joined(borders, question)),
             next(iter(self._maps.values())).region,
-            nodata_value=NO_CLUMP,
+            nodata_value=NULL,
         )
 
     def _script(self, plan: Sequence[Statement], outputs: Sequence[Statement]) -> list[Statement]:
@@ -318,16 +321,9 @@ class _Tiles:
             del self._unread[name]
 
     def clumps(self, output: Statement) -> Output:
-        """Return the clump map that a statement writes.
-
-        Null becomes `NULL` in place. Call this method after the last use of the map.
-        """
+        """Return the clump map that a statement writes."""
         source = self._maps[output.inputs[0]]
         assert isinstance(source, ArrayMap)
-        for place in self._places if source.nodata_value == NO_CLUMP else ():
-            part = place.part_of(self._full, source.array)
-            np.copyto(part, NULL, where=part == NO_CLUMP)
-        self._maps[output.inputs[0]] = replace(source, nodata_value=NULL)
         return Output("r.out.ascii", output.line, output.inputs, source.array)
 
     def _joined(self, borders: Mapping[int, Integers], question: Question) -> Joined:
@@ -340,20 +336,19 @@ class _Tiles:
     def _full(self) -> Rectangle:
         return Rectangle(0, 0, *self._shape)
 
-    def _numbered(self, numbers: Integers, whole: Joined) -> Integers:
+    def _numbered(self, clumps: Integers, joined: Joined) -> Integers:
         """Replace the clump numbers of tiles with the full map's numbers, in place if they fit."""
-        is_wide = whole.clumps > MAX_CATEGORY
-        target = cells_for(self._shape, np.int64) if is_wide else numbers
-        tiles = dict(zip(self._places, whole.tiles))
+        is_wide = joined.clumps > MAX_CATEGORY
+        numbers = cells_for(self._shape, np.int64) if is_wide else clumps
+        tiles = {place: tile for tile, place in enumerate(self._places)}
 
         def number(place: Rectangle) -> None:
-            own = np.ascontiguousarray(place.part_of(self._full, numbers))
-            new = renumber(own, tiles[place], None if is_wide else own)
-            place.part_of(self._full, target)[...] = new
+            own, new = (place.part_of(self._full, cells) for cells in (clumps, numbers))
+            renumber(own, joined.numbers_of(tiles[place]), out=new)
 
         for _ in self._crew.each(number, self._places):
             pass
-        return target
+        return numbers
 
 
 @dataclass
@@ -372,9 +367,9 @@ class _Grid:
         if cells.dtype == np.int32 and self.cells.dtype == np.uint8:
             narrow, self.cells = self.cells, cells_for(self.shape, np.int32)
             for done in self._done:
-                done.part_of(full, self.cells)[...] = wide(done.part_of(full, narrow), NULL)
+                done.part_of(full, self.cells)[...] = wide(done.part_of(full, narrow))
         if self.cells.dtype == np.int32 and cells.dtype == np.uint8:
-            cells = wide(cells, NULL)
+            cells = wide(cells)
         place.part_of(full, self.cells)[...] = cells
         self._done.append(place)
 

@@ -22,7 +22,7 @@ from ..core.protocol import BORDER, NULL, NUMBERS, Question, Statement
 from ..core.rectangles import Rectangle
 from ..core.runs import Fold, Output, planned
 from ..core.sources import MAX_CATEGORY, ArrayMap, Source
-from ..core.tile_clumps import NO_CLUMP, Joined, join, renumber, wide
+from ..core.tile_clumps import Joined, join, renumber, wide
 from ..core.tile_runs import demand_of, outputs_in, table_output
 from ..core.tile_scripts import makers, maps_read_by, question_about, reach_of, text_of
 from ..core.tile_tables import summed
@@ -138,7 +138,7 @@ def _computed(hidden: _Hidden, tables: Sequence[Integers]) -> Any:
         if fold is None:
             return [replace(output, values=values) for output, values in zip(outputs, tables)]
         [table] = tables
-        fold.add(tile=0, table=table, waiting=_NOTHING)  # the only tile, so no patch continues
+        fold.add(0, table, _NOTHING, [])  # the only tile, so no patch continues
         return []
 
     with working(engine=engine):
@@ -237,7 +237,7 @@ class _Graph:
         _, col_chunks = self._chunks
         full = self._delayed(_joined)(tiles, len(col_chunks), question.connectivity)
         cells = [self._delayed(_renumbered)(index, tile, full) for index, tile in enumerate(tiles)]
-        self._maps[clump.made] = _ComputedMap(clump.made, self._array_of(cells), NO_CLUMP)
+        self._maps[clump.made] = _ComputedMap(clump.made, self._array_of(cells), NULL)
 
     def _run(self, script: Sequence[Statement], *questions: Question) -> list[Any]:
         """Return the delayed results of a script and of questions for each chunk."""
@@ -274,7 +274,7 @@ def _added(statement: Statement, index: int, tiles: Sequence[TileDone]) -> Integ
 def _cells_of(index: int, tile: TileDone) -> Integers:
     """Return the cells of a chunk's map as int32."""
     cells: Integers = tile.results[index]
-    return cells if cells.dtype == np.int32 else wide(cells, NULL)
+    return wide(cells)
 
 
 def _joined(tiles: Sequence[TileDone], columns: int, connectivity: int) -> Joined:
@@ -289,6 +289,7 @@ def _joined(tiles: Sequence[TileDone], columns: int, connectivity: int) -> Joine
 
 def _renumbered(index: int, tile: TileDone, full: Joined) -> Integers:
     """Return a chunk's cells with the clump numbers of the full map."""
-    numbers, _ = tile.results
-    clumps = wide(numbers, NO_CLUMP)
-    return renumber(clumps, full.tiles[index], out=clumps)
+    clumps, _ = tile.results
+    numbers = np.empty(clumps.shape, np.int32)
+    renumber(wide(clumps), full.numbers_of(index), out=numbers)
+    return numbers
