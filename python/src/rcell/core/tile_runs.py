@@ -10,8 +10,8 @@ from __future__ import annotations
 
 from collections.abc import Callable, Iterator, Mapping, Sequence
 from contextlib import contextmanager
-from dataclasses import dataclass, replace
-from typing import Any
+from dataclasses import dataclass
+from typing import Any, TypeVar
 from uuid import uuid4
 
 import numpy as np
@@ -37,6 +37,7 @@ from .tiling import Demand, cluster, tile_size, work
 __all__ = ["ask_tiles", "demand_of", "outputs_in", "run_tiles", "table_output"]
 
 Integers = NDArray[Any]
+Result = TypeVar("Result")
 Put = Callable[[Rectangle, list[Integers]], list[Integers]]
 
 
@@ -83,33 +84,25 @@ def run_tiles(
     Refused, BadMap, Killed, MissingProgram, WrongProgram
         See `execute`.
     """
-    crew_cluster = cluster()
-    size, workers = tile_size(maps, demand, crew_cluster)
-    shape = next(iter(maps.values())).region.shape
-    places = rectangles_of(shape, size)
     clumps = [statement for statement in plan if statement.command == "r.clump"]
     outputs = outputs_in(plan)
-    states = _states(maps)
     numbered = {clump.made for clump in clumps}
     rest = [statement for statement in outputs if not _is_map_of(statement, numbered)]
-    steps = len(places) * (1 if fold is not None else 2 * len(clumps) + bool(rest))
-    with _first_bad_cell(maps), Crew(workers, steps, cluster=crew_cluster) as crew:
-        tiles = _Tiles(crew, dict(maps), places, shape)
-        made_outputs: Iterator[Output] = iter(())
+    passes = 1 if fold is not None else 2 * len(clumps) + bool(rest)
+
+    def outputs_of(tiles: _Tiles) -> list[Output]:
         if fold is not None:
             tiles.fold(plan, clumps[0], outputs[0], fold)
-        else:
-            for clump in clumps:
-                tiles.add_clumps(plan, clump, is_last=not rest and clump is clumps[-1])
-            made_outputs = iter(tiles.outputs(plan, rest) if rest else [])
-        tiles.finish()
-        _check_states(states)
-        if fold is not None:
             return []
+        for clump in clumps:
+            tiles.add_clumps(plan, clump, is_last=not rest and clump is clumps[-1])
+        made_outputs = iter(tiles.outputs(plan, rest) if rest else [])
         return [
             tiles.clumps(statement) if _is_map_of(statement, numbered) else next(made_outputs)
             for statement in outputs
         ]
+
+    return _in_tiles(maps, demand, passes, outputs_of)
 
 
 def ask_tiles(
@@ -130,16 +123,25 @@ def ask_tiles(
         See `run_tiles`, which also lists the errors.
     fold : Fold
     """
+    _in_tiles(maps, demand, 1, lambda tiles: tiles.measure(plan, question, fold))
+
+
+def _in_tiles(
+    maps: Mapping[str, Source], demand: Demand, passes: int, do: Callable[[_Tiles], Result]
+) -> Result:
+    """Call a function that processes each tile of maps a number of times, and return its result."""
     found_cluster = cluster()
     size, workers = tile_size(maps, demand, found_cluster)
     shape = next(iter(maps.values())).region.shape
     places = rectangles_of(shape, size)
     states = _states(maps)
-    with _first_bad_cell(maps), Crew(workers, len(places), cluster=found_cluster) as crew:
+    steps = passes * len(places)
+    with _first_bad_cell(maps), Crew(workers, steps, cluster=found_cluster) as crew:
         tiles = _Tiles(crew, dict(maps), places, shape)
-        tiles.measure(plan, question, fold)
+        result = do(tiles)
         tiles.finish()
         _check_states(states)
+        return result
 
 
 def _states(maps: Mapping[str, Source]) -> dict[str, str]:
