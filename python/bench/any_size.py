@@ -1,13 +1,14 @@
 #!/usr/bin/python3
 """Measures calls on a large map by tiles, with some numbers of workers, compared with one run and with Dask, numpy and scipy.
 
-    any_size.py [--side N] [--rounds N] [--workers W,..] [--folder F] [--write] [TASK ...]
+    any_size.py [--side N] [--rounds N] [--workers W,..] [--alone] [--folder F] [--write] [TASK ...]
 
 The map is land cover of N x N cells, 16,000 if N is not given, as a GeoTIFF that is kept in the folder F, and the same map moved by two
 cells. TASK is one of `reading` (alone), `composition`, `cross`, `change`, `majority` (3 x 3, written as a GeoTIFF), `clump`, `patches`
 and `summary` (of patches by class); all if none is given. Each call runs in a process of its own, all calls of a task in turns. Seconds are
-processor time of this process and of its programs; in parentheses by the clock, which means something if nothing else runs. The column
-"by the clock" is the time with the most workers divided by the time of one run. With --write the table takes its place in bench/RESULTS.md.
+processor time of this process and of its programs; in parentheses by the clock, which means something if nothing else runs. The last
+columns are both times with the most workers, divided by the times of one run. With --alone, Dask, numpy and scipy are left out. With
+--write the table takes its place in bench/RESULTS.md.
 
 Results are compared after the clock has stopped: cells and patches of all ways, and each byte of the tables and maps of one run and of
 tiles. If they differ in a row, the row says so, and the exit status is 1.
@@ -175,11 +176,11 @@ def measured(task: str, path: str, other: str, workers: int) -> None:
 
 
 def line_of(task: str, paths: list[str], counts: list[int], rounds: int) -> str:
-    """Return the row of a task: the fastest of some rounds, for one run, some numbers of workers, and Dask."""
+    """Return the row of a task: the fastest of some rounds, for one run, some numbers of workers, and -1 for Dask."""
     best: dict[int, list[float]] = {}
     numbers, sums = set(), set()
     for _ in range(rounds):
-        for workers in [0, *counts, -1]:
+        for workers in [0, *counts]:
             words = [sys.executable, __file__, "--measure", task, *paths, str(workers)]
             ran = subprocess.run(words, stdout=subprocess.PIPE, text=True, check=True)
             found, full, *new = json.loads(ran.stdout)
@@ -189,8 +190,8 @@ def line_of(task: str, paths: list[str], counts: list[int], rounds: int) -> str:
             print(task, workers, *(f"{value:.2f}" for value in new), file=sys.stderr, flush=True)
     is_equal = "equal" if len(numbers) == len(sums) == 1 else DIFFERENT
     cells = [f"{cpu:.1f} s ({wall:.1f}), {memory:,.0f} MB" for cpu, wall, memory in best.values()]
-    ratio = best[max(counts)][1] / best[0][1]
-    return f"| {task}, {is_equal} | {' | '.join(cells)} | {ratio:.2f} |"
+    ratios = (f"{most / one:.2f}" for most, one in zip(best[max(counts)][:2], best[0]))
+    return f"| {task}, {is_equal} | {' | '.join([*cells, *ratios])} |"
 
 
 def main() -> None:
@@ -199,6 +200,7 @@ def main() -> None:
     parser.add_argument("--side", type=int, default=16_000)
     parser.add_argument("--rounds", type=int, default=1)
     parser.add_argument("--workers", default="1,2,4")
+    parser.add_argument("--alone", action="store_true")
     parser.add_argument("--folder", default=tempfile.gettempdir())
     parser.add_argument("--write", action="store_true")
     parser.add_argument("tasks", nargs="*", default=TASKS)
@@ -215,10 +217,12 @@ def main() -> None:
         rcell.grid("r.mapcalc b = a[2,2]", "b", a=str(path)).write(other)
     counts = [int(word) for word in given.workers.split(",")]
     names = [f"{count} worker{'s' if count > 1 else ''}" for count in counts]
+    if not given.alone:
+        counts, names = [*counts, -1], [*names, "Dask, numpy, scipy"]
     lines = [
         f"{given.side:,} x {given.side:,} cells of land cover, tiles of {TILE:,}; rounds: {given.rounds}. {load()}.",
         "",
-        f"| Call | one run | {' | '.join(names)} | Dask, numpy, scipy | by the clock |",
+        f"| Call | one run | {' | '.join(names)} | CPU time | by the clock |",
         "|---|" + "---|" * (3 + len(counts)),
         *(line_of(task, [str(path), str(other)], counts, given.rounds) for task in given.tasks),
     ]
