@@ -70,7 +70,7 @@ CELLS = (
 PLAN = (
     b"PLAN"
     + struct.pack("<Q", 7)
-    + b"\1\x08"
+    + b"\1\0"
     + text(b"k")
     + struct.pack("<Q", 1)
     + text(b"lc")
@@ -85,7 +85,6 @@ PLAN = (
     + text(b"k")
     + text(b"lc")
     + struct.pack("<Q2i", 2, 9, protocol.NULL)
-    + struct.pack("<Q2QB2QB", 2, 5, 9, 2, 12, 300, 4)
     + struct.pack("<Qi", 3, 2)
     + text(b"first")
     + struct.pack("<i", -7)
@@ -284,13 +283,7 @@ class Answers(Asked):
             (found.options, found.inputs, found.after, found.text),
             ("c1N", ("k", "lc"), (9, protocol.NULL), ""),
         )
-        self.assertEqual(
-            (found.calls, found.labels),
-            (
-                (protocol.Call("col", 4, 9), protocol.Call("ncols", 11, 300)),
-                {-7: "wood", 2: "last"},
-            ),
-        )
+        self.assertEqual(found.labels, {-7: "wood", 2: "last"})
         with open(f"{self.folder}/request", "rb") as file:
             self.assertEqual(
                 file.read(),
@@ -506,17 +499,14 @@ class Runs(unittest.TestCase):
         )
         found = protocol.plan(find_pipe(), ["a", "b", "c"], script.encode())
         self.assertEqual(
+            [(one.line, one.command, one.made, one.inputs, one.options) for one in found],
             [
-                (one.line, one.command, one.made, one.inputs, one.options, [*one.calls])
-                for one in found
-            ],
-            [
-                (1, "r.mapcalc", "x", (), "", [("row", 14, 19)]),
-                (2, "r.stats", "", ("a", "b"), "cn", []),
-                (4, "r.reclass", "d", ("a",), "", []),
-                (8, "r.clump", "k", ("c",), "", []),
-                (9, "r.mapcalc", "y", (), "", []),
-                (10, "r.stats", "", ("b", "a", "b"), "l1N", []),
+                (1, "r.mapcalc", "x", (), ""),
+                (2, "r.stats", "", ("a", "b"), "cn"),
+                (4, "r.reclass", "d", ("a",), ""),
+                (8, "r.clump", "k", ("c",), ""),
+                (9, "r.mapcalc", "y", (), ""),
+                (10, "r.stats", "", ("b", "a", "b"), "l1N"),
             ],
         )
         self.assertEqual([one.labels for one in found], [{}, {}, {1: "grove"}, {}, {}, {}])

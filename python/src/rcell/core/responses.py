@@ -18,7 +18,6 @@ __all__ = [
     "ZONE_BYTES",
     "AnyFrame",
     "BorderFrame",
-    "Call",
     "Done",
     "Frame",
     "GridFrame",
@@ -42,7 +41,6 @@ COMMANDS = ("r.mapcalc", "r.reclass", "r.clump", "r.stats", "r.out.ascii")
 
 _SOURCES = {1: "request", 2: "script", 3: "question"}
 _OPTIONS = "cl1nN"
-_CALLED = ("row", "col", "nrows", "ncols")
 _RUN_NUMBERS = 4  # of each run in a JoinFrame
 PATCH_BYTES, ZONE_BYTES = 68, 4
 # Arrays with fewer bytes are assembled from pieces. Larger arrays are read directly into memory.
@@ -185,14 +183,6 @@ class BorderFrame:
     border: memoryview
 
 
-class Call(NamedTuple):
-    """A call to `row()`, `col()`, `nrows()` or `ncols()`, and its range of bytes in the line."""
-
-    function: str
-    start: int
-    end: int
-
-
 @dataclass(frozen=True)
 class Statement:
     """A statement of a script, as described by the program's plan.
@@ -215,8 +205,6 @@ class Statement:
         The names of the maps in `input=`, in the same order.
     after : tuple of int
         The categories in `after=`.
-    calls : tuple of Call
-        The calls to position functions, from left to right.
     labels : dict of int to str
         The labels in the statement's rules, by category.
     text : str
@@ -232,7 +220,6 @@ class Statement:
     options: str = ""
     inputs: tuple[str, ...] = ()
     after: tuple[int, ...] = ()
-    calls: tuple[Call, ...] = ()
     labels: Mapping[int, str] = field(default_factory=dict)
     text: str = ""
 
@@ -408,7 +395,6 @@ class _Response:
             options=self.options(),
             inputs=self.names(self.count()),
             after=tuple(self.cells(self.count(), "i")),
-            calls=tuple(self.call() for _ in range(self.count())),
             labels={self.cells(1, "i")[0]: self.name() for _ in range(self.count())},
         )
 
@@ -420,12 +406,6 @@ class _Response:
             if bits >> place & 1:
                 flags += letter
         return flags
-
-    def call(self) -> Call:
-        (first, last), [code] = self.numbers(2), self.take(1)
-        if not 0 < code <= len(_CALLED):
-            self.unknown()
-        return Call(_CALLED[code - 1], first - 1, last)
 
     def need(self) -> Optional[Margin]:
         margin = Margin(*self.numbers(4))
