@@ -8,7 +8,9 @@ from typing import Callable, Iterator
 from patch_model import Cells
 
 Cell = int | None
-LARGEST_SIDE, MOST_TILES = 24, 5
+MOST_TILES = 5
+
+Span = tuple[int, int]  # first row or column, and their number
 
 
 def comb(rows: int, cols: int) -> Cells:
@@ -93,12 +95,8 @@ def random_rows(draw: random.Random, rows: int, cols: int) -> Cells:
     return cells
 
 
-def random_map(draw: random.Random) -> Cells:
-    """Return a random map of up to 24 x 24 cells, or a shape that is hard to cut."""
-    rows, cols = (
-        draw.choice([1, draw.randint(1, LARGEST_SIDE), draw.randint(1, LARGEST_SIDE)])
-        for _ in range(2)
-    )
+def random_cells(draw: random.Random, rows: int, cols: int) -> Cells:
+    """Return random cells, or a shape that is hard to cut."""
     if draw.random() < 0.2:
         return draw.choice(list(SHAPES.values()))(rows, cols)
     return random_rows(draw, rows, cols)
@@ -113,13 +111,11 @@ class Cut:
     ends: list[int]
     col_ends: list[int]
 
-    def tiles_of(self, cells: Cells) -> list[Cells]:
-        """Return the tiles of a map of this size, row by row."""
-        return [
-            [row[left:right] for row in cells[top:bottom]]
-            for top, bottom in zip([0, *self.ends], self.ends)
-            for left, right in zip([0, *self.col_ends], self.col_ends)
-        ]
+    def spans(self) -> Iterator[tuple[Span, Span]]:
+        """Yield the rows and columns of each tile, row by row."""
+        for top, bottom in zip([0, *self.ends], self.ends):
+            for left, right in zip([0, *self.col_ends], self.col_ends):
+                yield (top, bottom - top), (left, right - left)
 
 
 def random_ends(draw: random.Random, count: int) -> list[int]:
