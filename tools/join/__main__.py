@@ -34,9 +34,8 @@ import cases
 import made
 from flow import Flow, Job, Pipe, Wrong
 from jobs import features, job_of_cut, random_job
-from run_model import wrong_response
-from spoiled import all_spoiled, any_spoiled, exchanged, small_requests
-from test_join import MAGIC, BadRequest
+from spoiled import JOIN, all_spoiled, any_spoiled, exchanged, small_requests, wrong_response
+from test_join import BadRequest
 
 MODELLED = 0.25  # the share of flows that the model also runs
 MOST_BYTES = 3000  # a longer request is not spoiled, since the model is slow
@@ -84,7 +83,7 @@ class Checks:
 def spoil(checks: Checks, name: str, draw: random.Random, sent: list[bytes], runs: int) -> None:
     """Spoil some of the requests of a flow."""
     small = [data for data in sent if len(data) <= MOST_BYTES]
-    joins = [data for data in small if data.startswith(MAGIC)]
+    joins = [data for data in small if data.startswith(JOIN)]
     for _ in range(runs if small else 0):
         if joins and draw.random() < 0.3:
             checks.spoiled(f"{name}, exchanged", exchanged(draw, draw.choice(joins), joins))

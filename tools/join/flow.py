@@ -5,7 +5,7 @@ import os
 import struct
 import subprocess
 from collections import Counter
-from dataclasses import dataclass, field, replace
+from dataclasses import dataclass, field
 from typing import Iterable, NamedTuple, Optional, Sequence
 
 import test_join
@@ -63,8 +63,9 @@ class Job:
     extra: int = 0  # rows and columns of the halo beyond those that the plan needs
 
 
-def halo_of(frames: Sequence[test_plan.Frame]) -> Margin:
-    """Return the halo that a plan needs. The map of r.clump is read only at the same cell."""
+def halo_of(frames: Sequence[test_plan.Frame], questions: Sequence[Question]) -> Margin:
+    """Return the halo that a plan and questions need. The map of r.clump is read only at the same
+    cell."""
     depths: dict[bytes, Margin] = {}
     halo: Margin = NO_MARGIN
     for frame in frames:
@@ -76,6 +77,10 @@ def halo_of(frames: Sequence[test_plan.Frame]) -> Margin:
         halo = tuple(map(max, halo, deepest))
         if frame.made:
             depths[frame.made] = NO_MARGIN if frame.command == CLUMP else deepest
+    for question in questions:
+        reach = depths.get(question.map, NO_MARGIN) if question.kind & PATCHES else NO_MARGIN
+        depth = question.depth if question.kind & PATCHES else 0
+        halo = tuple(max(side, it + depth) for side, it in zip(halo, reach))
     return halo
 
 
@@ -148,23 +153,21 @@ class Flow:
         frames, end = test_plan.ResponseReader(plan).response()
         if end.status != DONE:
             raise Wrong(f"the plan: {end}")
-        return tuple(side + self.job.extra for side in halo_of(frames))
+        halo = halo_of(frames, self.job.questions)
+        return tuple(side + self.job.extra for side in halo)
 
     def tile_requests(self) -> Iterable[bytes]:
         job, (up, down, left, right) = self.job, self.planned_halo()
-        questions = [replace(it, kind=it.kind & ~PATCHES, zones=b"") for it in job.questions]
         for rows, cols in job.cut.spans():
             height = widened(rows, len(job.cut.cells), up, down)
             width = widened(cols, len(job.cut.cells[0]), left, right)
             place = place_of(job.maps, rows, cols, height, width)
-            yield tile_request(place, cut_maps(job.maps, height, width), job.script, questions)
+            yield tile_request(place, cut_maps(job.maps, height, width), job.script, job.questions)
 
     def check(self) -> None:
         """Raise Wrong if a result of the tiles is not the full map's."""
         job = self.job
         full = self.frames(request(job.maps, job.script, job.questions))
-        measures = {it["question"]: it for it in full if it["kind"] == b"PTCH"}
-        full = [it for it in full if it["kind"] != b"PTCH"]
         tiles = [self.frames(it) for it in self.tile_requests()]
         for frames in tiles:
             if [head(it) for it in frames] != [head(it) for it in full]:
@@ -172,9 +175,10 @@ class Flow:
         columns: Columns = list(zip(full, zip(*tiles)))
         for at, question in enumerate(job.questions):
             answers = {it[0]["kind"]: it for it in columns if it[0].get("question") == at}
-            self.check_numbers(answers, question.connectivity)
-            if at in measures and question.zones:
-                self.check_zones(columns, at, measures[at])
+            runs = self.check_numbers(answers, question.connectivity)
+            if question.kind & PATCHES:
+                self.check_patches(*answers[b"PTCH"], runs)
+                self.check_zones(columns, at, answers[b"PTCH"][0])
         for whole, parts in columns:
             if whole["kind"] == b"GRID":
                 self.check_rows(whole["rows"], parts, job.numbered.get(whole["name"]))
@@ -183,8 +187,9 @@ class Flow:
 
     # Questions
 
-    def check_numbers(self, answers: dict[bytes, tuple], connectivity: int) -> None:
-        """Compare the joined numbers of a question's patches with the full map's."""
+    def check_numbers(self, answers: dict[bytes, tuple], connectivity: int) -> list[Run]:
+        """Compare the joined numbers of a question's patches with the full map's. Return the runs
+        that join them."""
         sides = [it["border"] for it in answers[b"BORD"][1]]
         patches, runs = self.joined(borders(self.job.cut, sides, connectivity))
         self.numbers.append(full_numbers(runs))
@@ -193,6 +198,18 @@ class Flow:
         if patches != most:
             raise Wrong(f"{patches} patches, and not {most}")
         self.check_rows(whole["rows"], parts, len(self.numbers) - 1)
+        return runs
+
+    def check_patches(self, whole: Frame, parts: Sequence[Frame], runs: list[Run]) -> None:
+        """Compare the joined measures of a question's patches with the full map's."""
+        listed = tuple(
+            Part(tile, number, patch)
+            for tile, part in enumerate(parts, 1)
+            for number, patch in enumerate(part["patches"], 1)
+        )
+        found = self.joined(Patches(tuple(runs), listed).data())
+        if found != list(enumerate(whole["patches"], 1)):
+            raise Wrong(f"{found}, and not {whole}")
 
     def check_zones(self, columns: Columns, question: int, measures: Frame) -> None:
         """Compare the main zones of the joined table of patches and zones with the full map's."""

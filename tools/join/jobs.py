@@ -110,7 +110,7 @@ class JobMaker(ScriptMaker):
     def add_question(self) -> None:
         zones = self.one([b"", self.one(self.local)])
         place = self.one([4, 8]), self.number(1, DEEPEST)
-        kind = NUMBERS + BORDER + PATCHES
+        kind = NUMBERS + BORDER + PATCHES * (zones != b"" or self.chance(0.5))
         self.questions.append(Question(self.one(self.local), *place, zones, kind))
 
 

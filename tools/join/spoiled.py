@@ -1,4 +1,4 @@
-"""Spoil requests: truncate them, change their bytes, and exchange their parts."""
+"""Spoil requests, and compare the response to any request with the plain models."""
 from __future__ import annotations
 
 import random
@@ -8,16 +8,28 @@ from typing import Iterator, Sequence
 
 import joined_patches
 import test_join
-import test_pipe
 import test_plan
 from fuzz import damaged_bytes
 from joined_patches import Patches
-from pipe_model import NULL, Place, Question, Raster, request, tile_request
-from run_model import JOIN, PLAN, RUN, TEXT, TILE
+from pipe_model import Place, Question, Raster, request, tile_request
+from run_model import RUN, TEXT, TILE, wrong_run
 from test_join import BadRequest, JoinReader, Tables, Tiles
 
 FLIPS = (0x01, 0x80, 0xFF)
+PLAN, JOIN = b"RCELLP1\n", test_join.MAGIC
 MAGICS = (RUN, TEXT, TILE, PLAN, JOIN)
+
+
+def wrong_response(data: bytes, status: int, output: bytes) -> str:
+    """Return the error in the response to any request, or ''."""
+    if data[:8] == PLAN:
+        plan, wanted = test_plan.ResponseReader(output).response(), test_plan.expected(data)
+        return "" if (plan, status) == (wanted, wanted[1].status) else f"{plan}, {status}"
+    if data[:8] == JOIN:
+        found, expected = test_join.ResponseReader(output).response(), test_join.expected(data)
+        is_so = status == found[1].status and expected in (None, found)
+        return "" if is_so else f"{found}, {status}"
+    return wrong_run(data, status, output)
 
 
 def small_requests() -> Iterator[tuple[str, bytes]]:

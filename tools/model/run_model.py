@@ -1,28 +1,93 @@
-"""Compute the response of `rcell-pipe` to any request with the plain models, as docs/pipe.md defines
-it, and compare it with a given one."""
+"""Compute the response of `rcell-pipe` to a request for a run, a text or a tile with the plain models,
+as docs/pipe.md defines it, and compare it with a given one."""
 from __future__ import annotations
 
 import re
-from dataclasses import dataclass
+from dataclasses import dataclass, field, replace
+from functools import reduce
 from typing import Optional, Sequence
 
 import model
-import test_join
-import test_plan
+from joined_patches import parts_of_tile
 from model import Clump, Mapcalc, OutAscii, Refused, ScriptReader, Stats
 from model_expressions import Place as CellPlace
 from model_grids import CellMap, Region
-from pipe_model import Frame, Place, Question, Raster, Reader, Rejected, Response, printed, units
-from test_pipe import frames_of, known_names
-from test_plan import Done
-from test_tiles import halo_fault, halo_margin
+from patch_model import Cells, Patch, main_zones, patch_numbers, patches
+from pipe_model import BORDER, NUMBERS, PATCHES, Frame, Place, Question, Raster, Reader, Rejected
+from pipe_model import Response, border, printed, units
+from test_plan import Done, Need, reads_of
 
-RUN, TEXT, TILE, PLAN, JOIN = (b"RCELL" + letter + b"1\n" for letter in (b"Q", b"T", b"W", b"P", b"J"))
+RUN, TEXT, TILE = b"RCELLQ1\n", b"RCELLT1\n", b"RCELLW1\n"
 REQUEST, SCRIPT, QUESTION = 1, 2, 3  # the source of an error
 COLUMN = re.compile(r" at column (\d+)$")
+NO_MARGIN = (0, 0, 0, 0)
 
+Margin = tuple[Optional[int], ...]  # above, below, left and right; None up to the full map's end
 Statements = list[tuple[int, model.Statement]]
+Fault = Optional[tuple[int, bytes]]  # the line of a statement or number of a question, and the text
 Maps = dict[bytes, CellMap]
+
+
+# The halo of a tile
+
+
+def halo_margin(place: Place, rows: int, cols: int) -> Margin:
+    """Return the halo of a tile whose maps have these numbers of rows and columns."""
+    below = place.top + rows - place.tile_top - place.tile_rows
+    right = place.left + cols - place.tile_left - place.tile_cols
+    return (
+        place.tile_top - place.top if place.top else None,
+        below if place.top + rows < place.full_rows else None,
+        place.tile_left - place.left if place.left else None,
+        right if place.left + cols < place.full_cols else None,
+    )
+
+
+def margin_after_read(margin: Margin, reach: Need) -> Margin:
+    return tuple(None if a is None else a - b for a, b in zip(margin, reach[:4]))
+
+
+def is_exceeded(margin: Margin, depth: int = 0) -> bool:
+    """Return whether cells are read that are further away than a margin and a depth."""
+    return any(side is not None and side < depth for side in margin)
+
+
+def smaller(one: Margin, other: Margin) -> Margin:
+    return tuple(b if a is None else a if b is None else min(a, b) for a, b in zip(one, other))
+
+
+@dataclass
+class Halo:
+    """The margins of the maps of a tile, by name."""
+
+    given: Margin
+    margins: dict[bytes, Margin] = field(default_factory=dict)
+
+    def fault(self, statements: Statements) -> Fault:
+        """Return the first statement that cannot run in a tile. If there is none, add the margins
+        of the maps that the statements make."""
+        for line, statement in statements:
+            if isinstance(statement, Stats) and b"l" in statement.flags:
+                return line, b"labels in a tile"
+            left = [
+                margin_after_read(self.margins.get(name, self.given), reach)
+                for name, reach in reads_of(statement)
+            ]
+            if any(map(is_exceeded, left)):
+                return line, b"halo too small"
+            made = getattr(statement, "target", b"")
+            if made:
+                is_clump = isinstance(statement, Clump)
+                self.margins[made] = NO_MARGIN if is_clump else reduce(smaller, left, self.given)
+        return None
+
+    def lacks(self, question: Question) -> bool:
+        """Return whether a question needs a larger halo after the statements."""
+        margin = self.margins.get(question.map, self.given)
+        return bool(question.kind & PATCHES) and is_exceeded(margin, question.depth)
+
+
+# A run
 
 
 @dataclass(frozen=True)
@@ -49,13 +114,13 @@ class Moved(CellMap):
 class Run:
     """Runs a script over the maps of a request, and answers its questions about a tile of them."""
 
-    def __init__(self, place: Place, rasters: list[Raster], with_labels: bool):
-        self.place = place
+    def __init__(self, place: Place, rasters: list[Raster], is_tile: bool):
+        self.place, self.is_tile = place, is_tile
         first = rasters[0]
         self.edges = [units(text) or 0 for text in first.edges]
         self.region = Region(*self.edges, len(first.rows), len(first.rows[0]))
         self.maps: Maps = {
-            it.name: CellMap(self.region, it.cells(), dict(it.labels) if with_labels else {})
+            it.name: CellMap(self.region, it.cells(), {} if is_tile else dict(it.labels))
             for it in rasters
         }
 
@@ -104,10 +169,44 @@ class Run:
             statement.run(self.maps, self.region)
         return None
 
-    def answers(self, questions: Sequence[Question]) -> list[Frame]:
-        names = {name for it in questions for name in (it.map, it.zones) if name}
-        cells = {name: self.tile(name).rows for name in names}
-        return [frame for at, it in enumerate(questions) for frame in frames_of(at, it, cells)]
+    def frames(self, at: int, question: Question) -> list[Frame]:
+        """Return the frames of a question. Only the measures of patches depend on the cells around
+        a tile."""
+        cells, connectivity = self.tile(question.map).rows, question.connectivity
+        zones = self.tile(question.zones).rows if question.zones else None
+        rows = patch_numbers(cells, connectivity)
+        numbers = {"kind": b"NUMB", "question": at, "rows": rows}
+        sides = {"kind": b"BORD", "question": at, "border": border(cells, rows)}
+        measures = {
+            "kind": b"PTCH",
+            "question": at,
+            "connectivity": connectivity,
+            "depth": question.depth,
+            "patches": self.measures(question, rows),
+            "zones": None if zones is None else main_zones(cells, connectivity, zones),
+        }
+        wanted = (NUMBERS, numbers), (BORDER, sides), (PATCHES, measures)
+        return [frame for flag, frame in wanted if question.kind & flag]
+
+    def measures(self, question: Question, numbers: Cells) -> list[Patch]:
+        """Return the measures in the full map of the tile's patches."""
+        place, cells = self.place, self.maps[question.map].rows
+        if not self.is_tile:
+            return patches(cells, question.connectivity, question.depth)
+        top, left = place.tile_top - place.top, place.tile_left - place.left
+        tile = slice(top, top + place.tile_rows), slice(left, left + place.tile_cols)
+        # A depth beyond the maps is equivalent to one at their edges.
+        depth = min(question.depth, len(cells) + len(cells[0]))
+        return [
+            replace(
+                it.patch,
+                first_row=it.patch.first_row + place.top,
+                last_row=it.patch.last_row + place.top,
+                first_col=it.patch.first_col + place.left,
+                last_col=it.patch.last_col + place.left,
+            )
+            for it in parts_of_tile(cells, numbers, 0, tile, depth)
+        ]
 
 
 def rejected_script(fault: Refused) -> Expected:
@@ -116,39 +215,51 @@ def rejected_script(fault: Refused) -> Expected:
     return Expected(done=Done(1, SCRIPT, 0, *place, fault.text.encode()))
 
 
+def read(data: bytes) -> tuple[Place, list[Raster], bytes, list[Question]]:
+    """Read a request for a run, a text or a tile, or raise its first error."""
+    if data[:8] == TILE:
+        return Reader(data).run_in_tile()
+    maps, script, questions = Reader(RUN + data[8:] if data[:8] == TEXT else data).run()
+    size = len(maps[0].rows), len(maps[0].rows[0])
+    return Place(*size, 0, 0, 0, 0, *size), maps, script, questions
+
+
+def question_fault(magic: bytes, known: set[bytes], halo: Halo, asked: list[Question]) -> Fault:
+    """Return the first question that is rejected."""
+    for number, it in enumerate(asked, 1):
+        if magic == TEXT:
+            return number, b"question for a text"
+        if not {it.map, it.zones or it.map} <= known:
+            return number, b"unknown map"
+        if halo.lacks(it):
+            return number, b"halo too small"
+    return None
+
+
 def expected_of_run(data: bytes) -> Expected:
     """Return the response to a request for a run, a text or a tile."""
     magic = data[:8]
     try:
-        reader = Reader(RUN + data[8:] if magic == TEXT else data)
-        if magic == TILE:
-            place, maps, script, questions = reader.run_in_tile()
-        else:
-            maps, script, questions = reader.run()
-            size = len(maps[0].rows), len(maps[0].rows[0])
-            place = Place(*size, 0, 0, 0, 0, *size)
+        place, maps, script, questions = read(data)
     except Rejected as error:
         text, complete, row = error.place
         return Expected(done=Done(1, REQUEST, complete, row, 0, text))
-    names = [it.name for it in maps]
+    reader = ScriptReader(script, [it.name for it in maps])
     try:
-        statements = ScriptReader(script, names).read()
+        statements = reader.read()
     except Refused as fault:
         return rejected_script(fault)
-    if magic == TILE:
-        halo = halo_margin(place, len(maps[0].rows), len(maps[0].rows[0]))
-        found = halo_fault(halo, names, statements)
-        if found:
-            return Expected(done=Done(1, SCRIPT, 0, found[0], 0, found[1]))
-    if magic == TEXT and questions:
-        return Expected(done=Done(1, QUESTION, 0, 1, 0, b"question for a text"))
-    known = known_names(names, script)
-    for at, it in enumerate(questions, 1):
-        if not {it.map, it.zones or it.map} <= known:
-            return Expected(done=Done(1, QUESTION, 0, at, 0, b"unknown map"))
-    run = Run(place, maps, magic != TILE)
+    halo = Halo(halo_margin(place, len(maps[0].rows), len(maps[0].rows[0])))
+    found = halo.fault(statements) if magic == TILE else None
+    if found:
+        return Expected(done=Done(1, SCRIPT, 0, found[0], 0, found[1]))
+    found = question_fault(magic, reader.known, halo, questions)
+    if found:
+        return Expected(done=Done(1, QUESTION, 0, found[0], 0, found[1]))
+    run = Run(place, maps, magic == TILE)
     texts = [(line, run.output(statement)) for line, statement in statements]
-    return Expected([(line, it) for line, it in texts if it is not None], run.answers(questions))
+    frames = [frame for at, it in enumerate(questions) for frame in run.frames(at, it)]
+    return Expected([(line, it) for line, it in texts if it is not None], frames)
 
 
 def wrong_frames(wanted: Expected, status: int, output: bytes) -> str:
@@ -168,18 +279,3 @@ def wrong_run(data: bytes, status: int, output: bytes) -> str:
         text = b"".join(it for _, it in wanted.texts)
         return "" if (status, output) == (0, text) else f"{output!r}, {status}"
     return wrong_frames(wanted, status, output)
-
-
-def wrong_response(data: bytes, status: int, output: bytes) -> str:
-    """Return the error in the response to any request, or ''."""
-    magic = data[:8]
-    if magic == PLAN:
-        wanted = test_plan.expected(data)
-        plan = test_plan.ResponseReader(output).response()
-        return "" if (plan, status) == (wanted, wanted[1].status) else f"{plan}, {status}"
-    if magic == JOIN:
-        expected = test_join.expected(data)
-        found = test_join.ResponseReader(output).response()
-        is_so = status == found[1].status and expected in (None, found)
-        return "" if is_so else f"{found}, {status}"
-    return wrong_run(data, status, output)

@@ -31,12 +31,11 @@ from dataclasses import replace
 from typing import Iterator, Optional
 
 import cases
+import run_model
 from fuzz import damaged_bytes
 from made_cases import NAMES, ScriptMaker
 from model import Refused, ScriptReader
-from patch_model import Cells, main_zones, patch_numbers, patches
 from pipe_model import (
-    BORDER,
     NULL,
     NUMBERS,
     PATCHES,
@@ -49,7 +48,6 @@ from pipe_model import (
     Reader,
     Rejected,
     Response,
-    border,
     cell_text,
     header,
     printed,
@@ -225,80 +223,11 @@ def as_text(data: bytes) -> bytes:
     return b"RCELLT1\n" + data[8:] if data.startswith(b"RCELLQ1\n") else data
 
 
-def rejected_question(maps: list[Raster], script: bytes, questions: list[Question]) -> int:
-    """Return the number of the first question about a map or zones that do not exist, or 0."""
-    known = known_names([it.name for it in maps], script)
-    return next(
-        (at for at, it in enumerate(questions, 1) if not {it.map, it.zones or it.map} <= known), 0
-    )
-
-
-def wrong_rejection(end: Frame, frames: list[Frame], number: int, text: bytes) -> str:
-    """Return the error in a response that must reject a question, or ''."""
-    got = [end[key] for key in ("status", "source", "maps", "line", "column", "text")]
-    wanted = [STATUS_REJECTED, 3, 0, number, 0, text]
-    return "" if got == wanted and not frames else f"{got} is not {wanted}"
-
-
-def wrong_answers(
-    programs: Programs,
-    maps: list[Raster],
-    script: bytes,
-    questions: list[Question],
-    answers: list[Frame],
-) -> str:
-    """Return the error in the frames of questions, compared with the plain model over the maps that
-    the program prints."""
-    names = sorted({name for it in questions for name in (it.map, it.zones) if name})
-    printing = b"".join(b"\nr.out.ascii input=%s\n" % name for name in names)
-    shown = programs.frames(request(maps, script + printing))[-len(names) - 1 : -1]
-    cells = {name: grid["rows"] for name, grid in zip(names, shown)}
-    wanted = [frame for place, it in enumerate(questions) for frame in frames_of(place, it, cells)]
-    return "" if answers == wanted else f"{script!r}, {questions}: {answers} is not {wanted}"
-
-
-def frames_of(place: int, question: Question, maps: dict[bytes, Cells]) -> list[Frame]:
-    """Return the frames of a question, by the plain model."""
-    cells, connectivity = maps[question.map], question.connectivity
-    rows = patch_numbers(cells, connectivity)
-    numbers = {"kind": b"NUMB", "question": place, "rows": rows}
-    sides = {"kind": b"BORD", "question": place, "border": border(cells, rows)}
-    measures = {
-        "kind": b"PTCH",
-        "question": place,
-        "connectivity": connectivity,
-        "depth": question.depth,
-        "patches": patches(cells, connectivity, question.depth),
-        "zones": main_zones(cells, connectivity, maps[question.zones]) if question.zones else None,
-    }
-    wanted = (NUMBERS, numbers), (BORDER, sides), (PATCHES, measures)
-    return [frame for flag, frame in wanted if question.kind & flag]
-
-
-def wrong_questions(
-    programs: Programs, maps: list[Raster], script: bytes, questions: list[Question]
-) -> str:
-    """Return the error in the frames or the rejection of questions after an accepted script."""
-    data = request(maps, script, questions)
-    *frames, end = programs.frames(data)
-    *of_text, end_of_text = programs.frames(as_text(data))
-    found = wrong_rejection(end_of_text, of_text, 1, b"question for a text")
-    if found:
-        return f"as text: {found}"
-    number = rejected_question(maps, script, questions)
-    if number:
-        return wrong_rejection(end, frames, number, b"unknown map")
-    *before, end_before = programs.frames(request(maps, script))
-    answers = frames[len(before) :]
-    if frames[: len(before)] != before or end != end_before:
-        return f"{script!r}: {frames}, {end} and not {before} with answers to {questions}"
-    return wrong_answers(programs, maps, script, questions, answers)
-
-
 def wrong_run(
     programs: Programs, maps: list[Raster], script: bytes, questions: list[Question]
 ) -> str:
-    """Return the error in the response to an accepted request, compared with rcell."""
+    """Return the error in the response to an accepted request, compared with rcell, and with the
+    plain model if there are questions."""
     data = request(maps, script)
     *frames, end = programs.frames(data)
     status, output, message, before = programs.over_text(maps, script)
@@ -307,14 +236,10 @@ def wrong_run(
     as_rcell = (status, output) if status == STATUS_DONE else programs.run(data)
     if programs.run(as_text(data)) != as_rcell:
         return f"{script!r}: as text {programs.run(as_text(data))} is not {as_rcell}"
-    if questions:
-        wrong = (
-            wrong_questions(programs, maps, script, questions)
-            if status == STATUS_DONE
-            else wrong_script(programs, maps, script, questions)
-        )
+    for asked in (request(maps, script, questions), as_text(request(maps, script, questions))):
+        wrong = run_model.wrong_run(asked, *programs.run(asked)) if questions else ""
         if wrong:
-            return wrong
+            return f"{script!r}, {questions}: {wrong}"
     if status == STATUS_DONE:
         text = b"".join(map(printed, frames))
         return "" if text == output else f"{script!r}: {text!r} is not {output!r}"
@@ -328,14 +253,6 @@ def wrong_run(
         if got == wanted and not frames
         else f"{script!r}: {got} is not {wanted}, after {len(frames)} frames"
     )
-
-
-def wrong_script(
-    programs: Programs, maps: list[Raster], script: bytes, questions: list[Question]
-) -> str:
-    """Return the error if an error of the script is not reported before an error of a question."""
-    found, wanted = (programs.run(request(maps, script, asked)) for asked in (questions, ()))
-    return "" if found == wanted else f"{script!r} with {questions}: {found} is not {wanted}"
 
 
 def wrong_reading(programs: Programs, data: bytes) -> str:
