@@ -137,7 +137,11 @@ LATE = [
         "rcell on each case, with each growth refused in turn",
         [tool("model/cases.py", CLANG)],
     ),
-    Part("joined", "maps joined from tiles by rcell-pipe beside full maps", [tool("join")]),
+    Part(
+        "joined",
+        "scripts over tiles, joined by rcell-pipe, beside full maps, and spoiled requests",
+        [tool("join")],
+    ),
     Part(
         "pipe",
         "rcell-pipe on random requests beside rcell, and on damaged ones",

@@ -8,7 +8,7 @@ and compare them with the full maps. Also spoil requests.
   halo that the plan of its script needs, requests for all tiles, and requests that join their
   tables, borders and patches: each result must equal the full maps'. For one flow in four, each
   response must also equal the plain model's.
-- N spoiled requests of each flow: truncated, with other bytes, mixed with others, or with exchanged
+- N spoiled requests of each flow: truncated, with other bytes, mixed with others, or with swapped
   parts. Also each truncation and each changed byte of small requests of each kind. A response must
   be the first error that the plain reader finds, or the plain model's response if the request is
   still valid. The program has little memory.
@@ -22,8 +22,8 @@ import os
 import random
 import resource
 import struct
-import subprocess
 import sys
+import tempfile
 from collections import Counter
 
 ROOT = os.path.abspath(f"{__file__}/../../..")
@@ -34,20 +34,20 @@ import cases
 import made
 from flow import Flow, Job, Pipe, Wrong
 from jobs import features, job_of_cut, random_job
-from spoiled import JOIN, all_spoiled, any_spoiled, exchanged, small_requests, wrong_response
+from spoiled import JOIN, all_spoiled, any_spoiled, swapped, small_requests, wrong_response
 from test_join import BadRequest
 
 MODELLED = 0.25  # the share of flows that the model also runs
 MOST_BYTES = 3000  # a longer request is not spoiled, since the model is slow
 MOST_MEMORY = 300 << 20
-BAD = (Wrong, ValueError, BadRequest, struct.error, subprocess.SubprocessError)
+BAD = (Wrong, ValueError, BadRequest, struct.error, OSError)
 
 
 class Checks:
     """Counts what passed, and what was tried."""
 
-    def __init__(self, program: str):
-        self.pipe, self.count = Pipe(program), cases.Count()
+    def __init__(self, pipe: Pipe):
+        self.pipe, self.count = pipe, cases.Count()
         self.tried: Counter[str] = Counter()
 
     def flow(self, name: str, job: Job) -> Flow:
@@ -86,7 +86,7 @@ def spoil(checks: Checks, name: str, draw: random.Random, sent: list[bytes], run
     joins = [data for data in small if data.startswith(JOIN)]
     for _ in range(runs if small else 0):
         if joins and draw.random() < 0.3:
-            checks.spoiled(f"{name}, exchanged", exchanged(draw, draw.choice(joins), joins))
+            checks.spoiled(f"{name}, swapped", swapped(draw, draw.choice(joins), joins))
         else:
             checks.spoiled(f"{name}, spoiled", any_spoiled(draw, draw.choice(small), small))
 
@@ -105,6 +105,17 @@ def random_flows(checks: Checks, seeds: range, spoiled: int) -> None:
         before = sent
 
 
+def check_all(checks: Checks, runs: int, seed: int, spoiled: int) -> None:
+    for name, cut in made.hard_cuts():
+        for connectivity in (4, 8):
+            checks.flow(f"{name}, {connectivity}", job_of_cut(cut, connectivity))
+    resource.setrlimit(resource.RLIMIT_AS, (MOST_MEMORY, MOST_MEMORY))
+    random_flows(checks, range(seed, seed + runs), spoiled)
+    for name, data in small_requests():
+        for number, it in enumerate([data, *all_spoiled(data)]):
+            checks.spoiled(f"{name}, {number}", it)
+
+
 def main() -> int:
     words = argparse.ArgumentParser(
         description=__doc__, formatter_class=argparse.RawDescriptionHelpFormatter
@@ -114,15 +125,11 @@ def main() -> int:
     words.add_argument("--seed", type=int, default=1)
     words.add_argument("--spoiled", type=int, default=4, help="spoiled requests of a flow")
     given = words.parse_args()
-    checks = Checks(given.program)
-    for name, cut in made.hard_cuts():
-        for connectivity in (4, 8):
-            checks.flow(f"{name}, {connectivity}", job_of_cut(cut, connectivity))
-    resource.setrlimit(resource.RLIMIT_AS, (MOST_MEMORY, MOST_MEMORY))
-    random_flows(checks, range(given.seed, given.seed + given.runs), given.spoiled)
-    for name, data in small_requests():
-        for number, it in enumerate([data, *all_spoiled(data)]):
-            checks.spoiled(f"{name}, {number}", it)
+    with tempfile.TemporaryDirectory(
+        prefix="join-", dir="/dev/shm" if os.path.isdir("/dev/shm") else None
+    ) as folder:
+        checks = Checks(Pipe(given.program, folder))
+        check_all(checks, given.runs, given.seed, given.spoiled)
     for what, times in checks.tried.most_common():
         print(f"{times:8} {what}")
     print(f"{checks.count.passed} passed, {checks.count.failed} failed")

@@ -2,11 +2,11 @@
 from __future__ import annotations
 
 import os
+import signal
 import struct
-import subprocess
 from collections import Counter
 from dataclasses import dataclass, field
-from typing import Iterable, NamedTuple, Optional, Sequence
+from typing import Any, Iterable, NamedTuple, Optional, Sequence
 
 import test_join
 import test_plan
@@ -24,18 +24,42 @@ NO_MARGIN = (0, 0, 0, 0)
 
 Margin = tuple[int, ...]  # rows above and below, columns to the left and right
 Numbers = dict[tuple[int, int], int]  # the full map's number of a patch of a tile
-Columns = list[tuple[Frame, tuple[Frame, ...]]]  # frames of the full map, and those of the tiles
+Columns = list[tuple[Frame, tuple[Frame, ...]]]  # frames of the full map, and of the tiles
 
 
 class Pipe:
-    """Runs rcell-pipe."""
+    """Runs rcell-pipe. Its input and output are files in a folder, which is faster than pipes."""
 
-    def __init__(self, program: str):
+    def __init__(self, program: str, folder: str):
         self.program = os.path.abspath(program)
+        self.request, self.response = f"{folder}/request", f"{folder}/response"
+        writing = os.O_WRONLY | os.O_CREAT | os.O_TRUNC
+        self.actions = [
+            (os.POSIX_SPAWN_OPEN, 0, self.request, os.O_RDONLY, 0),
+            (os.POSIX_SPAWN_OPEN, 1, self.response, writing, 0o600),
+        ]
+        signal.signal(signal.SIGALRM, stop_waiting)
 
     def run(self, data: bytes) -> tuple[int, bytes]:
-        ran = subprocess.run([self.program], input=data, stdout=subprocess.PIPE, timeout=SECONDS)
-        return ran.returncode, ran.stdout
+        """Return the exit status and the response. Raise TimeoutError if the program hangs."""
+        with open(self.request, "wb") as file:
+            file.write(data)
+        child = os.posix_spawn(self.program, [self.program], {}, file_actions=self.actions)
+        try:
+            signal.alarm(SECONDS)
+            _, status = os.waitpid(child, 0)
+        except TimeoutError:
+            os.kill(child, signal.SIGKILL)
+            os.waitpid(child, 0)
+            raise
+        finally:
+            signal.alarm(0)
+        with open(self.response, "rb") as file:
+            return os.waitstatus_to_exitcode(status), file.read()
+
+
+def stop_waiting(number: int, frame: Any) -> None:
+    raise TimeoutError(f"no end after {SECONDS} s")
 
 
 class Wrong(Exception):
@@ -224,7 +248,9 @@ class Flow:
 
     # Grids and tables
 
-    def renumbered(self, cells: Iterable[Optional[int]], tile: int, question: Optional[int]) -> Line:
+    def renumbered(
+        self, cells: Iterable[Optional[int]], tile: int, question: Optional[int]
+    ) -> Line:
         """Return the full map's numbers if the cells are numbers of a tile's patches."""
         if question is None:
             return tuple(cells)

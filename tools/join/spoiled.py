@@ -88,8 +88,8 @@ def any_spoiled(draw: random.Random, data: bytes, others: Sequence[bytes]) -> by
     return damaged_bytes(draw, data) if kind == 5 else data + other[: draw.choice([8, len(other)])]
 
 
-def exchanged(draw: random.Random, data: bytes, others: Sequence[bytes]) -> bytes:
-    """Return a join request whose tables, borders or patches are exchanged, sent twice, of another
+def swapped(draw: random.Random, data: bytes, others: Sequence[bytes]) -> bytes:
+    """Return a join request whose tables, borders or patches are swapped, sent twice, of another
     tile or request, or of another connectivity."""
     try:
         one, other = (JoinReader(it).request() for it in (data, draw.choice(others)))
@@ -104,7 +104,7 @@ def exchanged(draw: random.Random, data: bytes, others: Sequence[bytes]) -> byte
 
 
 def with_other_item(draw: random.Random, items: tuple, others: tuple) -> tuple:
-    """Return items of which two are exchanged, or one occurs twice or is another."""
+    """Return items of which two are swapped, or one occurs twice or is another."""
     if not items:
         return others
     found, (one, two) = list(items), (draw.randrange(len(items)) for _ in range(2))

@@ -112,7 +112,7 @@ class Moved(CellMap):
 
 
 class Run:
-    """Runs a script over the maps of a request, and answers its questions about a tile of them."""
+    """Runs a script over the maps of a request, and returns the frames of its questions."""
 
     def __init__(self, place: Place, rasters: list[Raster], is_tile: bool):
         self.place, self.is_tile = place, is_tile

@@ -28,7 +28,7 @@ import run_model
 from fuzz import damaged_bytes
 from made_cases import NAMES, ScriptMaker
 from model import Refused, ScriptReader
-from pipe_model import PATCHES, Place, Question, Raster, Response, tile_request
+from pipe_model import BORDER, NUMBERS, PATCHES, Place, Question, Raster, Response, tile_request
 from run_model import Halo, Statements
 from test_pipe import BIN, known_names, random_edges, random_raster
 
@@ -69,7 +69,14 @@ def statements_of(names: list[bytes], script: bytes) -> Statements:
 def random_script(choice: random.Random, names: list[bytes]) -> bytes:
     """Return a valid script. Few scripts print labels, which a tile does not have."""
     maker = ScriptMaker(choice)
-    makers = [maker.stats, maker.out_ascii, maker.mapcalc, maker.mapcalc, maker.reclass, maker.clump]
+    makers = [
+        maker.stats,
+        maker.out_ascii,
+        maker.mapcalc,
+        maker.mapcalc,
+        maker.reclass,
+        maker.clump,
+    ]
     while True:
         known, lines = list(names), []
         for _ in range(choice.randint(1, 6)):
@@ -195,6 +202,8 @@ def named_errors() -> Iterator[tuple[str, bytes]]:
     yield "halo too small", tile_request(good, [land], b"r.mapcalc a = land[-1,0]\n")
     yield "halo too small", tile_request(good, [land], b"r.mapcalc a = land[0,-2]\n")
     yield "", tile_request(good, [land], b"r.mapcalc a = land[0,-1]\n")
+    yield "halo too small", tile_request(good, [land], script, [Question(b"land")])
+    yield "", tile_request(good, [land], script, [Question(b"land", kind=NUMBERS + BORDER)])
     yield "bad magic", b"RCELLW2" + tile_request(good, [land], script)[7:]
     yield "bytes after the request", tile_request(good, [land], script) + b"\n"
 
