@@ -162,21 +162,35 @@ private:
     std::vector<Patch> patches;
 };
 
-template <typename Number> void put(std::vector<uint8_t> &out, Number number) {
-    const auto *bytes = reinterpret_cast<const uint8_t *>(&number);
-    out.insert(out.end(), bytes, bytes + sizeof number);
-}
+// Collects bytes, and writes them to standard output.
+class Output {
+public:
+    template <typename Number> void put(Number number) {
+        std::memcpy(&block[size], &number, sizeof number);
+        size += sizeof number;
+    }
 
-void put_patch(std::vector<uint8_t> &out, const Patch &patch) {
-    put(out, int32_t(patch.category));
-    for (const uint64_t number : {patch.cells, patch.ends, patch.flanks, patch.core, patch.first_row, patch.last_row, patch.first_col, patch.last_col})
-        put(out, number);
-}
+    void put(const char *letters) {
+        while (*letters != 0) put(*letters++);
+    }
 
-void write(std::vector<uint8_t> &out) {
-    std::fwrite(out.data(), 1, out.size(), stdout);
-    out.clear();
-}
+    void put(const Patch &patch) {
+        if (size + 100 > sizeof block) write();
+        put(int32_t(patch.category));
+        put(uint64_t(patch.cells)), put(uint64_t(patch.ends)), put(uint64_t(patch.flanks)), put(uint64_t(patch.core));
+        put(uint64_t(patch.first_row)), put(uint64_t(patch.last_row));
+        put(uint64_t(patch.first_col)), put(uint64_t(patch.last_col));
+    }
+
+    void write() {
+        std::fwrite(block, 1, size, stdout);
+        size = 0;
+    }
+
+private:
+    uint8_t block[65536];
+    size_t size = 0;
+};
 
 std::vector<uint8_t> take(size_t count) {
     std::vector<uint8_t> bytes(count);
@@ -198,16 +212,17 @@ int main() {
     const uint32_t rows = take_number(), cols = take_number();
     take(14);
     Measuring measuring(cols);
-    for (uint32_t r = 0; r < rows; r++) measuring.row(take(cols).data(), cols, r);
-    const std::vector<Patch> &patches = measuring.end(rows);
-    std::vector<uint8_t> out;
-    for (const char letter : {'R', 'C', 'E', 'L', 'L', 'A', '1', '\n', 'P', 'T', 'C', 'H'}) put(out, letter);
-    put(out, uint64_t(0)), put(out, uint8_t(4)), put(out, uint32_t(1)), put(out, uint8_t(0)), put(out, uint64_t(patches.size()));
-    for (const Patch &patch : patches) {
-        put_patch(out, patch);
-        if (out.size() > 65536) write(out);
+    std::vector<uint8_t> cells(cols);
+    for (uint32_t r = 0; r < rows; r++) {
+        if (std::fread(cells.data(), 1, cols, stdin) != cols) return 1;
+        measuring.row(cells.data(), cols, r);
     }
-    for (const char letter : {'D', 'O', 'N', 'E'}) put(out, letter);
-    for (int zeros = 0; zeros < 6; zeros++) put(out, uint64_t(0));
-    write(out);
+    const std::vector<Patch> &patches = measuring.end(rows);
+    static Output out;
+    out.put("RCELLA1\nPTCH");
+    out.put(uint64_t(0)), out.put(uint8_t(4)), out.put(uint32_t(1)), out.put(uint8_t(0)), out.put(uint64_t(patches.size()));
+    for (const Patch &patch : patches) out.put(patch);
+    out.put("DONE");
+    for (int zeros = 0; zeros < 6; zeros++) out.put(uint64_t(0));
+    out.write();
 }

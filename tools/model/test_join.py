@@ -5,7 +5,7 @@
 
 - worked examples: patches that meet along seams, at the corner of four tiles, and around a tile;
   tables
-- each error by name, each truncation of a request, and spoiled borders
+- each error by name, and spoiled borders
 - N random maps, cut at random: the numbers and the joined measures must equal the numbers and the
   measures of the full map's patches; N random lists of tables; some requests are
   damaged
@@ -637,9 +637,6 @@ def check_errors(tests: Tests) -> None:
         says = found[1].text.decode() if found else "too many patches"
         tests.check(text, "" if says == text else f"the model says {says} of {data!r}")
         tests.check(text, tests.wrong(data))
-    for data in (GOOD.data(), TWO_TABLES.data(), TWO_PARTS.data()):
-        for length in range(len(data)):
-            tests.check(f"the first {length} bytes", tests.wrong(data[:length]))
 
 
 def check_random_tables(tests: Tests, chance: random.Random, name: str) -> None:

@@ -1,15 +1,14 @@
 #!/usr/bin/env python3
-"""Compare rcell-pipe with rcell on the same maps as text, and with a plain reader of requests.
+"""Compare rcell-pipe with rcell on the same maps as text, and with a plain model.
 
     test_pipe.py [CLANG] [--program PROGRAM] [--rcell PROGRAM] [--runs N] [--seed N]
 
 - N random requests of all types, with nodata, masks, labels and scripts of tools/model/fuzz.py: the
   printed frames must be the output of rcell, and errors of scripts the errors of rcell; as text,
-  the response must be that output, or the same rejection
+  the response must be that output, or the same rejection; with questions, it must be the model's
 - the request of the crate rcell_pipe, and the response that the gate compares with the proved
   program's
-- each error of a request by name, each truncation of ten requests, and random damage: the first
-  error must be the plain reader's
+- each error of a request by name: the response must be the model's
 - a caller that stops reading, a request that announces a large map, and, with CLANG, each growth,
   read and write that fails
 
@@ -32,7 +31,6 @@ from typing import Iterator, Optional
 
 import cases
 import run_model
-from fuzz import damaged_bytes
 from made_cases import NAMES, ScriptMaker
 from model import Refused, ScriptReader
 from pipe_model import (
@@ -45,8 +43,6 @@ from pipe_model import (
     Frame,
     Question,
     Raster,
-    Reader,
-    Rejected,
     Response,
     cell_text,
     header,
@@ -59,11 +55,8 @@ BIN = os.environ.get("RCELL_BIN", f"{ROOT}/bin")
 SIZES = [(1, 1), (1, 70), (3, 5), (7, 130), (40, 1), (9, 64), (5, 65), (2, 3), (4, 4)]
 LABELS = [b"wood", b"a b", b"x", b"l\xc3\xa4nge"]
 STATUS_DONE, STATUS_REJECTED, STATUS_MEMORY, STATUS_FAILED = 0, 1, 3, 4
-TAKEN = re.compile(rb"q[0-9]")  # names of the grids that r.reclass reads
 MESSAGE = re.compile(rb"rcell: script:(\d+): (.*?(?: at column (\d+))?)\n")
 MOST_MEMORY = 64 << 20  # for a program with a large header and no rows
-LONGEST_WHOLE = 300  # a longer request is not cut at each byte
-DAMAGED_IN = 4  # one random request in this many is also damaged
 MOMENT = 0.3  # seconds after which a program would have written
 SECONDS = 120
 
@@ -223,11 +216,8 @@ def as_text(data: bytes) -> bytes:
     return b"RCELLT1\n" + data[8:] if data.startswith(b"RCELLQ1\n") else data
 
 
-def wrong_run(
-    programs: Programs, maps: list[Raster], script: bytes, questions: list[Question]
-) -> str:
-    """Return the error in the response to an accepted request, compared with rcell, and with the
-    plain model if there are questions."""
+def wrong_run(programs: Programs, maps: list[Raster], script: bytes) -> str:
+    """Return the error in the response to an accepted request, compared with rcell."""
     data = request(maps, script)
     *frames, end = programs.frames(data)
     status, output, message, before = programs.over_text(maps, script)
@@ -236,10 +226,6 @@ def wrong_run(
     as_rcell = (status, output) if status == STATUS_DONE else programs.run(data)
     if programs.run(as_text(data)) != as_rcell:
         return f"{script!r}: as text {programs.run(as_text(data))} is not {as_rcell}"
-    for asked in (request(maps, script, questions), as_text(request(maps, script, questions))):
-        wrong = run_model.wrong_run(asked, *programs.run(asked)) if questions else ""
-        if wrong:
-            return f"{script!r}, {questions}: {wrong}"
     if status == STATUS_DONE:
         text = b"".join(map(printed, frames))
         return "" if text == output else f"{script!r}: {text!r} is not {output!r}"
@@ -255,36 +241,13 @@ def wrong_run(
     )
 
 
-def wrong_reading(programs: Programs, data: bytes) -> str:
-    """Return the error if bytes are not read as the plain reader does, up to the same first
-    error."""
-    if data.startswith((b"RCELLP1\n", b"RCELLT1\n", b"RCELLW1\n")):
-        return ""  # the damage changed its form
-    try:
-        maps, script, questions = Reader(data).run()
-    except Rejected as error:
-        *frames, end = programs.frames(data)
-        got = (
-            end["status"],
-            end["source"],
-            (end["text"], end["maps"], end["line"]),
-            end["column"],
-            len(frames),
-        )
-        wanted = STATUS_REJECTED, 1, error.place, 0, 0
-        is_same = programs.run(as_text(data)) == programs.run(data)
-        return (
-            "" if got == wanted and is_same else f"{data!r}: {got} is not {wanted}, or not as text"
-        )
-    if not all(is_plain(it) for it in maps):
-        programs.frames(data)
-        return ""
-    return wrong_run(programs, maps, script, questions)
-
-
-def is_plain(raster: Raster) -> bool:
-    """Return whether a map can be passed to rcell as text, with its labels as rules."""
-    return all(text in LABELS for _, text in raster.labels) and not TAKEN.match(raster.name)
+def wrong_response(programs: Programs, data: bytes) -> str:
+    """Return the error in the response as frames or as text, compared with the plain model."""
+    for form in (data, as_text(data)):
+        wrong = run_model.wrong_run(form, *programs.run(form))
+        if wrong:
+            return f"{form!r}: {wrong}"
+    return ""
 
 
 def named_errors() -> Iterator[tuple[str, bytes]]:
@@ -367,37 +330,22 @@ def wrong_crate(programs: Programs) -> str:
         response = file.read()
     if programs.run(data) != (STATUS_DONE, response):
         return "the response is another"
-    return wrong_reading(programs, data)
+    return wrong_response(programs, data)
 
 
 def check_errors(programs: Programs, count: cases.Count) -> None:
     for text, data in named_errors():
         said = programs.frames(data)[-1]["text"].decode()
         count.add(f"the error {text}", "" if said == text else f"{said!r}")
-        count.add(f"the place of {text}", wrong_reading(programs, data))
-
-
-def check_damage(programs: Programs, count: cases.Count, choice: random.Random, runs: int) -> None:
-    """Check each truncation of ten requests, and some random requests with a few changed bytes."""
-    for number in range(10):
-        data = request(*random_request(choice))
-        places = (
-            range(len(data))
-            if len(data) < LONGEST_WHOLE
-            else sorted(choice.sample(range(len(data)), LONGEST_WHOLE))
-        )
-        wrong = (wrong_reading(programs, data[:at]) for at in places)
-        count.add(f"request {number}, cut short", next(filter(None, wrong), ""))
-    for number in range(runs // DAMAGED_IN):
-        count.add(
-            f"damaged request {number}",
-            wrong_reading(programs, damaged_bytes(choice, request(*random_request(choice)))),
-        )
+        count.add(f"the place of {text}", wrong_response(programs, data))
 
 
 def check_random(programs: Programs, count: cases.Count, choice: random.Random, runs: int) -> None:
     for number in range(runs):
-        count.add(f"request {number}", wrong_reading(programs, request(*random_request(choice))))
+        maps, script, questions = random_request(choice)
+        count.add(f"request {number}, by rcell", wrong_run(programs, maps, script))
+        data = request(maps, script, questions)
+        count.add(f"request {number}, by the model", wrong_response(programs, data))
 
 
 # What the system does
@@ -629,7 +577,6 @@ def main() -> int:
         count.add("the request of the crate", wrong_crate(programs))
         check_errors(programs, count)
         check_random(programs, count, choice, given.runs)
-        check_damage(programs, count, choice, given.runs)
         check_system(programs, count, given.clang)
     print(f"{count.passed} passed, {count.failed} failed")
     return 1 if count.failed else 0

@@ -5,7 +5,7 @@ field by field.
     test_plan.py [--program PROGRAM] [--runs N] [--seed N]
 
 - worked examples: maps made from made maps, r.clump in between, a position, labels
-- each error of a plan request by name, and each truncation of a request
+- each error of a plan request by name
 - N random scripts of tools/model/fuzz.py, most of them valid; some requests are damaged
 
 The last line is 'N passed, M failed'.
@@ -404,9 +404,6 @@ def check_errors(tests: Tests) -> None:
         found = expected(data)[1].text.decode()
         tests.check(text, "" if found == text else f"the model says {found}")
         tests.check(text, tests.wrong(data))
-    whole = request([b"g", b"h"], EXAMPLES["made maps add up"][0])
-    for length in range(len(whole)):
-        tests.check(f"the first {length} bytes", tests.wrong(whole[:length]))
 
 
 def main() -> int:
