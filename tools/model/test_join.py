@@ -38,8 +38,8 @@ from joined_patches import (
     parts_of_tile,
     randomly_changed_patches,
 )
-from model import neighbours
-from pipe_model import NULL
+from patch_model import Cells, patch_numbers
+from pipe_model import NULL, border
 from test_plan import BadRequest, Done, Reader
 
 MAGIC = b"RCELLJ1\n"
@@ -53,7 +53,6 @@ MODELLED_PATCHES = 100_000  # a damaged request may announce more than the model
 SECONDS = 60
 
 Cell = Optional[int]
-Cells = Sequence[Sequence[Cell]]
 Line = tuple[Cell, ...]
 Side = tuple[Line, Line]  # cells, and the numbers of their patches
 Run = tuple[int, ...]  # the tile, the first and last number in it, the number in the full map
@@ -131,33 +130,9 @@ class Tables:
         return out
 
 
-def numbered(cells: Cells, with_corners: bool) -> list[list[Cell]]:
-    """Return the numbers of a map's patches, in the order of their first cells."""
-    numbers: list[list[Cell]] = [[None] * len(row) for row in cells]
-    count = itertools.count(1)
-    for first in itertools.product(range(len(cells)), range(len(cells[0]))):
-        category, number = cells[first[0]][first[1]], numbers[first[0]][first[1]]
-        if category is None or number is not None:
-            continue
-        number, to_visit = next(count), [first]
-        while to_visit:
-            row, col = to_visit.pop()
-            numbers[row][col] = number
-            for near in neighbours(row, col, with_corners):
-                if 0 <= near[0] < len(cells) and 0 <= near[1] < len(cells[0]):
-                    is_new = numbers[near[0]][near[1]] is None
-                    if is_new and cells[near[0]][near[1]] == category:
-                        to_visit.append(near)
-    return numbers
-
-
-def border_of(cells: Cells, with_corners: bool) -> Border:
-    maps = cells, numbered(cells, with_corners)
-    rows = [tuple(tuple(of[at]) for of in maps) for at in (0, -1)]
-    cols = [tuple(tuple(row[at] for row in of) for of in maps) for at in (0, -1)]
-    most = itertools.accumulate((max([0, *filter(None, row)]) for row in maps[1]), max)
-    begun = tuple(upto - before for before, upto in itertools.pairwise([0, *most]))
-    return Border((*rows, *cols), begun)
+def border_of(cells: Cells, connectivity: int) -> Border:
+    own = list(map(list, cells))
+    return JoinReader(border(own, patch_numbers(own, connectivity))).tile(None, None)
 
 
 @dataclass(frozen=True)
@@ -176,41 +151,34 @@ class Cut:
         return [[(slice(*span), slice(*other)) for other in cols] for span in rows]
 
     def request(self) -> Tiles:
-        with_corners = CORNERS[self.connectivity]
         return Tiles(
             self.connectivity,
             tuple(
-                tuple(border_of(part(self.cells, *place), with_corners) for place in row)
+                tuple(border_of(part(self.cells, *place), self.connectivity) for place in row)
                 for row in self.rows()
             ),
         )
 
     def numbering(self) -> Numbering:
         """Return the numbering, by numbering the patches of the full map and of each tile."""
-        with_corners = CORNERS[self.connectivity]
-        full, runs = numbered(self.cells, with_corners), list[Run]()
+        full, runs = patch_numbers(self.cells, self.connectivity), list[Run]()
         for tile, place in enumerate(itertools.chain(*self.rows()), 1):
-            own = numbered(part(self.cells, *place), with_corners)
+            own = patch_numbers(part(self.cells, *place), self.connectivity)
             pairs = set(zip(itertools.chain(*own), itertools.chain(*part(full, *place))))
             runs += runs_of(tile, [number for one, number in sorted(pairs - {(None, None)})])
         return max(filter(None, itertools.chain(*full)), default=0), runs
 
     def patches(self, depth: int) -> Patches:
         """Return the request that joins the patches of the tiles."""
-        with_corners, parts, cells = (
-            CORNERS[self.connectivity],
-            list[Part](),
-            list(map(list, self.cells)),
-        )
+        parts = list[Part]()
         for tile, place in enumerate(itertools.chain(*self.rows()), 1):
-            numbers = numbered(part(self.cells, *place), with_corners)
-            parts += parts_of_tile(cells, numbers, tile, place, depth)
+            numbers = patch_numbers(part(self.cells, *place), self.connectivity)
+            parts += parts_of_tile(self.cells, numbers, tile, place, depth)
         return Patches(tuple(self.numbering()[1]), tuple(parts))
 
     def full_map_patches(self, depth: int) -> Joined:
         """Return the patches of the full map."""
-        cells = list(map(list, self.cells))
-        return list(enumerate(patch_model.patches(cells, self.connectivity, depth), 1))
+        return list(enumerate(patch_model.patches(self.cells, self.connectivity, depth), 1))
 
 
 def part(cells: Cells, rows: slice, cols: slice) -> Cells:
