@@ -101,14 +101,16 @@ SECONDS = 60
 fuzz: bin/rcell
 	python3 tools/model/fuzz.py --seconds $(SECONDS) $(if $(SEED),--seed $(SEED))
 
-bench: bin/rcell
+bench: all
 	python3 bench/run.py $(BENCH)
 	python3 bench/dimensions.py
+	python3 bench/patches.py
 
-figures: bin/rcell
+figures: all
 	@sh tools/debian.sh clang grass-core valgrind python3-matplotlib
 	python3 bench/run.py --write $(BENCH)
 	python3 bench/dimensions.py --write
+	python3 bench/patches.py --write
 	$(PICTURES) speed docs/speed.png
 	-python3 tools/documents/documents.py --texts --write
 

@@ -121,7 +121,7 @@ def main() -> int:
         description=__doc__, formatter_class=argparse.RawDescriptionHelpFormatter
     )
     words.add_argument("--program", default=f"{BIN}/rcell-pipe")
-    words.add_argument("--runs", type=int, default=250, help="random flows")
+    words.add_argument("--runs", type=int, default=150, help="random flows")
     words.add_argument("--seed", type=int, default=1)
     words.add_argument("--spoiled", type=int, default=4, help="spoiled requests of a flow")
     given = words.parse_args()
