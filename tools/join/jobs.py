@@ -5,16 +5,19 @@ import random
 from typing import Iterator
 
 import made
+import model
 from flow import Job
 from made_cases import NAMES, ScriptMaker
 from model import Refused
+from model_expressions import FUNCTIONS, Call
 from patch_model import Cells
 from pipe_model import BORDER, NULL, NUMBERS, PATCHES, TYPES, Edges, Question, Raster
 from test_pipe import random_edges
-from test_plan import Need, calls_of, reads_of
+from test_plan import Need, reads_of, within
 from test_tiles import statements_of
 
 LARGEST_SIDE, DEEPEST = 60, 4
+POSITIONS = [FUNCTIONS[name] for name in (b"row", b"col", b"nrows", b"ncols")]
 
 
 def raster_of(draw: random.Random, name: bytes, edges: Edges, cells: Cells) -> Raster:
@@ -143,12 +146,18 @@ def job_of_cut(cut: made.Cut, connectivity: int) -> Job:
     return Job([Raster(b"m", edges, 6, rows, NULL)], script, [question], cut, {b"n": 0})
 
 
+def calls_position(statement: model.Statement) -> bool:
+    """Return whether the value of an expression depends on the position of its cell."""
+    parts = within(statement.expression) if isinstance(statement, model.Mapcalc) else ()
+    return any(isinstance(it, Call) and it.function in POSITIONS for it in parts)
+
+
 def features(job: Job) -> Iterator[str]:
     """Yield what a job contains, for a count of what was tried."""
     statements = [it for _, it in statements_of([it.name for it in job.maps], job.script)]
     if len(list(job.cut.spans())) > 1:
         yield "more than one tile"
-    if any(calls_of(it) for it in statements):
+    if any(calls_position(it) for it in statements):
         yield "row(), col(), nrows() or ncols()"
     if any(reach != Need() for it in statements for _, reach in reads_of(it)):
         yield "offsets"
