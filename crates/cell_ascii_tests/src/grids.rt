@@ -1,15 +1,12 @@
 //! Tests of complete texts, read in pieces of seven bytes.
 
-ghost use Rattle.cell_ascii_meaning.specs.Writing.{IsValidNullText};
-
 use cell_ascii::grid_fault::{GridFault, GridKind};
 use cell_ascii::grid_reader::read_map;
 use cell_ascii::writer::write_map;
 use cell_ascii_reading::number::coordinate_of_text;
-use cell_core::device::DeviceFault;
 use cell_core::map::CellMap;
 use cell_core::region::RegionFault;
-use cell_core::sink::{FlushCount, MemorySink, Sink};
+use cell_core::sink::MemorySink;
 use cell_core::source::MemorySource;
 use cell_core_test_maps::assert_same;
 use std::alloc::AllocGlobal;
@@ -18,31 +15,6 @@ use std::test::Fail;
 
 const GRID: &[u8] =
     b"north: 3\nsouth: 0\neast: 4\nwest: 0\nrows: 3\ncols: 4\n1 1 2 *\n1 2 2 2\n3 3 1 1\n";
-
-// A sink that accepts everything and counts the puts.
-#[derive(Drop)]
-struct Counting {
-    puts: u32,
-    flushes: FlushCount,
-}
-
-impl Sink for Counting {
-    ghost use Rattle.std.specs.Prelude.{None, false};
-
-    ghost taken = { λ _. None };
-
-    ghost faults = { λ s. record { refused = false; unflushed = false; flushes = s.flushes } };
-
-    fn put(&mut self, bytes: &[u8]) -> Result<usize, DeviceFault> {
-        self.puts = self.puts.saturating_add(1);
-        Ok(bytes.len())
-    }
-
-    fn flush(&mut self) -> Result<(), DeviceFault> {
-        self.flushes = self.flushes.again();
-        Ok(())
-    }
-}
 
 fn read<R: AllocGlobal>(rt: &R, text: &[u8]) -> Result<Result<CellMap, GridFault>, Fail> {
     let bytes = text.to_vec(rt.alloc())?;
@@ -89,21 +61,6 @@ fn expect_categories<R: Abort>(rt: &R, map: &CellMap, cells: &[(u32, u32, Option
     for (row, col, wanted) in cells {
         assert_same!(rt; category(map, *row, *col), *wanted, "{row} {col}");
     }
-}
-
-// Writes a map with this null text to a sink, checks the returned length, and returns the text.
-fn written<R: Abort + AllocGlobal>(
-    rt: &R,
-    map: &CellMap,
-    null_text: &[u8],
-    sink: MemorySink,
-) -> Result<Vec<u8>, Fail>
-    requires { IsValidNullText null_text.now }
-{
-    let mut sink = sink;
-    let length = write_map(map, null_text, &mut sink)?;
-    assert_same!(rt; length, sink.bytes().len() as u64);
-    Ok(sink.bytes().to_vec(rt.alloc())?)
 }
 
 // Returns a text followed by `count` equal bytes.
@@ -199,29 +156,6 @@ const SIZE_FAULTS: [(&[u8], GridKind, u64); 3] = [
 #[test]
 fn reports_too_many_cells(rt: HostRuntime) -> Result<(), Fail> {
     expect_faults(&rt, &SIZE_FAULTS)
-}
-
-// Returns a text with a single row of 65535 cells of category 7.
-fn widest_row<R: AllocGlobal>(rt: &R) -> Result<Vec<u8>, Fail> {
-    let mut text = b"north: 1\nsouth: 0\neast: 1\nwest: 0\nrows: 1\ncols: 65535\n".to_vec(
-        rt.alloc(),
-    )?;
-    for _ in 0..65534 {
-        text.extend_from_slice(b"7 ")?;
-    }
-    text.extend_from_slice(b"7\n")?;
-    Ok(text)
-}
-
-// Reading and writing the widest row, of equal cells, reproduces its text.
-#[test]
-fn reads_the_widest_row(rt: HostRuntime) -> Result<(), Fail> {
-    let text = widest_row(&rt)?;
-    let map = read_good(&rt, text.as_slice())?;
-    let sink = MemorySink::new(vec![in rt.alloc(); 0u8; 200000]?, 5000, false);
-    let found = written(&rt, &map, b"*", sink)?;
-    assert!(rt; found.as_slice() == text.as_slice());
-    Ok(())
 }
 
 // Texts with too few or too many cells, with the kind and line of the error.
@@ -326,25 +260,14 @@ fn limits_words_and_blanks(rt: HostRuntime) -> Result<(), Fail> {
     Ok(())
 }
 
-// A text is written in blocks and never flushed.
 #[test]
-fn writes_without_a_flush(rt: HostRuntime) -> Result<(), Fail> {
+fn writes_a_grid(rt: HostRuntime) -> Result<(), Fail> {
     let map = read_good(&rt, GRID)?;
-    let mut sink = Counting {
-        puts: 0,
-        flushes: FlushCount::Never,
-    };
+    let mut sink = MemorySink::new(vec![in rt.alloc(); 0u8; 100]?, 3, false);
     let length = write_map(&map, b"*", &mut sink)?;
     assert_same!(rt; length, GRID.len() as u64);
-    assert_same!(rt; (sink.puts, sink.flushes), (1, FlushCount::Never));
+    assert_same!(rt; sink.bytes(), GRID);
     Ok(())
-}
-
-// Reads a text and returns the text written for its map.
-fn written_again<R: Abort + AllocGlobal>(rt: &R, text: &[u8]) -> Result<Vec<u8>, Fail> {
-    let map = read_good(rt, text)?;
-    let sink = MemorySink::new(vec![in rt.alloc(); 0u8; 100]?, 3, false);
-    written(rt, &map, b"-9", sink)
 }
 
 #[test]
@@ -354,9 +277,9 @@ fn reads_what_it_writes(rt: HostRuntime) -> Result<(), Fail> {
     assert_same!(rt; coordinate_of_text(b"north"), None);
     let row = b"north: 10.50\nsouth: -.25\neast: 4.\nwest: +0\nrows: 1\ncols: 2\n7 *";
     let map = read_good(&rt, row)?;
-    let text = written_again(&rt, row)?;
-    assert_same!(rt; text.len(), 71);
-    let again = read_good(&rt, text.as_slice())?;
+    let mut sink = MemorySink::new(vec![in rt.alloc(); 0u8; 100]?, 3, false);
+    assert_same!(rt; write_map(&map, b"-9", &mut sink)?, 71);
+    let again = read_good(&rt, sink.bytes())?;
     let region = again.region();
     assert_same!(rt; (region, region.rows(), region.cols()), (map.region(), 1, 2));
     expect_categories(&rt, &again, &[(0, 0, Some(7)), (0, 1, None)]);

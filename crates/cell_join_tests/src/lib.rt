@@ -1,12 +1,6 @@
-//! Tests of joining: the clumps of maps that are cut into grids of tiles are compared with the full map's clumps.
+//! Tests of joining: the clumps of tiles have the full map's numbers.
 #![tactic(auto)]
 
-#[cfg(test)]
-mod chance;
-#[cfg(test)]
-mod cuts;
-#[cfg(test)]
-mod random;
 #[cfg(test)]
 mod shapes;
 #[cfg(test)]

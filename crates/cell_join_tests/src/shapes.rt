@@ -1,63 +1,10 @@
-//! Tests shapes that cross the seams between tiles: parts that meet only far away are one clump.
+//! Tests of four tiles that meet at a corner, and of the order of numbers. `tools/join` joins tiles of many shapes.
 
-use crate::random::expect_as_whole;
 use crate::tiles::{Whole, joined_numbers};
 use cell_clumps::clump::Joining;
 use cell_core_test_maps::assert_same;
 use std::alloc::AllocGlobal;
 use std::test::Fail;
-
-// A comb whose teeth meet in the last row.
-const COMB: [i32; 20] = [
-    1, 2, 1, 2, 1, //
-    1, 2, 1, 2, 1, //
-    1, 2, 1, 2, 1, //
-    1, 1, 1, 1, 1,
-];
-
-// A comb whose teeth meet in the last column.
-const LYING_COMB: [i32; 20] = [
-    1, 1, 1, 1, //
-    2, 2, 2, 1, //
-    1, 1, 1, 1, //
-    2, 2, 2, 1, //
-    1, 1, 1, 1,
-];
-
-// A spiral.
-const SPIRAL: [i32; 25] = [
-    1, 1, 1, 1, 1, //
-    2, 2, 2, 2, 1, //
-    1, 1, 1, 2, 1, //
-    1, 2, 2, 2, 1, //
-    1, 1, 1, 1, 1,
-];
-
-// A checkerboard.
-const BOARD: [i32; 16] = [
-    1, 2, 1, 2, //
-    2, 1, 2, 1, //
-    1, 2, 1, 2, //
-    2, 1, 2, 1,
-];
-
-// Lines that rise and fall from corner to corner.
-const DIAGONALS: [i32; 25] = [
-    1, 2, 3, 2, 1, //
-    2, 1, 2, 1, 2, //
-    3, 2, 1, 2, 3, //
-    2, 1, 2, 1, 2, //
-    1, 2, 3, 2, 1,
-];
-
-#[test]
-fn shapes_in_every_grid(rt: HostRuntime) -> Result<(), Fail> {
-    expect_as_whole(&rt, &COMB, 4, 5)?;
-    expect_as_whole(&rt, &LYING_COMB, 5, 4)?;
-    expect_as_whole(&rt, &SPIRAL, 5, 5)?;
-    expect_as_whole(&rt, &BOARD, 4, 4)?;
-    expect_as_whole(&rt, &DIAGONALS, 5, 5)
-}
 
 #[test]
 fn four_tiles_meet_at_a_crossing(rt: HostRuntime) -> Result<(), Fail> {

@@ -4,14 +4,12 @@ ghost use Rattle.std.specs.Prelude.{◌<◌, ◌≡◌};
 
 use cell_clumps::clump::{Joining, clump_with};
 use cell_core::map::CellMap;
-use cell_core_test_maps::assert_same;
 use cell_core_test_maps::maps::{NULL_CATEGORY, categories_of_map, map_of_categories};
 use cell_join_numbers::stretch::ConsecutiveClumps;
 use cell_join_tiles::begun::begun_clump_counts_by_row;
 use cell_join_tiles::border::{TileBorder, TileSide};
 use cell_join_tiles::joiner::{JoinerFault, TileJoiner};
-use std::alloc::{AllocGlobal, Global};
-use std::process::Abort;
+use std::alloc::Global;
 use std::test::Fail;
 
 // A map as a list of categories, row by row.
@@ -197,46 +195,4 @@ pub(crate) fn joined_numbers(
         put_numbers(found.as_mut_slice(), whole.cols, tile, &all.runs);
     }
     Ok((found, all.clumps))
-}
-
-/// Returns the numbers of all cells of the full map, with 0 for null, and the number of clumps.
-pub(crate) fn whole_numbers(
-    alloc: Global,
-    whole: Whole<'_>,
-    joining: Joining,
-) -> Result<(Vec<u64>, u64), Fail> {
-    let cols = whole.cols;
-    if cols == 0 {
-        return Err(Fail::from("no columns"));
-    }
-    let map = map_of_categories(alloc, whole.categories, cols)?.ok_or("no map")?;
-    let clumps = clump_with(alloc, &map, joining)?;
-    let mut found = Vec::new(alloc);
-    let mut most = 0;
-    for number in &categories_of_map(alloc, &clumps)? {
-        let number = u64::try_from(*number).unwrap_or(0);
-        most = most.max(number);
-        found.push(number)?;
-    }
-    Ok((found, most))
-}
-
-/// Checks that the clumps, joined from a grid of tiles with these heights and widths, have the full map's numbers.
-pub(crate) fn expect_numbers<R: Abort + AllocGlobal>(
-    rt: &R,
-    whole: Whole<'_>,
-    heights: &[u32],
-    widths: &[u32],
-    joining: Joining,
-    wanted: &(Vec<u64>, u64),
-) -> Result<(), Fail> {
-    let joined = joined_numbers(rt.alloc(), whole, heights, widths, joining)?;
-    let categories = whole.categories;
-    let cols = whole.cols;
-    assert_same!(rt;
-        joined,
-        *wanted,
-        "the clumps of {categories:?}, {cols} columns, tiles of {heights:?} by {widths:?}, {joining:?}"
-    );
-    Ok(())
 }

@@ -1,6 +1,5 @@
-//! Tests the rules of r.reclass with each form of a line, worked maps, and random rules. Tests clumps with worked maps,
-//! shapes, and comparisons with a plain, slow search. Tests patches with a worked map. Tests tables and their printed
-//! text with worked maps, wide picks, and many combinations.
+//! Tests the rules of r.reclass with each form of a line, and one example of each public call of clumps, patches,
+//! tables and their printed text. Worked results are in cases/, and the model tries random maps.
 #![tactic(auto)]
 
 #[cfg(test)]

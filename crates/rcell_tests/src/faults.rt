@@ -1,6 +1,5 @@
 //! Tests which error of a script is reported, and where.
 
-use cell_calc_language::calc_fault::{CalcFault, CalcKind};
 use cell_cats::rules::RuleFault;
 use cell_core::name::{Name, Names};
 use cell_core_test_maps::assert_same;
@@ -112,63 +111,5 @@ fn reports_the_first_fault(rt: HostRuntime) -> Result<(), Fail> {
         let reported = parse_script(rt.alloc(), text.as_bytes(), &known).err();
         assert_same!(rt; reported, Some(ScriptFault { kind, line }), "{text}");
     }
-    Ok(())
-}
-
-// Scripts of one assignment, each with the kind and the column of the error in its expression.
-const EXPRESSIONS: [(&str, CalcKind, u32); 6] = [
-    ("r.mapcalc x = 2147483648", CalcKind::BadNumber, 15),
-    ("r.mapcalc x = h", CalcKind::UnknownMap, 15),
-    ("r.mapcalc g = g + h", CalcKind::UnknownMap, 19),
-    ("r.mapcalc x = x", CalcKind::UnknownMap, 15),
-    (" \tr.mapcalc", CalcKind::Expected, 12),
-    ("r.mapcalc x = 1 + ", CalcKind::Expected, 19),
-];
-
-// Scripts of assignments, each with the kind and the line of its error.
-const ASSIGNMENTS: [(&str, ScriptKind, u64); 3] = [
-    ("r.mapcalc x = 1\nr.mapcalc x = 2", ScriptKind::MapExists, 2),
-    ("r.mapcalc g = g", ScriptKind::MapExists, 1),
-    ("r.mapcalcx = 1", ScriptKind::UnknownCommand, 1),
-];
-
-#[test]
-fn reports_faults_of_assignments(rt: HostRuntime) -> Result<(), Fail> {
-    let known = one_grid(rt.alloc())?;
-    for &(text, kind, column) in &EXPRESSIONS {
-        let reported = parse_script(rt.alloc(), text.as_bytes(), &known).err();
-        let kind = ScriptKind::Calc(CalcFault { kind, column });
-        assert_same!(rt; reported, Some(ScriptFault { kind, line: 1 }), "{text}");
-    }
-    for &(text, kind, line) in &ASSIGNMENTS {
-        let reported = parse_script(rt.alloc(), text.as_bytes(), &known).err();
-        assert_same!(rt; reported, Some(ScriptFault { kind, line }), "{text}");
-    }
-    Ok(())
-}
-
-#[test]
-fn takes_16_inputs(rt: HostRuntime) -> Result<(), Fail> {
-    let known = one_grid(rt.alloc())?;
-    let sixteen = b"r.stats -c input=g,g,g,g,g,g,g,g,g,g,g,g,g,g,g,g";
-    assert_same!(rt; parse_script(rt.alloc(), sixteen, &known).err(), None);
-    let seventeen = b"r.stats -c input=g,g,g,g,g,g,g,g,g,g,g,g,g,g,g,g,1";
-    let reported = parse_script(rt.alloc(), seventeen, &known).err();
-    let kind = ScriptKind::BadOption;
-    assert_same!(rt; reported, Some(ScriptFault { kind, line: 1 }));
-    Ok(())
-}
-
-#[test]
-fn takes_lines_of_65535_bytes(rt: HostRuntime) -> Result<(), Fail> {
-    let known = one_grid(rt.alloc())?;
-    let mut text = vec![in rt.alloc(); b'#'; 65535]?;
-    text.extend_from_slice(b"\r\n")?;
-    assert_same!(rt; parse_script(rt.alloc(), text.as_slice(), &known).err(), None);
-    let mut text = vec![in rt.alloc(); b'#'; 65536]?;
-    text.extend_from_slice(b"\r\n")?;
-    let reported = parse_script(rt.alloc(), text.as_slice(), &known).err();
-    let kind = ScriptKind::LongLine;
-    assert_same!(rt; reported, Some(ScriptFault { kind, line: 1 }));
     Ok(())
 }

@@ -2,9 +2,9 @@
 #![tactic(auto)]
 
 #[cfg(test)]
-mod devices;
-#[cfg(test)]
 mod faults;
+#[cfg(test)]
+mod flushes;
 #[cfg(test)]
 mod reports;
 #[cfg(test)]

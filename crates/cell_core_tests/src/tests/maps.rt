@@ -80,56 +80,6 @@ fn cell_at(map: &CellMap, row: u32, col: u32) -> Option<Cell> {
     }
 }
 
-// A row with half as many runs as cells, and a row with one run fewer.
-const AS_MANY_RUNS: [i32; 18] = [1, 1, 2, 2, 3, 3, 1, 1, 2, 3, 3, 3, 1, 1, 2, 2, 2, 2];
-
-// A row with half as many runs as cells, and a row with one run more.
-const MORE_RUNS: [i32; 12] = [1, 2, 2, 3, 3, 3, NULL, NULL, 1, 2, NULL, 3];
-
-#[test]
-fn gives_the_runs_of_cells(rt: HostRuntime) -> Result<(), Fail> {
-    let map = map_of(rt.alloc(), 3, 6, &AS_MANY_RUNS)?;
-    expect_runs_of_rows(
-        &rt,
-        &map,
-        &[
-            (0, &[(1, 2), (2, 2), (3, 2)]),
-            (1, &[(1, 2), (2, 1), (3, 3)]),
-            (2, &[(1, 2), (2, 4)]),
-        ],
-    )?;
-    let map = map_of(rt.alloc(), 2, 6, &MORE_RUNS)?;
-    expect_runs_of_rows(
-        &rt,
-        &map,
-        &[
-            (0, &[(1, 1), (2, 2), (3, 3)]),
-            (1, &[(NULL, 2), (1, 1), (2, 1), (NULL, 1), (3, 1)]),
-        ],
-    )?;
-    for &(row, col, wanted) in &[
-        (0, 0, 1),
-        (0, 2, 2),
-        (0, 5, 3),
-        (1, 1, NULL),
-        (1, 3, 2),
-        (1, 5, 3),
-    ] {
-        assert_same!(rt; cell_at(&map, row, col), Some(cell(wanted)), "{row} {col}");
-    }
-    Ok(())
-}
-
-#[test]
-fn keeps_a_long_row_as_one_run(rt: HostRuntime) -> Result<(), Fail> {
-    let row = vec![in rt.alloc(); 7; 65535]?;
-    let map = map_of(rt.alloc(), 1, 65535, &row)?;
-    expect_runs(&rt, &map, 0, &[(7, 65535)])?;
-    let row = vec![in rt.alloc(); 5; 32767]?;
-    let map = map_of(rt.alloc(), 1, 32767, &row)?;
-    expect_runs(&rt, &map, 0, &[(5, 32767)])
-}
-
 // Checks the stretches of a row, given as categories and lengths.
 fn expect_stretches<R: Abort + AllocGlobal>(
     rt: &R,
@@ -168,14 +118,6 @@ fn gives_its_stretches(rt: HostRuntime) -> Result<(), Fail> {
     expect_stretches(&rt, &map, 0, &cells)
 }
 
-#[test]
-fn keeps_a_map_whose_later_rows_need_more_than_a_byte(rt: HostRuntime) -> Result<(), Fail> {
-    let map = map_of(rt.alloc(), 3, 2, &[1, 2, 300, NULL, 254, 5])?;
-    expect_runs(&rt, &map, 0, &[(1, 1), (2, 1)])?;
-    expect_runs(&rt, &map, 1, &[(300, 1), (NULL, 1)])?;
-    expect_runs(&rt, &map, 2, &[(254, 1), (5, 1)])
-}
-
 const FIVE: [i32; 5] = [7, -2147483647, -2147483647, NULL, 0];
 
 #[test]
@@ -208,11 +150,6 @@ fn copies_a_row(rt: HostRuntime) -> Result<(), Fail> {
         assert_same!(rt; *found, cell(*number));
     }
     Ok(())
-}
-
-#[test]
-fn orders_cells(rt: HostRuntime) {
-    assert!(rt; cell(-2147483647) < cell(7) && cell(7) < Cell::null());
 }
 
 #[test]

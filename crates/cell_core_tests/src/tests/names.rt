@@ -1,12 +1,10 @@
 //! Tests of names, lists of names and the shelf.
 
 use super::fixture::{NULL, map_of};
-use cell_core::map::CellMap;
 use cell_core::name::{Name, NameFault, Names};
-use cell_core::shelf::{Shelf, ShelfFault};
+use cell_core::shelf::Shelf;
 use cell_core_test_maps::assert_same;
 use std::alloc::{AllocGlobal, Global};
-use std::process::Abort;
 use std::test::Fail;
 
 // Short texts, some of which are names.
@@ -22,18 +20,6 @@ const TEXTS: [(&[u8], Option<NameFault>); 6] = [
 #[test]
 fn reads_names(rt: HostRuntime) -> Result<(), Fail> {
     for &(text, fault) in &TEXTS {
-        assert_same!(rt; Name::read(rt.alloc(), text).err(), fault);
-    }
-    Ok(())
-}
-
-#[test]
-fn reads_names_of_64_bytes(rt: HostRuntime) -> Result<(), Fail> {
-    let long = vec![in rt.alloc(); b'a'; 65]?;
-    for &(text, fault) in &[
-        (&long[..64], None),
-        (long.as_slice(), Some(NameFault::BadName)),
-    ] {
         assert_same!(rt; Name::read(rt.alloc(), text).err(), fault);
     }
     Ok(())
@@ -76,30 +62,4 @@ fn finds_maps(rt: HostRuntime) -> Result<(), Fail> {
     assert_same!(rt; shelf.name(0).bytes(), b"g".as_slice());
     assert!(rt; shelf.map(0).region() == shelf.region());
     Ok(())
-}
-
-// Checks why a shelf with one map rejects another, and that it returns the name.
-fn expect_refused<R: Abort + AllocGlobal>(
-    rt: &R,
-    name: &[u8],
-    map: CellMap,
-    fault: ShelfFault,
-) -> Result<(), Fail> {
-    let mut shelf = shelf_of_one(rt.alloc())?;
-    let name_read = Name::read(rt.alloc(), name)?;
-    let refused = shelf.add(name_read, map).err().ok_or("refused")?;
-    assert_same!(rt; (refused.fault, refused.name.bytes()), (fault, name));
-    Ok(())
-}
-
-#[test]
-fn refuses_a_name_that_is_there(rt: HostRuntime) -> Result<(), Fail> {
-    let map = map_of(rt.alloc(), 1, 3, &[1, 1, 1])?;
-    expect_refused(&rt, b"g", map, ShelfFault::Exists)
-}
-
-#[test]
-fn refuses_another_region(rt: HostRuntime) -> Result<(), Fail> {
-    let map = map_of(rt.alloc(), 1, 2, &[1, 1])?;
-    expect_refused(&rt, b"h", map, ShelfFault::OtherRegion)
 }

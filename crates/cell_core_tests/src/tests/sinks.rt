@@ -46,24 +46,3 @@ fn flushes_the_writer(rt: HostRuntime) {
     assert_same!(rt; sink.flush(), Ok(()));
     assert_same!(rt; sink.put(b"x"), Ok(1));
 }
-
-#[test]
-fn puts_bytes_until_the_first_fault(rt: HostRuntime) {
-    let mut sink = WriteSink::new(Device::new(&[
-        Step::Moves(2),
-        Step::Refuses(ErrorKind::Interrupted),
-        Step::Moves(1),
-        Step::Moves(0),
-        Step::Moves(3),
-    ]));
-    assert_same!(rt;
-        put_bytes(&mut sink, b"xxxxx"),
-        Err(WriteFault { written: 2 })
-    );
-    assert_same!(rt;
-        put_bytes(&mut sink, b"xxxxx"),
-        Err(WriteFault { written: 1 })
-    );
-    assert_same!(rt; put_bytes(&mut sink, b""), Ok(()));
-    assert_same!(rt; put_bytes(&mut sink, b"xxxxx"), Ok(()));
-}

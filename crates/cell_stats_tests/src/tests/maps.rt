@@ -1,32 +1,13 @@
-//! Builds worked maps, and shelves of maps.
+//! Builds maps, and shelves of maps.
 
 ghost use Rattle.std.specs.Prelude.{◌<◌, ◌≤◌, ◌↔◌, All, IsTrue, length};
 
 use cell_core::map::CellMap;
 use cell_core::name::Name;
 use cell_core::shelf::Shelf;
-use cell_core_test_maps::maps::{NULL_CATEGORY, map_of_categories};
+use cell_core_test_maps::maps::map_of_categories;
 use std::alloc::Global;
 use std::test::Fail;
-
-/// A worked map with four columns.
-pub(crate) const G: [i32; 12] = [1, 1, 2, NULL_CATEGORY, 1, 2, 2, 2, 3, 3, 1, 1];
-
-/// The map `G`, shifted to the left by one column.
-pub(crate) const X: [i32; 12] = [
-    1,
-    2,
-    NULL_CATEGORY,
-    NULL_CATEGORY,
-    2,
-    2,
-    2,
-    NULL_CATEGORY,
-    3,
-    1,
-    1,
-    NULL_CATEGORY,
-];
 
 /// Adds a map to the shelf.
 pub(crate) fn add(alloc: Global, shelf: &mut Shelf, name: &[u8], map: CellMap) -> Result<(), Fail> {

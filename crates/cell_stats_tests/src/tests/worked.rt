@@ -163,14 +163,8 @@ fn expect_case<R: Abort + AllocGlobal>(rt: &R, case: &Case) -> Result<(), Fail> 
     let map = map_of_categories(rt.alloc(), case.given, 4)?.ok_or("no map")?;
     let made = reclass(rt.alloc(), &map, &rules)?;
     let categories = categories_of_map(rt.alloc(), &made)?;
-    assert_same!(rt; made.region(), map.region());
-    assert_same!(rt;
-        (categories.as_slice(), made.label(case.category)),
-        (case.wanted, case.label),
-        "the map {:?}, and the label of {}",
-        case.given,
-        case.category
-    );
+    assert_same!(rt; categories.as_slice(), case.wanted);
+    assert_same!(rt; made.label(case.category), case.label);
     Ok(())
 }
 
@@ -179,17 +173,5 @@ fn worked_maps(rt: HostRuntime) -> Result<(), Fail> {
     for case in &CASES {
         expect_case(&rt, case)?;
     }
-    Ok(())
-}
-
-#[test]
-fn labels_of_the_given_map_go(rt: HostRuntime) -> Result<(), Fail> {
-    let mut rules = Rules::new(rt.alloc());
-    assert!(rt; rules.add_line(b"* = *").is_ok());
-    let mut map = map_of_categories(rt.alloc(), &LEGEND, 4)?.ok_or("no map")?;
-    map.set_label(1, b"forest")?;
-    let made = reclass(rt.alloc(), &map, &rules)?;
-    let categories = categories_of_map(rt.alloc(), &made)?;
-    assert_same!(rt; (categories.as_slice(), made.label(1)), (LEGEND.as_slice(), None));
     Ok(())
 }
