@@ -77,14 +77,15 @@ def tool(name, *words):
     return [*PYTHON, f"tools/{name}", *words]
 
 
-# The crates whose edits the gate tries. `make edits` tries all edits, at about four processor
-# seconds each.
+# The crates whose edits the gate tries; of all others, it tries the named edits.
+# `make edits` tries all edits, at about eight processor seconds each.
 EDITED = (
     "cell_calc_grammar",
     "cell_core",
     "cell_core_devices",
     "cell_core_values",
     "cell_join_numbers",
+    "cell_join_patches",
     "cell_stats_combinations",
     "rcell_command",
     "rcell_pipe_frames",
@@ -119,7 +120,7 @@ EARLY = [
 ]
 PROOFS = Part(
     "proofs",
-    "each proof, each test, and the wrong bodies that matter most",
+    "each proof, each test, and some wrong bodies",
     [["rt", "ci"]],
     needs_programs=False,
     needs_proofs=True,
@@ -128,7 +129,7 @@ LATE = [
     Part(
         "edits",
         "wrong bodies and turned definitions that the proofs must refuse",
-        [tool("build/edits.py", "--evidence", *EDITED)],
+        [tool("build/edits.py", "--evidence", "--named", *EDITED)],
         needs_programs=False,
         needs_proofs=True,
     ),

@@ -1,5 +1,5 @@
-"""Edits: wrong bodies and altered definitions, read from crates/NAME/edits and
-crates/NAME/must-fail.
+"""Edits: wrong bodies and altered definitions, read from the folders edits, named and must-fail of
+each crate.
 
 An edit file has lines `file: PATH` (below the crate, or `../OTHER/specs/..` for a definition of
 another crate), followed by pairs of lines `old: TEXT`, which occurs once in that file, and `new:
@@ -17,7 +17,9 @@ IMPL = re.compile(
     r"^impl(?:<.*?>)? (?:(?:\w+::)*(\w+)(?:<.*>)? for )?&?(?:'\w+ )?(\w+)", re.MULTILINE
 )
 SPREAD = re.compile(r"\{\n((?:  [^\n]*,\n)+)\}")  # an import's names, one per line
-CITED = re.compile(r"(\w+/(?:must-fail|edits))/([\w-]+(?:, [\w-]+-[\w-]+)*)")
+CITED = re.compile(r"(\w+/(?:must-fail|named|edits))/([\w-]+(?:, [\w-]+-[\w-]+)*)")
+NAMED = "named"  # the folder of the wrong bodies that matter most
+FOLDERS = ("edits", NAMED, "must-fail")  # `rt ci` also tries the edits in the last one
 
 
 @dataclass
@@ -33,6 +35,10 @@ class Edit:
     @property
     def name(self):
         return f"{self.path.parents[1].name}/{self.path.parent.name}/{self.path.stem}"
+
+    @property
+    def is_named(self):
+        return self.path.parent.name == NAMED
 
     @property
     def is_outside(self):
@@ -100,10 +106,9 @@ def changed_function(path, name, old):
 
 
 def paths_in(crate="*"):
-    """Return the edit files of a crate, or of all crates, including those that `rt ci` also tries
-    one by one."""
-    folder = pathlib.Path(build.ROOT, "crates")
-    return sorted([*folder.glob(f"{crate}/edits/*"), *folder.glob(f"{crate}/must-fail/*")])
+    """Return the edit files of a crate, or of all crates."""
+    crates = pathlib.Path(build.ROOT, "crates")
+    return sorted(path for folder in FOLDERS for path in crates.glob(f"{crate}/{folder}/*"))
 
 
 def edits_in(crate):

@@ -1,8 +1,8 @@
 #!/usr/bin/env python3
-"""Try the edits in crates/NAME/edits and crates/NAME/must-fail, many per check: the proof must
-reject each.
+"""Try the edits of crates, many per check: the proof must reject each.
 
     edits.py [--one-by-one] [--list] [--evidence] [CRATE..]    without names, all crates with edits
+    edits.py --named [CRATE..]           also the edits in the folder named of each other crate
     edits.py --stale                     only check, in a second, that each edit still fits its
     files
 
@@ -356,16 +356,22 @@ def try_definitions(checks, edits):
             yield edit, "" if stand else "goal", f"NOT REFUSED: {', '.join(sorted(stand))}"
 
 
-def try_crate(crate, one_by_one, is_listed):
+def edits_of(crate, choice):
+    """Return the edits of a crate that a run tries: all, or only the named ones."""
+    edits = edit_files.edits_in(crate)
+    return edits if crate in choice.crates else [it for it in edits if it.is_named]
+
+
+def try_crate(crate, choice):
     """Try the edits of a crate, and return the results."""
-    edits, kept = edit_files.edits_in(crate.name), Kept(crate)
+    edits, kept = edits_of(crate.name, choice), Kept(crate)
     tally = Tally(crate.name, {it.name: kept.kind(it) for it in edits}, [])
     left = [it for it in edits if not tally.kinds[it.name]]
     tally.kept = len(edits) - len(left)
     with tempfile.TemporaryDirectory(prefix="rcell-edits-kept-") as room:
         checks = Checks(crate, f"{room}/kept")
         bodies = [it for it in left if not it.falls]
-        tried = [try_bodies(checks, bodies, one_by_one)] if bodies else []
+        tried = [try_bodies(checks, bodies, choice.one_by_one)] if bodies else []
         for edit, kind, said in (
             it
             for several in [*tried, try_definitions(checks, [it for it in left if it.falls])]
@@ -376,7 +382,7 @@ def try_crate(crate, one_by_one, is_listed):
                 kept.keep(edit, kind)
             else:
                 tally.missed.append(edit.name)
-            if is_listed or not kind:
+            if choice.list or not kind:
                 print(f"{edit.name}: {kind or said}", flush=True)
     tally.checks, tally.seconds = checks.count, checks.seconds
     print(line_of(tally), flush=True)
@@ -403,7 +409,7 @@ def checks_at_a_time():
     return max(1, min(len(os.sched_getaffinity(0)), int(available[1]) * 1024 // BYTES_OF_A_CHECK))
 
 
-def try_over(root, names, one_by_one, is_listed):
+def try_over(root, names, choice):
     """Try the edits of crates over the libraries below a root, largest crates first. Return the
     results of each."""
     tried = [it for it in build.crates_of(names, root) if it.name in names]
@@ -412,23 +418,24 @@ def try_over(root, names, one_by_one, is_listed):
     with ThreadPoolExecutor(checks_at_a_time()) as pool:
         return list(
             pool.map(
-                lambda crate: try_crate(crate, one_by_one, is_listed),
+                lambda crate: try_crate(crate, choice),
                 sorted(tried, key=lambda crate: -crate.work),
             )
         )
 
 
-def try_all(names, one_by_one, is_listed):
+def try_all(choice):
     """Try the edits of crates over the libraries that the gate left, or over a copy that is proved
     here."""
+    names = [it for it in sorted(build.uses()) if edits_of(it, choice)]
     crates = build.crates_of(names)
     below = [it for it in crates if any(it.name in other.all_below for other in crates)]
     if all(it.has_proved() for it in below):
-        return try_over(build.ROOT, names, one_by_one, is_listed)
+        return try_over(build.ROOT, names, choice)
     with build.cut(below) as folder:
         if build.prove(folder, below, 0, f"{folder}/log"):
             return []
-        return try_over(folder, names, one_by_one, is_listed)
+        return try_over(folder, names, choice)
 
 
 def faults_of_evidence(kinds):
@@ -471,6 +478,9 @@ def main():
     words.add_argument(
         "--evidence", action="store_true", help="fail if a page cites an edit that says little"
     )
+    words.add_argument(
+        "--named", action="store_true", help="also the named edits of all other crates"
+    )
     words.add_argument("--stale", action="store_true", help="only whether edits fit their files")
     words.add_argument("crates", nargs="*", metavar="CRATE")
     given, begun = words.parse_args(), time.monotonic()
@@ -479,8 +489,9 @@ def main():
         faults = [fault for path in paths for fault in edit_files.faults_of(path)]
         print(*faults, f"{len(paths) - len(faults)} passed, {len(faults)} failed", sep="\n")
         return 1 if faults else 0
-    names = given.crates or sorted({it.parents[1].name for it in paths})
-    tallies = try_all(names, given.one_by_one, given.list)
+    if not given.crates and not given.named:
+        given.crates = sorted({it.parents[1].name for it in paths})
+    tallies = try_all(given)
     return closing(tallies, time.monotonic() - begun, given.evidence)
 
 

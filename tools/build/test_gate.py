@@ -2,6 +2,7 @@
 """Test the gate's tools: how results are counted (tools/check.py, tools/counting.sh), which
 libraries are left for edits.py, how it reads and groups edits and reads a check, how unproved
 programs are made, and parts of the lint. The last line is 'N passed, M failed'."""
+import argparse
 import os
 import pathlib
 import subprocess
@@ -229,17 +230,21 @@ def faults_of_files():
             "edits/twice.edit": "file: src/lib.rt\nold: self\nnew: other\n",
             "edits/empty.edit": "file: src/lib.rt\n",
             "edits/other.txt": "",
-            "must-fail/turned.edit": "falls: three\nfile: ../one/specs/Three.antt\nold: {pos, suc}\nnew: {pos}\n",
+            "named/turned.edit": "falls: three\nfile: ../one/specs/Three.antt\nold: {pos, suc}\nnew: {pos}\n",
         }.items():
             crate.joinpath(name).parent.mkdir(parents=True, exist_ok=True)
             crate.joinpath(name).write_text(text, encoding="utf-8")
         with mock.patch.object(build, "ROOT", room):
             paths = edit_files.paths_in("one")
+            named = edits.edits_of("one", argparse.Namespace(crates=["two"]))
+            tried = edits.edits_of("one", argparse.Namespace(crates=["one"]))
         found = {it.name: len(edit_files.faults_of(it)) for it in paths}
         wanted = {"good.edit": 0, "twice.edit": 1, "empty.edit": 1, "other.txt": 1}
         yield "" if found == {**wanted, "turned.edit": 0} else f"faults of edits: {found}"
+        found = [it.path.name for it in named], len(tried)
+        yield "" if found == (["turned.edit"], len(wanted) + 1) else f"edits to try: {found}"
         good, turned = (
-            edit_files.edit_of(crate / it) for it in ("edits/good.edit", "must-fail/turned.edit")
+            edit_files.edit_of(crate / it) for it in ("edits/good.edit", "named/turned.edit")
         )
         yield "" if good.functions == {("src/lib.rt", "first")} else f"changed: {good.functions}"
         home = turned_definitions.home_of("one", turned)

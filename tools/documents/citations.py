@@ -1,8 +1,8 @@
 """Check that the edits, functions, clauses, laws, definitions and tests that the documents cite
 exist.
 
-- An edit is cited as CRATE/must-fail/NAME or CRATE/edits/NAME. Further names after a comma are in
-  the same folder.
+- An edit is cited as CRATE/FOLDER/NAME, with the folder edits, named or must-fail. Further names
+  after a comma are in the same folder.
 - In a table with a column of clauses, each name in that column must be a label of a function named
   in its row.
 - On the pages about proofs, each name in backticks that looks like a name of the crates must be
@@ -22,7 +22,7 @@ import crate_graph
 import sources
 
 PAGES_ABOUT_PROOFS = ("proofs.md", "theorems.md", "architecture.md")
-EDITS = re.compile(r"(\w+/(?:must-fail|edits))/([\w-]+(?:, [\w-]+-[\w-]+)*)")
+EDITS = re.compile(r"(\w+/(?:must-fail|named|edits))/([\w-]+(?:, [\w-]+-[\w-]+)*)")
 CODE = re.compile(r"`([^`]+)`")
 IN_PARENTHESES = re.compile(r"\(`([a-z_]+)`\)")
 NAME = re.compile(r"[A-Za-z]\w*(?:::\w+)*")
