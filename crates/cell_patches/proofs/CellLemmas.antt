@@ -1,23 +1,29 @@
--- The values found at a cell.
-use Rattle.std.proofs.Common.{◌≡◌, ℕ, zero, suc, pos, ◌+◌, true, false, Some, None, get_or, refl}
-use Rattle.std.proofs.Common.{ap, sym, ◌∙◌, ◌-◌, arith, cond, List, subst}
+-- The values found in a run.
+use Rattle.std.proofs.Common.{◌≡◌, ◌≢◌, ℕ, zero, suc, pos, ◌+◌, ◌-◌, ◌<◌, ◌≤◌, true, false, Some, None, get_or, refl}
+use Rattle.std.proofs.Common.{ap, sym, ◌∙◌, arith, cond, List, length, subst}
 use Rattle.std.specs.Option.{is_none}
-use Rattle.std.proofs.lemmas.Bool.{false≢true, le-leb, false_from_ne_true}
+use Rattle.std.proofs.lemmas.Bool.{false≢true, le-leb}
+use Rattle.std.proofs.lemmas.List.{get_or_past}
+use Rattle.cell_core_values.specs.Cell.{cell_eq-Decides}
 use Rattle.cell_core.specs.Grid.{Grid, CellValue, cell_at}
+use Rattle.cell_core.specs.Runs.{RunValue}
 use Rattle.cell_patches.specs.declared.patch.Patch.{Patch}
-use Rattle.cell_patches.specs.declared.patch.CellContribution.{CellContribution}
+use Rattle.cell_patches.specs.declared.patch.RunContribution.{RunContribution}
 use Rattle.cell_patches.specs.declared.near_rows.RowsAroundRow.{RowsAroundRow}
 use Rattle.cell_patches.specs.declared.tile_position.TilePosition.{TilePosition}
 use Rattle.cell_patches.specs.Patches.{is_in_patch, north_cell_in_map_or_null, west_cell_in_map_or_null}
+use Rattle.cell_patches.specs.Patches.{sum_over_first_columns}
 use Rattle.cell_patches.specs.TilePatches.{one_if_side_leaves_category, outer_north_south_side_count_of_cell}
 use Rattle.cell_patches.specs.TilePatches.{outer_west_east_side_count_of_cell}
-use Rattle.cell_patches.specs.parts.Passes.{TileOfMap, CanMeasurePatchesInRow, CanMeasurePatchesAtCell}
-use Rattle.cell_patches.specs.parts.Passes.{IsCellContributionFromRows, AreRowsAroundRow}
-use Rattle.cell_patches.specs.parts.Passes.{IsCellContributionToPatch, IsCellAddedToPatch, AreMeasuresOfPatchesUpToCell}
+use Rattle.cell_patches.specs.parts.Passes.{TileOfMap, CanMeasurePatchesInRun, IsSumOverRun}
+use Rattle.cell_patches.specs.parts.Passes.{value_of_cell_in_tile_patch, outer_side_count_in_first_columns}
+use Rattle.cell_patches.specs.parts.Passes.{IsRunContributionFromRows, AreRowsAroundRow}
+use Rattle.cell_patches.specs.parts.Passes.{IsRunContributionToPatch, IsRunAddedToPatch, AreMeasuresOfPatchesUpToCell}
 use Rattle.cell_patches.specs.parts.Passes.{PatchMeasuresCannotOverflow, cell_rows_above_or_null}
 use Rattle.cell_patches.specs.parts.Passes.{west_cell_in_row_or_null, patch_at_index_or_unread}
-use Rattle.cell_patches.proofs.InsideLemmas.{of_from, of_to}
-use Rattle.cell_patches.proofs.PassLemmas.{all_other, all_same, has_room}
+use Rattle.cell_patches.proofs.InsideLemmas.{of_from}
+use Rattle.cell_patches.proofs.SumLemmas.{run_of_equal, run_of_ends, run_of_flanks}
+use Rattle.cell_patches.proofs.PassLemmas.{all_same, has_room}
 
 -- the cell north of a cell, and the cell west of it
 north_is : (m : Grid) (r c : ℕ) → cell_rows_above_or_null 1 m r c ≡ north_cell_in_map_or_null m r c
@@ -61,83 +67,164 @@ of_patch : (numbers : Grid) (n r c many : ℕ) → is_in_patch numbers n r c ≡
     → many ≡ cond (is_in_patch numbers n r c) many 0
 of_patch numbers n r c many h = rw h refl
 
-pub cell_found : (t : TileOfMap) (position : TilePosition) (n r c : ℕ) (lines : RowsAroundRow) (f : CellContribution)
-    → CanMeasurePatchesInRow t position r lines → cell_at t.numbers r c ≡ Some (pos n)
-    → IsCellContributionFromRows lines (get_or lines.here.now (position.left + c) None) (position.left + c)
-    (position.first_row + r) (position.first_col + c) f
-    → IsCellContributionToPatch t n r c f
-cell_found t position n r c lines f h is at_position =
-    let found =
-    subst (λ (q : TilePosition). IsCellContributionFromRows lines (get_or lines.here.now (q.left + c) None) (q.left + c)
-    (q.first_row + r) (q.first_col + c) f) h.same at_position in
-    let inside = of_from t.numbers (Some (pos n)) r c is in
-    let v = h.valid.classes r c n is in
-    let here = h.at.here (t.position.left + c) in
-    record {
-      class = v.1 ∙ ap Some (sym (found.class v.0 (here ∙ v.1)));
-      ends = found.ends ∙ ends_are t.map (t.position.top + r) (t.position.left + c) lines h.at
-          ∙ of_patch t.numbers n r c _ inside;
-      flanks = found.flanks ∙ flanks_are t.map (t.position.top + r) (t.position.left + c) lines h.at
-          ∙ of_patch t.numbers n r c _ inside;
-      row = found.at_row;
-      col = found.at_col;
-    }
+-- a side between cells of one category does not lead out of it
+stays : (cell beyond : CellValue) → beyond ≡ cell → one_if_side_leaves_category cell beyond ≡ 0
+stays cell beyond same = let e = (cell_eq-Decides beyond cell).1 same in rw e refl
 
--- a patch has room for a cell that is found in it
-pub cell_room : (t : TileOfMap) (position : TilePosition) (n r c : ℕ) (lines : RowsAroundRow) (number : CellValue)
-    (f : CellContribution) (patches : List Patch) → CanMeasurePatchesAtCell t position r c lines number
-    → IsCellContributionToPatch t (n + 1) r c f → AreMeasuresOfPatchesUpToCell t r c patches
+-- each side to a row leads out of a category past the end of the row
+leads_to_null : (cell : CellValue) → cell ≢ None → one_if_side_leaves_category cell None ≡ 1
+leads_to_null None some = absurd (some refl)
+leads_to_null (Some v) some = refl
+
+pub sides_past_row : (cell : CellValue) (beyond : List CellValue) (c n : ℕ) → cell ≢ None
+    → ((b : ℕ) → b < n → length beyond ≤ c + b)
+    → outer_side_count_in_first_columns cell beyond (c + n) ≡ outer_side_count_in_first_columns cell beyond c + n
+sides_past_row cell beyond c n some past =
+    let sum = run_of_equal (λ k. one_if_side_leaves_category cell (get_or beyond k None)) 1 c n
+    (λ b lt. leads cell (get_or beyond (c + b) None) None (get_or_past beyond (c + b) None (past b lt))
+    ∙ leads_to_null cell some) in omega arith
+
+-- what is found in a run of cells of patch n, which begins at row r, column c of the tile
+module _ (t : TileOfMap) (position : TilePosition) (n r c : ℕ) (lines : RowsAroundRow) (run : RunValue)
+    (h : CanMeasurePatchesInRun t position r c lines run) (number : run.0 ≡ Some (pos n)) where
+  inside : (b : ℕ) → b < run.1 → is_in_patch t.numbers n r (c + b) ≡ true
+  inside b lt = of_from t.numbers (Some (pos n)) r (c + b) (h.has_number b lt ∙ number)
+
+  pub first_number : cell_at t.numbers r c ≡ Some (pos n)
+  first_number =
+      subst (λ x. cell_at t.numbers r x ≡ Some (pos n)) (let e : c + 0 ≡ c = omega arith in e)
+      (h.has_number 0 h.some ∙ number)
+
+  first_inside : is_in_patch t.numbers n r c ≡ true
+  first_inside = of_from t.numbers (Some (pos n)) r c first_number
+
+  -- the cells of the run have one category
+  category : (b : ℕ) → b < run.1 → get_or lines.here.now (t.position.left + c + b) None
+      ≡ get_or lines.here.now (t.position.left + c) None
+  category b lt =
+      h.ready.at.here (t.position.left + c + b)
+      ∙ ap (cell_at t.map (t.position.top + r))
+      (let e : t.position.left + c + b ≡ t.position.left + (c + b) = omega arith in e)
+      ∙ h.ready.valid.alike n r (c + b) r c (inside b lt) first_inside
+      ∙ sym (h.ready.at.here (t.position.left + c))
+
+  -- a count for the patch is the count at the cell of the map
+  count_is : (f : ℕ → ℕ → ℕ) (b : ℕ) → b < run.1
+      → value_of_cell_in_tile_patch t n f r (c + b) ≡ f (t.position.top + r) (t.position.left + c + b)
+  count_is f b lt =
+      sym (of_patch t.numbers n r (c + b) _ (inside b lt))
+      ∙ ap (f (t.position.top + r))
+      (let e : t.position.left + (c + b) ≡ t.position.left + c + b = omega arith in e)
+
+  module _ (f : RunContribution) (found : IsRunContributionFromRows lines
+      (get_or lines.here.now (t.position.left + c) None) (t.position.left + c) run.1 (t.position.first_row + r)
+      (t.position.first_col + c) f) where
+    ends_found : IsSumOverRun (value_of_cell_in_tile_patch t n (outer_north_south_side_count_of_cell t.map) r) c run.1
+        f.ends
+    ends_found =
+        let at = t.position.left + c in
+        let cell = get_or lines.here.now (t.position.left + c) None in
+        let sum = run_of_ends (value_of_cell_in_tile_patch t n (outer_north_south_side_count_of_cell t.map) r)
+        (λ k. one_if_side_leaves_category cell (get_or lines.above.now k None))
+        (λ k. one_if_side_leaves_category cell (get_or lines.below.now k None)) c at run.1
+        (λ b lt. count_is (outer_north_south_side_count_of_cell t.map) b lt
+        ∙ sym (ends_are t.map (t.position.top + r) (at + b) lines h.ready.at)
+        ∙ ap (λ (x : CellValue). one_if_side_leaves_category x (get_or lines.above.now (at + b) None)
+        + one_if_side_leaves_category x (get_or lines.below.now (at + b) None)) (category b lt)) in
+        let ends = found.ends in omega arith
+
+    flanks_found : IsSumOverRun (value_of_cell_in_tile_patch t n (outer_west_east_side_count_of_cell t.map) r) c run.1
+        f.flanks
+    flanks_found =
+        let at = t.position.left + c in
+        let here = lines.here.now in
+        let cell = get_or here at None in
+        let some = h.some in
+        let count = value_of_cell_in_tile_patch t n (outer_west_east_side_count_of_cell t.map) r in
+        let e : suc (run.1 - 1) ≡ run.1 = omega arith in
+        let end : at + (run.1 - 1) + 1 ≡ at + run.1 = omega arith in
+        let sum = run_of_flanks count
+        (λ k. one_if_side_leaves_category cell (west_cell_in_row_or_null here k))
+        (λ k. one_if_side_leaves_category cell (get_or here (k + 1) None)) c at (run.1 - 1)
+        (λ b le. count_is (outer_west_east_side_count_of_cell t.map) b (omega arith)
+        ∙ sym (flanks_are t.map (t.position.top + r) (at + b) lines h.ready.at)
+        ∙ ap (λ (x : CellValue). one_if_side_leaves_category x (west_cell_in_row_or_null here (at + b))
+        + one_if_side_leaves_category x (get_or here (at + b + 1) None)) (category b (omega arith)))
+        (λ b lt.
+        let next : at + (b + 1) ≡ at + b + 1 = omega arith in
+        let east = stays cell (get_or here (at + b + 1) None)
+        (subst (λ x. get_or here x None ≡ cell) next (category (b + 1) (omega arith))) in
+        let west = stays cell (get_or here (at + b) None) (category b (omega arith)) in omega arith) in
+        subst (λ x. sum_over_first_columns count (c + x) ≡ sum_over_first_columns count c + f.flanks) e
+        (sum ∙ ap (λ x. sum_over_first_columns count c + x)
+        (ap (λ x. one_if_side_leaves_category cell (west_cell_in_row_or_null here at)
+        + one_if_side_leaves_category cell (get_or here x None)) end ∙ sym found.flanks))
+
+    found_here : IsRunContributionToPatch t n r c run.1 f
+    found_here =
+        let v = h.ready.valid.classes r c n first_number in
+        let here = h.ready.at.here (t.position.left + c) in
+        let count = value_of_cell_in_tile_patch t n (λ a b. 1) r in
+        record {
+          class = v.1 ∙ ap Some (sym (found.class v.0 (here ∙ v.1)));
+          cells = (let sum = run_of_equal count 1 c run.1 (λ b lt. count_is (λ a b. 1) b lt) in
+              let cells = found.cells in omega arith);
+          ends = ends_found;
+          flanks = flanks_found;
+          row = found.at_row;
+          first_col = found.at_first_col;
+          last_col = found.at_last_col;
+        }
+
+  pub run_found : (f : RunContribution) → IsRunContributionFromRows lines
+      (get_or lines.here.now (position.left + c) None) (position.left + c) run.1 (position.first_row + r)
+      (position.first_col + c) f → IsRunContributionToPatch t n r c run.1 f
+  run_found f at_position =
+      found_here f (subst (λ (q : TilePosition). IsRunContributionFromRows lines
+      (get_or lines.here.now (q.left + c) None) (q.left + c) run.1 (q.first_row + r) (q.first_col + c) f) h.ready.same
+      at_position)
+
+-- a patch has room for a run that is found in it
+pub run_room : (t : TileOfMap) (position : TilePosition) (n r c : ℕ) (lines : RowsAroundRow) (run : RunValue)
+    (f : RunContribution) (patches : List Patch) → CanMeasurePatchesInRun t position r c lines run
+    → IsRunContributionToPatch t (n + 1) r c run.1 f → AreMeasuresOfPatchesUpToCell t r c patches
     → PatchMeasuresCannotOverflow (patch_at_index_or_unread patches n) f
-cell_room t position n r c lines number f patches h found read =
+run_room t position n r c lines run f patches h found read =
     let row = h.ready.row in
-    let col = h.col in
+    let cols = h.cols in
     let in_rows = h.ready.valid.inside.rows in
     let in_cols = h.ready.valid.inside.cols in
     let rows_most = h.ready.valid.rows_most in
     let cols_most = h.ready.valid.cols_most in
-    has_room t (n + 1) r c (patch_at_index_or_unread patches n) f (omega arith) (omega arith) (omega arith) found
+    has_room t (n + 1) r c run.1 (patch_at_index_or_unread patches n) f (omega arith) (omega arith) (omega arith) found
     (read.each n)
 
-pub cell_added : (t : TileOfMap) (position : TilePosition) (n r c : ℕ) (lines : RowsAroundRow) (number : CellValue)
-    (f : CellContribution) (old new : List Patch) → CanMeasurePatchesAtCell t position r c lines number
-    → cell_at t.numbers r c ≡ Some (pos (n + 1)) → IsCellContributionToPatch t (n + 1) r c f
-    → IsCellAddedToPatch old new n f → AreMeasuresOfPatchesUpToCell t r c old
-    → AreMeasuresOfPatchesUpToCell t r (c + 1) new
-cell_added t position n r c lines number f old new h is found adds read =
+pub run_added : (t : TileOfMap) (position : TilePosition) (n r c : ℕ) (lines : RowsAroundRow) (run : RunValue)
+    (f : RunContribution) (old new : List Patch) → CanMeasurePatchesInRun t position r c lines run
+    → run.0 ≡ Some (pos (n + 1)) → IsRunContributionToPatch t (n + 1) r c run.1 f
+    → IsRunAddedToPatch old new n f → AreMeasuresOfPatchesUpToCell t r c old
+    → AreMeasuresOfPatchesUpToCell t r (c + run.1) new
+run_added t position n r c lines run f old new h number found adds read =
     let row = h.ready.row in
-    let col = h.col in
+    let cols = h.cols in
     let last_row = h.ready.valid.inside.last_row in
     let last_col = h.ready.valid.inside.last_col in
-    all_same t r c n old new f (omega arith) (omega arith) is
+    let is = first_number t position (n + 1) r c lines run h number in
+    all_same t r c run.1 n old new f h.some (omega arith) (omega arith) (λ b lt. h.has_number b lt ∙ number)
     (λ a b of. h.ready.valid.alike (n + 1) a b r c of (of_from t.numbers (Some (pos (n + 1))) r c is))
     found adds read
 
--- reading a null cell changes nothing
-pub cell_passed : (t : TileOfMap) (r c : ℕ) (patches : List Patch) → cell_at t.numbers r c ≡ None
-    → AreMeasuresOfPatchesUpToCell t r c patches → AreMeasuresOfPatchesUpToCell t r (c + 1) patches
-cell_passed t r c patches none read =
-    all_other t r c patches
-    (λ k. false_from_ne_true
-    _ (λ of. let f : None ≡ Some (pos (k + 1)) = sym none ∙ of_to t.numbers (Some (pos (k + 1))) r c of in cc))
-    (λ n is. absurd (let f : None ≡ Some (pos n) = sym none ∙ is in cc)) read
+-- the number of a run is null, or at least 1
+pub none_here : (number : CellValue) → is_none number ≡ true → number ≡ None
+none_here None e = refl
+none_here (Some v) e = absurd (false≢true e)
 
--- the number of a cell that is read is null, or at least 1
-pub none_here : (t : TileOfMap) (position : TilePosition) (r c : ℕ) (lines : RowsAroundRow) (number : CellValue)
-    → CanMeasurePatchesAtCell t position r c lines number → is_none number ≡ true → cell_at t.numbers r c ≡ None
-none_here t position r c lines number h none = sym h.has_number ∙ by_case number none
+pub some_here : (t : TileOfMap) (position : TilePosition) (r c : ℕ) (lines : RowsAroundRow) (run : RunValue)
+    → CanMeasurePatchesInRun t position r c lines run → is_none run.0 ≡ false
+    → (n : ℕ) × (run.0 ≡ Some (pos (n + 1)))
+some_here t position r c lines run h some = by_case run.0 refl some
   where
-    by_case : (x : CellValue) → is_none x ≡ true → x ≡ None
-    by_case None e = refl
-    by_case (Some v) e = absurd (false≢true e)
-
-pub some_here : (t : TileOfMap) (position : TilePosition) (r c : ℕ) (lines : RowsAroundRow) (number : CellValue)
-    → CanMeasurePatchesAtCell t position r c lines number → is_none number ≡ false
-    → (n : ℕ) × ((number ≡ Some (pos (n + 1))) × (cell_at t.numbers r c ≡ Some (pos (n + 1))))
-some_here t position r c lines number h some = by_case number refl some
-  where
-    by_case : (x : CellValue) → number ≡ x → is_none x ≡ false → (n : ℕ)
-        × ((number ≡ Some (pos (n + 1))) × (cell_at t.numbers r c ≡ Some (pos (n + 1))))
+    by_case : (x : CellValue) → run.0 ≡ x → is_none x ≡ false → (n : ℕ) × (run.0 ≡ Some (pos (n + 1)))
     by_case None e f = absurd (false≢true (sym f))
     by_case (Some v) e f =
-        let n = h.ready.valid.least r c v (sym h.has_number ∙ e) in
-        (n.0, (e ∙ ap Some n.1, sym h.has_number ∙ e ∙ ap Some n.1))
+        let n = h.ready.valid.least r (c + 0) v (h.has_number 0 h.some ∙ e) in (n.0, e ∙ ap Some n.1)

@@ -4,6 +4,7 @@ pub mod ResultLemmas
 pub mod PassLemmas
 pub mod StepLemmas
 pub mod CellLemmas
+pub mod RunLemmas
 pub mod CoreLemmas
 pub mod MeasureLemmas
 pub mod FullMapLemmas

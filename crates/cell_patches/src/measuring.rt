@@ -42,7 +42,7 @@ fn measure_patches_in_row(
         IsMeasuringStateBeforeRow tile depth (row + 1) patches.new.items) }
 {
     let steps = diamond_steps_of_row(alloc, lines, above, second_above)?;
-    add_row_of_map_to_patches(alloc, patches, lines, numbers, position, row)?;
+    add_row_of_map_to_patches(patches, lines, numbers, position, row)?;
     add_row_of_map_to_cores(
         alloc, patches, lines.here, &steps, numbers, position, depth, row,
     )?;

@@ -1,8 +1,8 @@
 //! A row of a map and its neighbouring rows.
 
-ghost use Rattle.std.specs.Prelude.{◌≡◌, ℕ, ◌+◌, ◌<◌, ◌≤◌, length, None, slice_index_or};
+ghost use Rattle.std.specs.Prelude.{◌≡◌, ◌≢◌, ℕ, ◌+◌, ◌<◌, ◌≤◌, length, None, slice_index_or};
 ghost use Rattle.cell_core.specs.Grid.{cell_at};
-ghost use Rattle.cell_patches.specs.parts.Passes.{west_cell_in_row_or_null};
+ghost use Rattle.cell_patches.specs.parts.Passes.{west_cell_in_row_or_null, outer_side_count_in_first_columns};
 ghost use Rattle.cell_patches.specs.TilePatches.{one_if_side_leaves_category};
 
 use cell_core::cell::Cell;
@@ -53,7 +53,7 @@ pub(crate) fn cell_in_column_or_null(line: &[Cell], col: usize) -> Cell
 
 // Returns 1 if the side between `cell` and `beyond` leads out of the category of `cell`, otherwise 0.
 #[inline(always)]
-fn one_if_side_leaves_category(cell: Cell, beyond: Cell) -> u64
+fn one_if_side_leaves_category(cell: Cell, beyond: Cell) -> u32
     ensures value { result ≡ one_if_side_leaves_category cell beyond }
     ensures most { result ≤ 1 }
 {
@@ -72,31 +72,42 @@ fn west_cell_in_row_or_null(line: &[Cell], col: usize) -> Cell
     }
 }
 
-// Counts the north and south sides of a cell that lead out of its category.
+// Counts the sides of a run of `count` cells of a category that lead out of it to the row `beyond`.
 #[inline(always)]
-pub(crate) fn count_outer_north_south_sides(
-    lines: &RowsAroundRow<'_>,
-    cell: Cell,
-    col: usize,
-) -> u64
-    ensures { result ≡ one_if_side_leaves_category cell
-        (slice_index_or lines.now.above.now col None)
-        + one_if_side_leaves_category cell (slice_index_or lines.now.below.now col None) }
+pub(crate) fn count_outer_sides(class: Cell, beyond: &[Cell], first: usize, count: u32) -> u64
+    requires class { class ≢ None }
+    requires end { first + count < 18446744073709551616 }
+    ensures sides { result + outer_side_count_in_first_columns class beyond.now first
+        ≡ outer_side_count_in_first_columns class beyond.now (first + count) }
+    ensures most { result ≤ count }
 {
-    let north = one_if_side_leaves_category(cell, cell_in_column_or_null(lines.above, col));
-    let south = one_if_side_leaves_category(cell, cell_in_column_or_null(lines.below, col));
-    north + south
+    // Most runs of noise are one cell, and a vector takes longer to count it.
+    if count == 1 {
+        return one_if_side_leaves_category(class, cell_in_column_or_null(beyond, first)) as u64;
+    }
+    let end = first + count as usize;
+    let known = end.min(beyond.len()).max(first);
+    // A 32-bit counter lets a vector count as many cells as it compares.
+    let mut sides = (end - known) as u32;
+    for col in first..known {
+        sides += one_if_side_leaves_category(class, beyond[col]);
+    }
+    sides as u64
 }
 
-// Counts the west and east sides of a cell that lead out of its category.
+// Counts the west and east sides of a run, in columns `first` to `end`, that lead out of its category.
 #[inline(always)]
-pub(crate) fn count_outer_west_east_sides(lines: &RowsAroundRow<'_>, cell: Cell, col: usize) -> u64
-    requires { col < length lines.now.here.now }
-    ensures { result ≡ one_if_side_leaves_category cell
-        (west_cell_in_row_or_null lines.now.here.now col)
-        + one_if_side_leaves_category cell (slice_index_or lines.now.here.now (col + 1) None) }
+pub(crate) fn count_outer_west_east_sides(
+    lines: &RowsAroundRow<'_>,
+    class: Cell,
+    first: usize,
+    end: usize,
+) -> u64
+    ensures { result ≡ one_if_side_leaves_category class
+        (west_cell_in_row_or_null lines.now.here.now first)
+        + one_if_side_leaves_category class (slice_index_or lines.now.here.now end None) }
 {
-    let west = one_if_side_leaves_category(cell, west_cell_in_row_or_null(lines.here, col));
-    let east = one_if_side_leaves_category(cell, cell_in_column_or_null(lines.here, col + 1));
-    west + east
+    let west = one_if_side_leaves_category(class, west_cell_in_row_or_null(lines.here, first));
+    let east = one_if_side_leaves_category(class, cell_in_column_or_null(lines.here, end));
+    (west + east) as u64
 }

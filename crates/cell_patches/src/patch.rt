@@ -1,7 +1,7 @@
 //! The measures of a patch.
 
 ghost use Rattle.std.specs.Prelude.{◌≡◌};
-ghost use Rattle.cell_patches.specs.parts.Passes.{unread, patch_with_one_more_cell, PatchMeasuresCannotOverflow};
+ghost use Rattle.cell_patches.specs.parts.Passes.{unread, patch_with_run, PatchMeasuresCannotOverflow};
 
 /// The measures of a patch, which is a connected component of equal cells.
 #[derive(Clone, Copy, Debug, PartialEq, Eq)]
@@ -44,29 +44,31 @@ impl Patch {
         }
     }
 
-    // Adds a cell to the measures.
+    // Adds a run to the measures.
     #[inline(always)]
-    pub(crate) fn add(&mut self, found: CellContribution)
+    pub(crate) fn add(&mut self, found: RunContribution)
         requires { PatchMeasuresCannotOverflow self.old found }
-        ensures { self.new ≡ patch_with_one_more_cell self.old found }
+        ensures { self.new ≡ patch_with_run self.old found }
     {
         self.class = found.class;
-        self.cells += 1;
+        self.cells += found.cells;
         self.ends += found.ends;
         self.flanks += found.flanks;
         self.first_row = self.first_row.min(found.row);
         self.last_row = self.last_row.max(found.row);
-        self.first_col = self.first_col.min(found.col);
-        self.last_col = self.last_col.max(found.col);
+        self.first_col = self.first_col.min(found.first_col);
+        self.last_col = self.last_col.max(found.last_col);
     }
 }
 
-// The contribution of a cell to the measures of its patch.
+// The contribution of a run, which is equal cells in a row, to the measures of its patch.
 #[derive(Clone, Copy, Debug)]
-pub(crate) struct CellContribution {
+pub(crate) struct RunContribution {
     pub(crate) class: i32,
+    pub(crate) cells: u64,
     pub(crate) ends: u64,
     pub(crate) flanks: u64,
     pub(crate) row: u32,
-    pub(crate) col: u32,
+    pub(crate) first_col: u32,
+    pub(crate) last_col: u32,
 }

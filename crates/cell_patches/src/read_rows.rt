@@ -1,19 +1,20 @@
 //! Adds up the measures of patches over the cells of a row.
 
-ghost use Rattle.std.specs.Prelude.{◌≡◌, ℕ, ℤ, pos, Some, None, slice_index_or, ◌+◌, ◌-◌, ◌<◌, ◌≤◌, length, max, OnOk, IfOk};
+ghost use Rattle.std.specs.Prelude.{◌≡◌, ◌≢◌, ℕ, ℤ, pos, Some, None, slice_index_or, ◌+◌, ◌-◌, ◌<◌, ◌≤◌, length, max, OnOk, IfOk, All};
 ghost use Rattle.std.specs.Option.{is_none};
 ghost use Rattle.cell_core.specs.Grid.{cell_at, row_at};
-ghost use Rattle.cell_patches.specs.parts.Passes.{patch_at_index_or_unread, PatchMeasuresCannotOverflow, IsCellAddedToPatch, AreMeasuresOfPatchesUpToCell, IsCellContributionFromRows, CanMeasurePatchesAtCell, CanMeasurePatchesInRow, HaveSameCores, TileOfMap, AreRowsAroundRow, AreValidPatchNumbers, tile_rows_before};
+ghost use Rattle.cell_core.specs.Runs.{cells_of_runs};
+ghost use Rattle.cell_patches.specs.parts.Passes.{patch_at_index_or_unread, PatchMeasuresCannotOverflow, IsRunAddedToPatch, AreMeasuresOfPatchesUpToCell, IsRunContributionFromRows, CanMeasurePatchesInRun, CanMeasurePatchesInRow, HaveSameCores, TileOfMap, AreRowsAroundRow, AreValidPatchNumbers, tile_rows_before};
 
 use crate::near_rows::{
-    RowsAroundRow, cell_in_column_or_null, copy_row_below, count_outer_north_south_sides,
-    count_outer_west_east_sides,
+    RowsAroundRow, copy_row_below, count_outer_sides, count_outer_west_east_sides,
 };
-use crate::patch::{CellContribution, Patch};
+use crate::patch::{Patch, RunContribution};
 use crate::tile_position::TilePosition;
 use cell_core::cell::Cell;
 use cell_core::map::CellMap;
 use cell_core::memory::Memory;
+use cell_core::stretches::RunsOrCells;
 use std::alloc::Global;
 
 // Extends the list to at least `count` patches.
@@ -31,17 +32,17 @@ fn extend_patch_list(patches: &mut Vec<Patch>, count: usize) -> Result<(), Memor
     Ok(())
 }
 
-// Adds a cell to the patch with this number.
+// Adds a run to the patch with this number.
 #[inline(always)]
-fn add_cell_to_numbered_patch(
+fn add_run_to_numbered_patch(
     patches: &mut Vec<Patch>,
     number: u32,
-    found: CellContribution,
+    found: RunContribution,
 ) -> Result<(), Memory>
     requires least { 1 ≤ number }
     requires room { PatchMeasuresCannotOverflow (patch_at_index_or_unread patches.old.items
         (number - 1)) found }
-    ensures { OnOk result (IsCellAddedToPatch patches.old.items patches.new.items
+    ensures { OnOk result (IsRunAddedToPatch patches.old.items patches.new.items
         (number - 1) found) }
 {
     extend_patch_list(patches, number as usize)?;
@@ -80,84 +81,89 @@ pub(crate) fn is_null(cell: Cell) -> bool
     cell.get().is_none()
 }
 
-// Returns the contribution of the cell at column `at` of a row to its patch. `row` and `col` are its row and column in
-// the full map.
+// Returns the contribution of a run to its patch. The run begins at column `at` of the row around which the lines are,
+// and at `row` and `col` in the full map.
 #[inline(always)]
-fn contribution_of_cell(
+fn contribution_of_run(
     lines: &RowsAroundRow<'_>,
     at: usize,
+    count: u32,
     row: u32,
     col: u32,
-) -> CellContribution
-    requires { at < length lines.now.here.now }
-    ensures { IsCellContributionFromRows lines.now (slice_index_or lines.now.here.now at None) at
-        row col result }
+) -> RunContribution
+    requires some { 0 < count }
+    requires within { at + count ≤ length lines.now.here.now }
+    requires last_col { col + count < 4294967296 }
+    requires class { slice_index_or lines.now.here.now at None ≢ None }
+    ensures { IsRunContributionFromRows lines.now (slice_index_or lines.now.here.now at None) at
+        count row col result }
 {
-    let class = cell_in_column_or_null(lines.here, at);
-    CellContribution {
+    let class = lines.here[at];
+    let end = at + count as usize;
+    RunContribution {
         class: category_or_zero(class),
-        ends: count_outer_north_south_sides(lines, class, at),
-        flanks: count_outer_west_east_sides(lines, class, at),
+        cells: count as u64,
+        ends: count_outer_sides(class, lines.above, at, count)
+            + count_outer_sides(class, lines.below, at, count),
+        flanks: count_outer_west_east_sides(lines, class, at, end),
         row,
-        col,
+        first_col: col,
+        last_col: col + (count - 1),
     }
 }
 
-// Adds a cell of a tile to its patch, if it is in one.
+// Adds a run of a tile to its patch, if it is in one.
 #[inline(always)]
-fn add_cell(
+fn add_run(
     patches: &mut Vec<Patch>,
     lines: &RowsAroundRow<'_>,
-    number: Cell,
+    run: (Cell, u32),
     position: TilePosition,
     row: u32,
-    col: usize,
+    col: u32,
 ) -> Result<(), Memory>
     ghost tile: { TileOfMap }
-    requires ready { CanMeasurePatchesAtCell tile position row col lines.now number }
+    requires ready { CanMeasurePatchesInRun tile position row col lines.now run }
     requires read { AreMeasuresOfPatchesUpToCell tile row col patches.old.items }
     ensures read { OnOk result
-        (AreMeasuresOfPatchesUpToCell tile row (col + 1) patches.new.items) }
+        (AreMeasuresOfPatchesUpToCell tile row (col + run.1) patches.new.items) }
     ensures cores { OnOk result (HaveSameCores patches.old.items patches.new.items) }
 {
-    if is_null(number) {
+    if is_null(run.0) {
         return Ok(());
     }
-    let found = contribution_of_cell(
+    let found = contribution_of_run(
         lines,
-        position.left as usize + col,
+        position.left as usize + col as usize,
+        run.1,
         position.first_row + row,
-        position.first_col + col as u32,
+        position.first_col + col,
     );
-    add_cell_to_numbered_patch(patches, patch_number_or_zero(number), found)
+    add_run_to_numbered_patch(patches, patch_number_or_zero(run.0), found)
 }
 
-// Adds the cells of a row of a tile to their patches.
+// Adds the runs of a row of a tile to their patches.
 #[inline(never)]
-fn add_row_of_cells_to_patches(
+fn add_row_of_runs_to_patches(
     patches: &mut Vec<Patch>,
     lines: &RowsAroundRow<'_>,
-    numbers: &[Cell],
+    numbers: RunsOrCells<'_>,
     position: TilePosition,
     row: u32,
 ) -> Result<(), Memory>
     ghost tile: { TileOfMap }
     requires ready { CanMeasurePatchesInRow tile position row lines.now }
-    requires numbers { numbers.now ≡ row_at tile.numbers row }
-    requires wide { length numbers.now ≡ tile.numbers.region.cols }
+    requires numbers { cells_of_runs numbers ≡ row_at tile.numbers row }
+    requires wide { length (cells_of_runs numbers) ≡ tile.numbers.region.cols }
+    requires some { All (λ run. 0 < run.1) numbers }
     requires read { AreMeasuresOfPatchesUpToCell tile row 0 patches.old.items }
     ensures read { OnOk result (AreMeasuresOfPatchesUpToCell tile (row + 1) 0 patches.new.items) }
     ensures cores { OnOk result (HaveSameCores patches.old.items patches.new.items) }
 {
-    for col in 0..numbers.len() {
-        add_cell(
-            patches,
-            lines,
-            cell_in_column_or_null(numbers, col),
-            position,
-            row,
-            col,
-        )?;
+    let mut col: u32 = 0;
+    for (number, count) in numbers {
+        add_run(patches, lines, (number, count), position, row, col)?;
+        col += count;
     }
     Ok(())
 }
@@ -191,7 +197,6 @@ pub(crate) fn row_below_or_nulls(
 
 // Adds the cells of a tile in a row of the map to their patches.
 pub(crate) fn add_row_of_map_to_patches(
-    alloc: Global,
     patches: &mut Vec<Patch>,
     lines: &RowsAroundRow<'_>,
     numbers: &CellMap,
@@ -217,6 +222,11 @@ pub(crate) fn add_row_of_map_to_patches(
     if numbers.region().rows() <= tile_row {
         return Ok(());
     }
-    let line = row_of_map(alloc, numbers, tile_row)?;
-    add_row_of_cells_to_patches(patches, lines, &line, position, tile_row)
+    add_row_of_runs_to_patches(
+        patches,
+        lines,
+        numbers.stretches(tile_row),
+        position,
+        tile_row,
+    )
 }

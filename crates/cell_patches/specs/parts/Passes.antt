@@ -3,8 +3,9 @@ use Rattle.std.specs.Prelude.{ℕ, ℤ, zero, suc, pos, ◌&&◌, ◌+◌, ◌-�
 use Rattle.std.specs.Prelude.{List, length, Some, None, min, max, slice_index_or, if◌then◌else◌}
 use Rattle.cell_core_values.specs.Cell.{cell_eq}
 use Rattle.cell_core.specs.Grid.{Grid, CellValue, RowsFillRegion, cell_at}
+use Rattle.cell_core.specs.Runs.{RunValue}
 use Rattle.cell_patches.specs.declared.patch.Patch.{Patch}
-use Rattle.cell_patches.specs.declared.patch.CellContribution.{CellContribution}
+use Rattle.cell_patches.specs.declared.patch.RunContribution.{RunContribution}
 use Rattle.cell_patches.specs.declared.near_rows.RowsAroundRow.{RowsAroundRow}
 use Rattle.cell_patches.specs.declared.tile_position.TilePosition.{TilePosition}
 use Rattle.cell_patches.specs.Patches.{is_in_patch, value_or_0_outside_patch, do_cells_within_steps_have_value}
@@ -27,18 +28,18 @@ unread = record {
   last_col = 0;
 }
 
--- the measures after one more cell
-abbrev pub patch_with_one_more_cell : Patch → CellContribution → Patch
-patch_with_one_more_cell p f = record {
+-- the measures after one more run
+abbrev pub patch_with_run : Patch → RunContribution → Patch
+patch_with_run p f = record {
   class = f.class;
-  cells = p.cells + 1;
+  cells = p.cells + f.cells;
   ends = p.ends + f.ends;
   flanks = p.flanks + f.flanks;
   core = p.core;
   first_row = min p.first_row f.row;
   last_row = max p.last_row f.row;
-  first_col = min p.first_col f.col;
-  last_col = max p.last_col f.col;
+  first_col = min p.first_col f.first_col;
+  last_col = max p.last_col f.last_col;
 }
 
 -- the measures with this number of core cells
@@ -55,9 +56,9 @@ patch_with_core p core = record {
   last_col = p.last_col;
 }
 
--- the measures cannot overflow if the cell is added
-pub record PatchMeasuresCannotOverflow (p : Patch) (f : CellContribution) : Type 0 where
-  pub cells : p.cells + 1 < 18446744073709551616
+-- the measures cannot overflow if the run is added
+pub record PatchMeasuresCannotOverflow (p : Patch) (f : RunContribution) : Type 0 where
+  pub cells : p.cells + f.cells < 18446744073709551616
   pub ends : p.ends + f.ends < 18446744073709551616
   pub flanks : p.flanks + f.flanks < 18446744073709551616
 
@@ -65,9 +66,9 @@ pub record PatchMeasuresCannotOverflow (p : Patch) (f : CellContribution) : Type
 abbrev pub patch_at_index_or_unread : List Patch → ℕ → Patch
 patch_at_index_or_unread patches k = slice_index_or patches k unread
 
--- the patch at this index has one more cell, and all others are unchanged
-pub record IsCellAddedToPatch (old new : List Patch) (place : ℕ) (found : CellContribution) : Type 0 where
-  pub here : patch_at_index_or_unread new place ≡ patch_with_one_more_cell (patch_at_index_or_unread old place) found
+-- the patch at this index has one more run, and all others are unchanged
+pub record IsRunAddedToPatch (old new : List Patch) (place : ℕ) (found : RunContribution) : Type 0 where
+  pub here : patch_at_index_or_unread new place ≡ patch_with_run (patch_at_index_or_unread old place) found
   pub others : (k : ℕ) → k ≢ place → patch_at_index_or_unread new k ≡ patch_at_index_or_unread old k
   pub long : length new ≡ max (length old) (place + 1)
 
@@ -145,13 +146,21 @@ AreCoresOfPatchesUpToCell t depth r c patches =
     (k : ℕ) → (patch_at_index_or_unread patches k).core
     ≡ sum_over_earlier_cells_of_patch t (k + 1) (one_if_cell_is_core t.map depth) r c
 
--- the contribution of a cell to its patch
-pub record IsCellContributionToPatch (t : TileOfMap) (n r c : ℕ) (found : CellContribution) : Type 0 where
+-- the sum over the columns of a run of `count` cells that begins at column c
+abbrev pub IsSumOverRun : (ℕ → ℕ) → (c count sum : ℕ) → Type 0
+IsSumOverRun f c count sum = sum_over_first_columns f (c + count) ≡ sum_over_first_columns f c + sum
+
+-- the contribution of a run of `count` cells that begins at row r, column c
+pub record IsRunContributionToPatch (t : TileOfMap) (n r c count : ℕ) (found : RunContribution) : Type 0 where
   pub class : map_cell_of_tile t r c ≡ Some found.class
-  pub ends : found.ends ≡ value_of_cell_in_tile_patch t n (outer_north_south_side_count_of_cell t.map) r c
-  pub flanks : found.flanks ≡ value_of_cell_in_tile_patch t n (outer_west_east_side_count_of_cell t.map) r c
+  pub cells : IsSumOverRun (value_of_cell_in_tile_patch t n (λ a b. 1) r) c count found.cells
+  pub ends : IsSumOverRun (value_of_cell_in_tile_patch t n (outer_north_south_side_count_of_cell t.map) r) c count
+      found.ends
+  pub flanks : IsSumOverRun (value_of_cell_in_tile_patch t n (outer_west_east_side_count_of_cell t.map) r) c count
+      found.flanks
   pub row : found.row ≡ t.position.first_row + r
-  pub col : found.col ≡ t.position.first_col + c
+  pub first_col : found.first_col ≡ t.position.first_col + c
+  pub last_col : found.last_col + 1 ≡ t.position.first_col + c + count
 
 -- the cell this many rows above; null outside the map
 abbrev pub cell_rows_above_or_null : ℕ → Grid → ℕ → ℕ → CellValue
@@ -228,20 +237,30 @@ pub record AreValidPatchNumbers (t : TileOfMap) : Type 0 where
   pub rows_most : t.map.region.rows ≤ 65535
   pub cols_most : t.map.region.cols ≤ 65535
 
--- the contribution of the cell at column c, computed from the rows around it, with its row and column in the full map
-pub record IsCellContributionFromRows (lines : RowsAroundRow) (cell : CellValue) (c row col : ℕ)
-    (found : CellContribution) : Type 0 where
+-- the number of sides to a row that lead out of a category, in its first columns
+abbrev pub outer_side_count_in_first_columns : CellValue → List CellValue → ℕ → ℕ
+outer_side_count_in_first_columns class beyond =
+    sum_over_first_columns (λ c. one_if_side_leaves_category class (slice_index_or beyond c None))
+
+-- the contribution of a run of `count` cells that begins at column c, computed from the rows around it, with its row
+-- and its first column in the full map
+pub record IsRunContributionFromRows (lines : RowsAroundRow) (cell : CellValue) (c count row col : ℕ)
+    (found : RunContribution) : Type 0 where
   pub class : (v : ℤ) → cell ≡ Some v → found.class ≡ v
+  pub cells : found.cells ≡ count
   pub ends : found.ends
-      ≡ one_if_side_leaves_category cell (slice_index_or lines.above.now c None)
-      + one_if_side_leaves_category cell (slice_index_or lines.below.now c None)
+      + (outer_side_count_in_first_columns cell lines.above.now c
+      + outer_side_count_in_first_columns cell lines.below.now c)
+      ≡ outer_side_count_in_first_columns cell lines.above.now (c + count)
+      + outer_side_count_in_first_columns cell lines.below.now (c + count)
   pub flanks : found.flanks
       ≡ one_if_side_leaves_category cell (west_cell_in_row_or_null lines.here.now c)
-      + one_if_side_leaves_category cell (slice_index_or lines.here.now (c + 1) None)
+      + one_if_side_leaves_category cell (slice_index_or lines.here.now (c + count) None)
   pub at_row : found.row ≡ row
-  pub at_col : found.col ≡ col
+  pub at_first_col : found.first_col ≡ col
+  pub at_last_col : found.last_col + 1 ≡ col + count
 
--- the requirements for reading a row of a tile, and for reading a cell of it
+-- the requirements for reading a row of a tile, and for reading a run of it
 pub record CanMeasurePatchesInRow (t : TileOfMap) (position : TilePosition) (r : ℕ) (lines : RowsAroundRow) : Type 0
   where
     pub valid : AreValidPatchNumbers t
@@ -250,11 +269,12 @@ pub record CanMeasurePatchesInRow (t : TileOfMap) (position : TilePosition) (r :
     pub at : AreRowsAroundRow t.map (t.position.top + r) lines
     pub wide : length lines.here.now ≡ t.map.region.cols
 
-pub record CanMeasurePatchesAtCell (t : TileOfMap) (position : TilePosition) (r c : ℕ) (lines : RowsAroundRow)
-    (number : CellValue) : Type 0 where
+pub record CanMeasurePatchesInRun (t : TileOfMap) (position : TilePosition) (r c : ℕ) (lines : RowsAroundRow)
+    (run : RunValue) : Type 0 where
   pub ready : CanMeasurePatchesInRow t position r lines
-  pub col : c < t.numbers.region.cols
-  pub has_number : number ≡ cell_at t.numbers r c
+  pub some : 0 < run.1
+  pub cols : c + run.1 ≤ t.numbers.region.cols
+  pub has_number : (b : ℕ) → b < run.1 → cell_at t.numbers r (c + b) ≡ run.0
 
 -- the requirements for counting the cores of a row of a tile, given the row of the map `depth` rows below
 pub record CanCountCoresOfRow (t : TileOfMap) (left depth r : ℕ) (below : List CellValue) (steps : List ℕ) : Type 0
