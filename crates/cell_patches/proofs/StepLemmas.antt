@@ -2,14 +2,14 @@
 use Rattle.std.proofs.Common.{◌≡◌, ℕ, ℤ, zero, suc, ◌+◌, ◌-◌, ◌<◌, ◌≤◌, true, false, List, length, Some, None, min}
 use Rattle.std.proofs.Common.{get_or, refl, ap, sym, ◌∙◌, arith, subst, inl, inr, ◌⊎◌}
 use Rattle.std.proofs.lemmas.List.{get_or_past}
-use Rattle.std.proofs.lemmas.Bool.{and_from, and_parts, cases_lt, both_ways, le-leb}
+use Rattle.std.proofs.lemmas.Bool.{and_from, and_parts, cases_lt, both_ways, false_from_ne_true, le-leb}
 use Rattle.cell_core_values.specs.Cell.{cell_eq, cell_eq-Decides}
 use Rattle.cell_core.specs.Grid.{Grid, CellValue, cell_at}
 use Rattle.cell_patches.specs.declared.near_rows.RowsAroundRow.{RowsAroundRow}
 use Rattle.cell_patches.specs.Patches.{do_cells_within_steps_have_value}
 use Rattle.cell_patches.specs.parts.Passes.{AreRowsAroundRow, AreStepsOfLargestDiamond}
 use Rattle.cell_patches.specs.parts.Passes.{cell_rows_above_or_null}
-use Rattle.cell_patches.specs.parts.Passes.{cell_equals_four_cells_above, RowsGiveDiamondStepsOfCell}
+use Rattle.cell_patches.specs.parts.Passes.{cell_equals_four_cells_above, RowsGiveDiamondStepsOfCell, RowsGiveDiamondStepsOfRow}
 use Rattle.cell_patches.proofs.InsideLemmas.{of_from, of_to, pure, edge_row, edge_col, steps_none, steps_more}
 
 -- a cell that equals a cell with a number has that number
@@ -163,8 +163,25 @@ steps_pure lines west steps above second_above is_so value m (suc (suc r)) h v i
     many : steps ≡ suc (min (min w e) nn)
     many = let most = h.row_most in let within = one.within in omega (arith, value)
 
+-- a cell without a cell to its upper right, or without one two rows above it, has 0 steps
+steps_outside : (lines : RowsAroundRow) (west : ℕ) (above second_above : List ℕ)
+    → (length lines.above.now ≤ west + 2) ⊎ (length lines.second_above.now ≤ west + 1)
+    → RowsGiveDiamondStepsOfCell lines (west + 1) above second_above 0
+steps_outside lines west above second_above outside m r h v is =
+    steps_impure lines west above second_above
+    (false_from_ne_true _
+    (λ is_so. never outside (pure_facts lines west v (h.at.here (west + 1) ∙ is) is_so).1.1))
+    m r h v is
+  where
+    never : (length lines.above.now ≤ west + 2) ⊎ (length lines.second_above.now ≤ west + 1)
+        → (get_or lines.above.now (west + 2) None ≡ Some v) × (get_or lines.second_above.now (west + 1) None ≡ Some v)
+        → ⊥
+    never (inl past) has = let f : None ≡ Some v = sym (get_or_past lines.above.now (west + 2) None past) ∙ has.0 in cc
+    never (inr past) has =
+        let f : None ≡ Some v = sym (get_or_past lines.second_above.now (west + 1) None past) ∙ has.1 in cc
+
 -- if each cell up to the end of a row has its steps, all cells of the row have them
-pub steps_row : (m : Grid) (r : ℕ) (lines : RowsAroundRow) (here : List ℕ)
+steps_row : (m : Grid) (r : ℕ) (lines : RowsAroundRow) (here : List ℕ)
     → AreRowsAroundRow m r lines
     → length here ≡ length lines.here.now
     → ((c : ℕ) → c < length here → (v : ℤ) → cell_at m r c ≡ Some v
@@ -178,3 +195,29 @@ steps_row m r lines here at long each c v is = by_case (cases_lt c (length here)
         let none : cell_at m r c ≡ None =
         sym (at.here c) ∙ get_or_past lines.here.now c None (omega arith) in
         absurd (let f : None ≡ Some v = sym none ∙ is in cc)
+
+-- if each cell before a column has its steps, and no later cell has cells to its upper right and two rows above it, all
+-- cells of the row have their steps
+pub steps_rest : (lines : RowsAroundRow) (above second_above here : List ℕ) (col : ℕ) → 0 < col
+    → ((k : ℕ) → k < col → RowsGiveDiamondStepsOfCell lines k above second_above (get_or here k 0))
+    → ((k : ℕ) → col ≤ k → get_or here k 0 ≡ 0)
+    → length here ≡ length lines.here.now
+    → min (min (length here) (length lines.second_above.now)) (length lines.above.now - 1) ≤ col
+    → RowsGiveDiamondStepsOfRow lines above second_above here
+steps_rest lines above second_above here col some before after long end m r h =
+    steps_row m r lines here h.at long (λ k lt. each k lt (cases_lt k col) m r h)
+  where
+    each : (k : ℕ) → k < length here → (k < col) ⊎ (col ≤ k)
+        → RowsGiveDiamondStepsOfCell lines k above second_above (get_or here k 0)
+    each k lt (inl early) = before k early
+    each k lt (inr late) = rw (after k late) (past k lt late (cases_lt (k + 1) (length lines.above.now)))
+      where
+        past : (k : ℕ) → k < length here → col ≤ k → (k + 1 < length lines.above.now) ⊎ (length lines.above.now ≤ k + 1)
+            → RowsGiveDiamondStepsOfCell lines k above second_above 0
+        past zero lt late which = absurd (omega arith)
+        past (suc west) lt late (inl lower) = subst (λ x. RowsGiveDiamondStepsOfCell lines x above second_above 0)
+            (let e : west + 1 ≡ suc west = omega arith in e)
+            (steps_outside lines west above second_above (inr (omega arith)))
+        past (suc west) lt late (inr higher) = subst (λ x. RowsGiveDiamondStepsOfCell lines x above second_above 0)
+            (let e : west + 1 ≡ suc west = omega arith in e)
+            (steps_outside lines west above second_above (inl (omega arith)))

@@ -5,7 +5,6 @@ ghost use Rattle.std.specs.Option.{is_none};
 ghost use Rattle.cell_core.specs.Grid.{cell_at};
 ghost use Rattle.cell_patches.specs.parts.Passes.{patch_at_index_or_unread, AreCoresOfPatchesUpToCell, AreDiamondStepsOfRow, AreMeasuresOfPatchesUpToCell, AreValidPatchNumbers, CanCountCoresOfRow, HaveSameMeasuresExceptCores, IsCoreAddedToPatch, TileOfMap, tile_rows_before};
 
-use crate::core_steps::diamond_steps_or_0_outside_map;
 use crate::near_rows::cell_in_column_or_null;
 use crate::patch::Patch;
 use crate::read_rows::{is_null, patch_number_or_zero, row_of_map};
@@ -26,6 +25,17 @@ fn add_core_to_numbered_patch(patches: &mut Vec<Patch>, number: u32)
 {
     let place = number as usize - 1;
     patches[place].core += 1;
+}
+
+// Returns the steps at a column of a row, or 0 outside the map.
+#[inline(always)]
+fn diamond_steps_or_0_outside_map(steps: &[u32], col: usize) -> u32
+    ensures value { result ≡ slice_index_or steps.now col 0 }
+{
+    match steps.get(col) {
+        Some(count) => *count,
+        None => 0,
+    }
 }
 
 // Returns whether the cell `depth` rows above the cell at column `at` is a core cell.

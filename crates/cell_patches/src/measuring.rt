@@ -35,9 +35,12 @@ fn measure_patches_in_row(
     requires numbers { tile.numbers ≡ numbers.now }
     requires position { tile.position ≡ position }
     requires ready { CanMeasurePatchesFromRow tile row lines.now above.now second_above.now }
+    requires above { length above.now ≡ length lines.now.above.now }
+    requires second_above { length second_above.now ≡ length lines.now.second_above.now }
     requires depth { 0 < depth }
     requires state { IsMeasuringStateBeforeRow tile depth row patches.old.items }
     ensures steps { IfOk result (λ steps. AreDiamondStepsOfRow tile.map row steps.items) }
+    ensures wide { IfOk result (λ steps. length steps.items ≡ length lines.now.here.now) }
     ensures state { IfOk result (λ steps.
         IsMeasuringStateBeforeRow tile depth (row + 1) patches.new.items) }
 {

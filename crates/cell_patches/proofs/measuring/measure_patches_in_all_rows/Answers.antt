@@ -1,4 +1,4 @@
-use Rattle.std.proofs.Common.{◌∙◌, ◌+◌, arith, ap, sym, List, None, get_or}
+use Rattle.std.proofs.Common.{◌∙◌, ◌+◌, arith, ap, sym, ℕ, List, length, None, get_or}
 use Rattle.cell_core.specs.Grid.{Grid, CellValue, cell_at}
 use Rattle.cell_patches.proofs.MeasureLemmas.{steps_next_one, steps_next_two, steps_none_above, above_next_one}
 use Rattle.cell_patches.proofs.MeasureLemmas.{above_next_two, state_first}
@@ -14,6 +14,10 @@ loop-row-init g c = record {
   here = λ k. ap (λ (xs : List CellValue). get_or xs k None) c.in_ok-here.ensures.line
       ∙ ap (λ (m : Grid). cell_at m 0 k) (sym c.requires.0);
   wide = c.in_ok-here.ensures.wide ∙ ap (λ (m : Grid). m.region.cols) (sym c.requires.0);
+  steps_above = ap (λ (xs : List ℕ). length xs) c.new-steps_above.ensures.items
+      ∙ sym (ap (λ (xs : List CellValue). length xs) c.new-above.ensures.items);
+  steps_second_above = ap (λ (xs : List ℕ). length xs) c.new-steps_second_above.ensures.items
+      ∙ sym (ap (λ (xs : List CellValue). length xs) c.new-second_above.ensures.items);
 }
 
 pub loop-row-preserved : goal.loop-row-preserved
@@ -26,4 +30,7 @@ loop-row-preserved g c = record {
   here = λ k. c.in_ok-below.ensures.line k
       ∙ ap (λ (m : Grid). cell_at m (c.loop-row.row + 1) k) (sym c.requires.0);
   wide = c.in_ok-below.ensures.wide ∙ ap (λ (m : Grid). m.region.cols) (sym c.requires.0);
+  steps_above = c.in_ok-steps.ensures.wide
+      ∙ ap (λ (xs : List CellValue). length xs) c.deref-in-loop-row-2.ensures.value;
+  steps_second_above = c.loop-row.invariant.steps_above;
 }

@@ -16,4 +16,6 @@ invariant-loop-row g l = record {
   above : (c : ℕ) → get_or l.above.items c None ≡ cell_rows_above_or_null 1 g.tile.map l.row c;
   here : (c : ℕ) → get_or l.here.items c None ≡ cell_at g.tile.map l.row c;
   wide : length l.here.items ≡ g.tile.map.region.cols;
+  steps_above : length l.steps_above.items ≡ length l.above.items;
+  steps_second_above : length l.steps_second_above.items ≡ length l.second_above.items;
 }
