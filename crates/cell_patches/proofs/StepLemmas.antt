@@ -9,7 +9,8 @@ use Rattle.cell_patches.specs.declared.near_rows.RowsAroundRow.{RowsAroundRow}
 use Rattle.cell_patches.specs.Patches.{do_cells_within_steps_have_value}
 use Rattle.cell_patches.specs.parts.Passes.{AreRowsAroundRow, AreStepsOfLargestDiamond}
 use Rattle.cell_patches.specs.parts.Passes.{cell_rows_above_or_null}
-use Rattle.cell_patches.specs.parts.Passes.{cell_equals_four_cells_above, RowsGiveDiamondStepsOfCell, RowsGiveDiamondStepsOfRow}
+use Rattle.cell_patches.specs.parts.Passes.{cell_equals_four_cells_above}
+use Rattle.cell_patches.specs.parts.Passes.{RowsGiveDiamondStepsOfCell, RowsGiveDiamondStepsOfRow}
 use Rattle.cell_patches.proofs.InsideLemmas.{of_from, of_to, pure, edge_row, edge_col, steps_none, steps_more}
 
 -- a cell that equals a cell with a number has that number

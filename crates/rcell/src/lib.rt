@@ -6,7 +6,7 @@
 //! - `outcome`: `OutcomeWithSources`: the outcome of a run, and its sources after their last reads. `Outcome`: the exit status, the
 //!   number of bytes written, and the `RunFault` (in `run_fault`). The status is 1 for bad input, 3 if memory runs out,
 //!   4 if a read or write fails
-//! - `report`: `fault_report_line`, the error line `rcell: SOURCE:LINE_BUFFER_BYTES: TEXT`
+//! - `report`: `fault_report_line`, the error line `rcell: SOURCE:LINE: TEXT`
 //! - `loading`, `script_bytes`: read the grids onto a shelf, and the bytes of the script
 //! - `making`, `map_of_values`: make the maps of statements; `evaluate` makes the map of an expression
 //! - `execution`: `execute` executes the statements in order

@@ -33,7 +33,7 @@ pub enum FaultReportText {
     Write { written: u64 },
 }
 
-/// A line `rcell: SOURCE:LINE_BUFFER_BYTES: TEXT` (profile). The line number is 0 if the error has none.
+/// A line `rcell: SOURCE:LINE: TEXT` (profile). The line number is 0 if the error has none.
 #[derive(Clone, Copy, Debug)]
 pub struct FaultReportLine<'a, T> {
     pub source: &'a [u8],

@@ -75,7 +75,7 @@ pub trait Process {
         ensures reported { IfErr result (λ error. error ≢ memory → (error ≡ file)
             × (files self.old path.now ≡ None)) };
 
-    /// Prints the line `PROGRAM_NAME: SOURCE:LINE_BUFFER_BYTES: TEXT` to standard error.
+    /// Prints the line `PROGRAM: SOURCE:LINE: TEXT` to standard error.
     ///
     /// # Errors
     ///

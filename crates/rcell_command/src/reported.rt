@@ -48,7 +48,7 @@ pub trait Reported: fmt::Display {
         ensures { result ≡ place self.now };
 }
 
-/// Prints the line `PROGRAM_NAME: SOURCE:LINE_BUFFER_BYTES: TEXT` for an error (profile) to standard error. Returns the exit
+/// Prints the line `PROGRAM: SOURCE:LINE: TEXT` for an error (profile) to standard error. Returns the exit
 /// status, which is 0 if there is no error. The status does not depend on whether standard error accepts the line.
 pub fn report_error<P: Process, T: Reported>(process: &mut P, program: &str, reported: &T) -> u8
     ensures { HasOnlyReportedError P.opened P.errors P.failed process.old process.new program.now
