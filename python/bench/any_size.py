@@ -5,10 +5,10 @@
 
 The map is land cover of N x N cells, 16,000 if N is not given, as a GeoTIFF that is kept in the folder F, and the same map moved by two
 cells. TASK is one of `reading` (alone), `composition`, `cross`, `change`, `majority` (3 x 3, written as a GeoTIFF), `clump`, `patches`
-and `summary` (of patches by class); all if none is given. Each call runs in a process of its own, all calls of a task in turns. Seconds are
-processor time of this process and of its programs; in parentheses by the clock, which means something if nothing else runs. The last
+and `summary` (of patches by class); by default all. Each call runs in a process of its own, and the calls of a task take turns. Seconds are
+processor time of this process and of its programs, and in parentheses by the clock, which means little unless nothing else runs. The last
 columns are both times with the most workers, divided by the times of one run. With --alone, Dask, numpy and scipy are left out. With
---write the table takes its place in bench/RESULTS.md.
+--write, the table replaces the one in bench/RESULTS.md.
 
 Results are compared after the clock has stopped: cells and patches of all ways, and each byte of the tables and maps of one run and of
 tiles. If they differ in a row, the row says so, and the exit status is 1.
@@ -78,7 +78,7 @@ def numbers_of(task: str, result: Any) -> Any:
 
 
 def sum_of_content(result: Any) -> int:
-    """Return a sum of a map's cells or of all columns of a table, or 0 for other results."""
+    """Return a checksum of a map's cells or of all columns of a table, or 0 for other results."""
     if hasattr(result, "array"):
         return zlib.crc32(result.array.filled(0).astype(np.int32, copy=False).data)
     found = 0
@@ -176,7 +176,7 @@ def measured(task: str, path: str, other: str, workers: int) -> None:
 
 
 def line_of(task: str, paths: list[str], counts: list[int], rounds: int) -> str:
-    """Return the row of a task: the fastest of some rounds, for one run, some numbers of workers, and -1 for Dask."""
+    """Return the row of a task: the fastest round in one run and with each number of workers, where -1 stands for Dask."""
     best: dict[int, list[float]] = {}
     numbers, sums = set(), set()
     for _ in range(rounds):

@@ -12,7 +12,8 @@ COMMANDS <- c("r.mapcalc", "r.reclass", "r.clump", "r.stats", "r.out.ascii")
 IS_OUTPUT <- 1L
 FLAGS <- c("c", "l", "1", "n", "N")
 BITS_OF_FLAGS <- c(1L, 2L, 4L, 8L, 16L)
-# The bytes after the name in a plan's entries for a map that is read and a map that is needed.
+# The number of bytes after the name in a plan's entry for a map that is read, and for a map that is
+# needed.
 BYTES_OF_MARGINS <- c(32L, 33L)
 PATCH_MEASURES <- c("cells", "ends", "flanks", "core", "top", "bottom", "left", "right")
 # The class takes one word, each measure two.

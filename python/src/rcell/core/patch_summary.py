@@ -173,7 +173,7 @@ class _Summary:
 
 
 def _table_of(rows: NDArray[Any]) -> Integers:
-    """Return a table of classes, patches and cells, given the measures of patches."""
+    """Convert patch measures to a table with the columns class, patch and cells."""
     order = np.argsort(rows["class"], kind="stable")
     return np.array([rows["class"][order], order + 1, rows["cells"][order]]).T
 

@@ -1,7 +1,7 @@
 # SPDX-License-Identifier: Apache-2.0 OR GPL-2.0-or-later
 """Send requests to rcell-pipe and return its responses, as defined in docs/pipe.md.
 
-A request contains maps and a script, or the borders of tiles, and a response contains frames. The
+A request contains maps and a script, or parts of tiles to join. A response contains frames. The
 program writes nothing until it has read the complete request, unless it rejects the request. The
 request can therefore be written first and the response read afterwards, without a thread.
 """
@@ -248,7 +248,7 @@ def run(
     script : bytes
     questions : sequence of Question
     tile : sequence of int
-        For a tile, the eight numbers of `request`.
+        For a request for a tile, the eight numbers that `request` describes.
     seconds : float, optional
         The time limit for the run, in seconds.
     watch : callable, optional
@@ -416,7 +416,7 @@ def join_patches(
 ) -> JoinedPatchesFrame:
     """Join the measures of the patches of tiles.
 
-    The parameters are the same as for `patches_request` and `run`, which lists the errors.
+    The parameters are described in `patches_request` and `run`, and the errors in `run`.
     """
     sent = patches_request(runs, patches, rows)
     return _joined(_answered(program, sent, seconds, watch), JoinedPatchesFrame)

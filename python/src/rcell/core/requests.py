@@ -28,8 +28,8 @@ CELL_BYTES = {"u8": 1, "i8": 1, "u16": 2, "i16": 2, "u32": 4, "i32": 4, "i64": 8
 
 _CODES = {name: code for code, name in enumerate(CELL_BYTES, 1)}
 PATCHES, NUMBERS, BORDER = 1, 2, 4
-"""The frames that a question can ask for: of measures, of patch numbers, and of a map's border."""
-RUN_BYTES = 32  # of each run of a numbering
+"""The frames that a question can ask for: patch measures, patch numbers, and the map's border."""
+RUN_BYTES = 32  # the bytes of each run in a `responses.JoinFrame`
 # Rows and masks are interleaved in pieces that fit in a processor's cache.
 PIECE_BYTES = 1 << 18
 
@@ -151,7 +151,7 @@ class Margin(NamedTuple):
     right: int = 0
 
     def widened(self, other: Margin) -> Margin:
-        """Return the larger number on each side."""
+        """Return a margin with the larger of both numbers on each side."""
         return Margin(*(max(sides) for sides in zip(self, other)))
 
 
@@ -170,7 +170,7 @@ class Question(NamedTuple):
         The name of a map of zones, or an empty string. With zones, each patch is returned with the
         zone that contains most of its cells.
     kind : int
-        The frames that the question asks for, as a sum of `PATCHES`, `NUMBERS` and `BORDER`.
+        The sum of `PATCHES`, `NUMBERS` and `BORDER` for the frames that the question asks for.
 
     Examples
     --------
@@ -195,7 +195,10 @@ class Question(NamedTuple):
         return bytes([self.kind]) + _short(self.map) + numbers + _short(self.zones)
 
     def text(self) -> str:
-        """Return a question about measures as a comment, which follows the script in records."""
+        """Return the question as a comment, which follows the script in records.
+
+        Recorded questions only ask for measures, so the comment omits `kind`.
+        """
         numbers = f"connectivity {self.connectivity}, core depth {self.depth}"
         zones = f", zones {self.zones}" if self.zones else ""
         return f"# question: patches of {self.map}, {numbers}{zones}"
@@ -210,8 +213,17 @@ def request(
 ) -> Iterator[Buffer]:
     """Yield the bytes of a request with maps, a script, and questions.
 
-    A request for a tile contains eight numbers: the rows and columns of the full map; the first row
-    and column of the maps in it; and the first row and column, rows and columns of the tile.
+    Parameters
+    ----------
+    maps : sequence of Map
+    script : bytes
+    questions : sequence of Question
+    tile : sequence of int
+        For a request for a tile, eight numbers: the rows and columns of the full map; the first row
+        and column of `maps`, and of the tile, in the full map, counted from 0; and the rows and
+        columns of the tile. Otherwise empty.
+    magic : bytes
+        The first eight bytes of a request that is not for a tile.
 
     Examples
     --------
@@ -257,17 +269,17 @@ def join_request(
 
 
 def patches_request(runs: Buffer, patches: int, rows: Buffer) -> Iterator[Buffer]:
-    """Yield the bytes of a request to join the measures of patches.
+    """Yield the bytes of a request to join the measures of the patches of tiles.
 
     Parameters
     ----------
     runs : buffer
         The runs of a `responses.JoinFrame`.
     patches : int
-        The number of patches.
+        The number of patches in `rows`.
     rows : buffer
-        For each patch, its tile and its number in the tile as u64, and its measures in the full map
-        as in `responses.PatchesFrame`. Patches are ordered by tile.
+        For each patch, ordered by tile: its tile and its number in the tile as u64, both counted
+        from 1, and its measures in the full map as in `responses.PatchesFrame`, without a zone.
     """
     run_bytes = memoryview(runs).cast("B")
     yield b"RCELLJ1\n" + struct.pack("<BQ", 2, len(run_bytes) // RUN_BYTES)

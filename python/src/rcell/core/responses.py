@@ -128,9 +128,11 @@ class PatchesFrame:
     rows : memoryview
         A row of `PATCH_BYTES` bytes for each patch, in the order of the patch numbers. A row
         contains the class as i32, followed by the cells, ends, flanks, core cells, first and last
-        row, and first and last column as u64. Rows and columns are counted from 0. If the question
-        has zones, the zone follows as i32, which is `NULL` if the patch has no zone.
+        row, and first and last column as u64. Rows and columns are counted from 0, in the full map.
+        If the question has zones, the zone follows as i32, which is `NULL` if the patch has no
+        zone.
     has_zones : bool
+        Whether the rows contain zones.
     """
 
     question: int
@@ -249,8 +251,8 @@ class JoinedPatchesFrame:
     Attributes
     ----------
     rows : memoryview
-        For each patch of the full map, its number as u64, and `PATCH_BYTES` bytes as in
-        `PatchesFrame`.
+        For each patch of the full map that has a part in the request, its number in the full map as
+        u64, and `PATCH_BYTES` bytes as in `PatchesFrame`. Patches are in ascending order.
     """
 
     rows: memoryview

@@ -22,7 +22,7 @@ from .writing import replacing, write_errors
 
 __all__ = ["Shelf", "state_of"]
 
-_FORMAT = b"tiles 2"  # changes with the results that are kept
+_FORMAT = b"tiles 2"  # change this if the contents of the kept files change
 # The attributes that define how a map is read from its files, such as its band.
 _DETAILS = ("layer", "band", "null_ranges", "file_nodata", "scale")
 

@@ -73,13 +73,13 @@ class Fold(Protocol):
         rows : array
             The program's measures of the patches, or an `r.stats` table over patches.
         waiting : array
-            The patches that may continue in other tiles.
+            The numbers of the patches that may continue in other tiles.
         tables : list of arrays
-            With measures, `r.stats` tables whose first column is the patch number.
+            If `rows` contains measures: `r.stats` tables whose first column is the patch number.
         """
 
     def join(self, joined: Joined | None) -> None:
-        """Join the waiting patches, unless there was only one run."""
+        """Join the waiting patches of all tiles. `joined` is None if there was only one run."""
 
 
 def execute(

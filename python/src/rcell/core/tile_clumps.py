@@ -1,8 +1,8 @@
 # SPDX-License-Identifier: Apache-2.0 OR GPL-2.0-or-later
-"""Join the clumps of tiles: their numbers in the full map, and their measures.
+"""Join the clumps of tiles: find their numbers in the full map, and combine their measures.
 
 The proved program rcell-pipe joins the clumps, using only the borders of the tiles. This module
-reads the numbers into numpy arrays, without a Python object per clump.
+reads its responses into numpy arrays, without a Python object per clump.
 """
 
 from __future__ import annotations
@@ -50,7 +50,7 @@ eastern cell sides.
 ZONED_PATCH = np.dtype([*PATCH.descr, ("zones", "<i4")])
 """The measures of a patch, and the zone that contains most of its cells."""
 assert (PATCH.itemsize, ZONED_PATCH.itemsize) == (PATCH_BYTES, PATCH_BYTES + ZONE_BYTES)
-# The measures of a tile's patch, as sent to join them, and of a patch of the full map.
+# A patch of a tile in a join request, and a patch of the full map in the response.
 _TILE_PATCH = np.dtype([("tile", "<u8"), ("patch", "<u8"), ("measures", PATCH)])
 _JOINED_PATCH = np.dtype([("number", "<i8"), ("measures", PATCH)])
 
@@ -68,7 +68,7 @@ class Joined:
         The number of clumps in the full map.
     runs : ndarray of int64, shape (n, 4)
         Runs of clumps with consecutive numbers, as in `responses.JoinFrame`.
-    starts : ndarray of integers
+    starts : ndarray of integers, shape (tiles + 1,)
         The index of each tile's first run, followed by the number of runs.
     """
 
@@ -77,9 +77,9 @@ class Joined:
     starts: Integers
 
     def numbers_of(self, tile: int) -> Integers:
-        """Return the numbers of a tile's clumps in the full map, by their numbers in the tile.
+        """Return the full map's number of each clump of a tile, indexed by its number in the tile.
 
-        These begin at 1. The number at index 0 is `NULL`.
+        `tile` is counted from 0. Clumps are numbered from 1, so the element at index 0 is `NULL`.
         """
         _, first, last, number = self.runs[self.starts[tile] : self.starts[tile + 1]].T
         offsets = np.repeat(number - first, last - first + 1)
@@ -134,18 +134,24 @@ def join(borders: Sequence[Integers], columns: int, connectivity: int) -> Joined
 
 
 def join_patches(joined: Joined, patches: Sequence[tuple[Integers, Integers]]) -> Integers:
-    """Join the measures of patches of tiles, which must be in the full map.
+    """Join patches of tiles, and combine their measures.
 
     Parameters
     ----------
     joined : Joined
     patches : sequence of pairs of ndarrays
-        For each tile, the numbers of patches in ascending order, and their measures.
+        For each tile, the numbers of patches in ascending order, and their measures in the full map
+        as `PATCH`.
 
     Returns
     -------
-    ndarray of PATCH and a field `number`
-        A row for each patch of the full map that has a part in `patches`.
+    structured ndarray
+        For each patch of the full map that has a part in `patches`, the fields `number` (its number
+        in the full map) and `measures` (as `PATCH`), in ascending order.
+
+    Raises
+    ------
+    OutOfMemory, Killed, MissingProgram, WrongProgram
     """
     rows = np.empty(sum(numbers.size for numbers, _ in patches), _TILE_PATCH)
     rows["tile"] = np.repeat(np.arange(len(patches)) + 1, [own.size for own, _ in patches])
@@ -161,9 +167,9 @@ def join_patches(joined: Joined, patches: Sequence[tuple[Integers, Integers]]) -
 
 @contextmanager
 def _joining(part: str) -> Iterator[str]:
-    """Yield the program's path, and convert errors of a join to this package's errors.
+    """Yield the program's path, and convert errors of a join request to this package's errors.
 
-    `part` names the parts of the request, which are counted.
+    In messages, `part` precedes the number of the part of the request that was rejected.
     """
     with program_errors("", [], path := find_pipe()):
         try:

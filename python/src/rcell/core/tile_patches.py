@@ -55,7 +55,7 @@ class PatchSum:
         self._tables[tile] = [table[kept[table[:, 0] - 1]] for table in tables]
 
     def join(self, joined: Optional[Joined]) -> None:
-        """Join the patches of all tiles, unless there is only one."""
+        """Join the patches of all tiles. `joined` is None if there was only one run."""
         closed = [self._closed[tile] for tile in sorted(self._closed)]
         numbers, parts = [own for own, _ in closed], [rows for _, rows in closed]
         if joined is not None:

@@ -3,7 +3,7 @@
 
 Tables are added up, and maps are assembled. Each r.clump is processed first, tile by tile: the
 clumps are joined, and the clump map is then treated as a given map. Laws of this project state that
-tiles have the same results as one run. Each step names its law.
+tiles give the same results as one run. Each step names its law.
 """
 
 from __future__ import annotations
@@ -118,7 +118,7 @@ def ask_tiles(
     ----------
     question : Question
     plan : sequence of Statement
-        The plan of a script that counts tables of patches, or empty.
+        The plan of a script with tables over the numbers of patches, or empty.
     maps, demand
         See `run_tiles`, which also lists the errors.
     fold : Fold
@@ -129,7 +129,7 @@ def ask_tiles(
 def _in_tiles(
     maps: Mapping[str, Source], demand: Demand, passes: int, do: Callable[[_Tiles], Result]
 ) -> Result:
-    """Call a function that processes each tile of maps a number of times, and return its result."""
+    """Call a function that processes each tile of maps `passes` times, and return its result."""
     found_cluster = cluster()
     size, workers = tile_size(maps, demand, found_cluster)
     shape = next(iter(maps.values())).region.shape
@@ -209,7 +209,8 @@ class _Tiles:
     def outputs(self, plan: Sequence[Statement], outputs: Sequence[Statement]) -> list[Output]:
         """Return the outputs of statements, whose clump maps must already be known.
 
-        By the law `tables_after_runs_merge_into_full_table`, tables of tiles add up to the table.
+        By the law `tables_after_runs_merge_into_full_table`, the tables of the tiles add up to the
+        full map's table.
         """
         sums: list[TableSum | _Grid] = [
             TableSum(len(statement.inputs), "c" in statement.options)
@@ -276,7 +277,7 @@ class _Tiles:
         )
 
     def _script(self, plan: Sequence[Statement], outputs: Sequence[Statement]) -> list[Statement]:
-        """Return outputs of a plan, after the statements that they need."""
+        """Return the statements of a plan that `outputs` need, followed by `outputs`."""
         return [*makers(plan, maps_read_by(outputs), self._maps), *outputs]
 
     def _run(

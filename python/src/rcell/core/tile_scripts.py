@@ -14,7 +14,7 @@ __all__ = ["makers", "maps_read_by", "question_about", "reach_of", "text_of"]
 def makers(
     plan: Iterable[Statement], names: Iterable[str], known: Container[str]
 ) -> list[Statement]:
-    """Return the statements that make the named maps, from maps that are already known."""
+    """Return the statements of a plan that make the named maps from the maps in `known`."""
     used: list[Statement] = []
     wanted = set(names)
     for statement in reversed(list(plan)):
@@ -32,7 +32,7 @@ def maps_read_by(statements: Iterable[Statement]) -> set[str]:
 def reach_of(statements: Iterable[Statement], questions: Iterable[Question] = ()) -> Margin:
     """Return the halo that a tile needs for statements, and for questions about given maps.
 
-    Even maps that depend on no file need a halo, because all maps are null outside the tile.
+    Even maps that depend on no file need a halo, because a tile has no cells beyond its halo.
     """
     reaches: dict[str, Margin] = {}
     widest = NO_MARGIN
@@ -50,7 +50,7 @@ def reach_of(statements: Iterable[Statement], questions: Iterable[Question] = ()
 
 
 def text_of(statements: Iterable[Statement]) -> str:
-    """Return the script that tiles run. Labels are left out, because the caller adds them."""
+    """Return the script that tiles run, without `-l`, because the caller adds the labels."""
     return "\n".join(map(_without_labels, statements))
 
 

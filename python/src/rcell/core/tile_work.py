@@ -1,5 +1,5 @@
 # SPDX-License-Identifier: Apache-2.0 OR GPL-2.0-or-later
-"""Process one tile: run a script over the tile and its halo, in a thread or on another machine."""
+"""Process one tile: send a request for the tile, in a thread or on another machine."""
 
 from __future__ import annotations
 
@@ -27,9 +27,9 @@ Integers = NDArray[Any]
 
 @dataclass(frozen=True)
 class TileWork:
-    """A request for a tile: a script and questions about the tile.
+    """A request for a tile, with a script and questions about the tile.
 
-    By the law `tile_runs_have_full_map_cells`, the maps of the script have the full map's cells.
+    By the law `tile_runs_have_full_map_cells`, the script's maps have the full map's cells.
 
     Attributes
     ----------
@@ -71,7 +71,7 @@ class TileWork:
 class TileDone:
     """The outcome of a tile: its results, counts of nodata along the border, and warnings.
 
-    The results are the values of the script's outputs, followed by the values of the questions.
+    The results are the contents of the response's frames: first of the script, then of questions.
     """
 
     results: list[Integers]
@@ -116,7 +116,7 @@ def _frames(work: TileWork, sent: Sequence[protocol.Map]) -> list[protocol.Frame
 def _sent(work: TileWork, name: str, source: Any, watches: Mapping[str, Watch]) -> protocol.Map:
     """Convert a tile's map for the program, and count nodata values along the full map's border."""
     place, outer = work.place, work.outer
-    # The cells may already have been read.
+    # A `Piece` contains cells that have already been read.
     piece = source if isinstance(source, Piece) else Piece.of(source, outer)
     block = piece.block
     if name in watches:
