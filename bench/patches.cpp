@@ -1,6 +1,6 @@
 // Reads a request of rcell-pipe with one map of bytes, no script, and a question for the measures of its patches (by edges,
-// depth 1, no zones), and writes the same response. It trusts the request. Rows are read once: a patch's measures are
-// added to the labels of its runs, and labels are joined by a union-find.
+// depth 1, no zones), and writes the same response. It does not check the request. Rows are read once: measures are added
+// up for each label of a run, and labels are joined with a union-find.
 #include <algorithm>
 #include <bit>
 #include <cstdint>
@@ -32,8 +32,8 @@ struct Run {
 
 using Bits = std::vector<uint64_t>;
 
-// The cells of a row with a null before them and up to the end of a word, and their runs. A bit of `up` says that a cell
-// equals the cell above, a bit of `begin` that it differs from the cell on its left.
+// The cells of a row, with a null before them and nulls up to the end of a word, and their runs. A bit of `up` is set if a
+// cell equals the cell above, and a bit of `begin` if it differs from the cell on its left.
 struct Row {
     explicit Row(size_t words) : bytes((words + 1) * WORD, NULL_CELL), up(words), begin(words), labels(words * WORD) {}
 

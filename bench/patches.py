@@ -7,7 +7,8 @@
 The maps are land cover and noise of make_grid.cpp. The request asks for the measures of all patches
 by edges, with depth 1. First, the responses are compared byte for byte. Then the programs take
 turns, and the smallest processor time counts. Instructions are counted with callgrind. Memory is
-compared with a request that only runs r.clump. --write puts the table into bench/RESULTS.md.
+compared with the memory of a request that only runs r.clump. --write puts the table into
+bench/RESULTS.md.
 """
 import argparse
 import filecmp

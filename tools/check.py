@@ -77,8 +77,8 @@ def tool(name, *words):
     return [*PYTHON, f"tools/{name}", *words]
 
 
-# The crates whose edits the gate tries; of all others, it tries the named edits.
-# `make edits` tries all edits, at about eight processor seconds each.
+# The gate tries all edits of these crates, and the named edits of all other crates. `make edits`
+# tries all edits of all crates, at about eight processor seconds each.
 EDITED = (
     "cell_calc_grammar",
     "cell_core",
@@ -140,7 +140,7 @@ LATE = [
     ),
     Part(
         "joined",
-        "scripts over tiles, joined by rcell-pipe, beside full maps, and spoiled requests",
+        "scripts over tiles, joined with rcell-pipe, beside full maps; damaged requests",
         [tool("join")],
     ),
     Part(

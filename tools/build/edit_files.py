@@ -18,8 +18,8 @@ IMPL = re.compile(
 )
 SPREAD = re.compile(r"\{\n((?:  [^\n]*,\n)+)\}")  # an import's names, one per line
 CITED = re.compile(r"(\w+/(?:must-fail|named|edits))/([\w-]+(?:, [\w-]+-[\w-]+)*)")
-NAMED = "named"  # the folder of the wrong bodies that matter most
-FOLDERS = ("edits", NAMED, "must-fail")  # `rt ci` also tries the edits in the last one
+NAMED = "named"  # the folder of the most important wrong bodies
+FOLDERS = ("edits", NAMED, "must-fail")  # `rt ci` also tries the edits in must-fail
 
 
 @dataclass

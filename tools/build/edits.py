@@ -2,7 +2,7 @@
 """Try the edits of crates, many per check: the proof must reject each.
 
     edits.py [--one-by-one] [--list] [--evidence] [CRATE..]    without names, all crates with edits
-    edits.py --named [CRATE..]           also the edits in the folder named of each other crate
+    edits.py --named [CRATE..]           also the edits in the folder named of all other crates
     edits.py --stale                     only check, in a second, that each edit still fits its
     files
 

@@ -1,8 +1,8 @@
 """Check that the edits, functions, clauses, laws, definitions and tests that the documents cite
 exist.
 
-- An edit is cited as CRATE/FOLDER/NAME, with the folder edits, named or must-fail. Further names
-  after a comma are in the same folder.
+- An edit is cited as CRATE/FOLDER/NAME. FOLDER is edits, named or must-fail. Further names after a
+  comma are in the same folder.
 - In a table with a column of clauses, each name in that column must be a label of a function named
   in its row.
 - On the pages about proofs, each name in backticks that looks like a name of the crates must be

@@ -1,17 +1,17 @@
 #!/usr/bin/env python3
 """Cut maps into tiles, run scripts and questions over the tiles with rcell-pipe, join the results,
-and compare them with the full maps. Also spoil requests.
+and compare them with the full maps. Also send damaged requests.
 
     tools/join [--program PROGRAM] [--runs N] [--seed N] [--spoiled N]
 
-- N random flows, and some over maps that are hard to cut. A flow consists of maps, a cutting, the
-  halo that the plan of its script needs, requests for all tiles, and requests that join their
-  tables, borders and patches: each result must equal the full maps'. For one flow in four, each
-  response must also equal the plain model's.
-- N spoiled requests of each flow: truncated, with other bytes, mixed with others, or with swapped
-  parts. Also each truncation and each changed byte of small requests of each kind. A response must
-  be the first error that the plain reader finds, or the plain model's response if the request is
-  still valid. The program has little memory.
+- N random flows, and some over maps that are hard to cut. A flow consists of maps, a grid of tiles,
+  the halo that the plan of its script needs, requests for all tiles, and requests that join the
+  tiles' tables, borders and patches. Each result must equal the result for the full maps. In one
+  flow in four, each response must also equal the plain model's.
+- N damaged requests of each flow: truncated, with changed bytes, mixed with other requests, or with
+  swapped parts. Also each truncation and each changed byte of a small request of each kind. The
+  response must be the first error that the plain reader finds, or the plain model's response if the
+  request is still valid. The program has at most 300 MB of memory.
 
 The last line is 'N passed, M failed'.
 """
@@ -38,13 +38,13 @@ from spoiled import JOIN, all_spoiled, any_spoiled, swapped, small_requests, wro
 from test_join import BadRequest
 
 MODELLED = 0.25  # the share of flows that the model also runs
-MOST_BYTES = 3000  # a longer request is not spoiled, since the model is slow
+MOST_BYTES = 3000  # longer requests are not damaged, because the model is slow
 MOST_MEMORY = 300 << 20
 BAD = (Wrong, ValueError, BadRequest, struct.error, OSError)
 
 
 class Checks:
-    """Counts what passed, and what was tried."""
+    """Counts the checks that passed and failed, and what was tried."""
 
     def __init__(self, pipe: Pipe):
         self.pipe, self.count = pipe, cases.Count()
@@ -76,19 +76,19 @@ class Checks:
             self.count.add(f"{name}: {data!r}", repr(error))
             return
         self.response(name, data, status, output)
-        self.tried["spoiled requests"] += 1
-        self.tried["spoiled requests that are valid"] += status == 0
+        self.tried["damaged requests"] += 1
+        self.tried["damaged requests that are valid"] += status == 0
 
 
 def spoil(checks: Checks, name: str, draw: random.Random, sent: list[bytes], runs: int) -> None:
-    """Spoil some of the requests of a flow."""
+    """Damage some of the requests of a flow."""
     small = [data for data in sent if len(data) <= MOST_BYTES]
     joins = [data for data in small if data.startswith(JOIN)]
     for _ in range(runs if small else 0):
         if joins and draw.random() < 0.3:
             checks.spoiled(f"{name}, swapped", swapped(draw, draw.choice(joins), joins))
         else:
-            checks.spoiled(f"{name}, spoiled", any_spoiled(draw, draw.choice(small), small))
+            checks.spoiled(f"{name}, damaged", any_spoiled(draw, draw.choice(small), small))
 
 
 def random_flows(checks: Checks, seeds: range, spoiled: int) -> None:
@@ -99,7 +99,7 @@ def random_flows(checks: Checks, seeds: range, spoiled: int) -> None:
         if draw.random() < MODELLED:
             for it in flow.sent:
                 checks.response(f"flow {seed}, by the model", *it)
-            checks.tried["responses of flows that the model gives"] += len(flow.sent)
+            checks.tried["responses of flows compared with the model"] += len(flow.sent)
         sent = [it.data for it in flow.sent]
         spoil(checks, f"flow {seed}", draw, sent + before, spoiled)
         before = sent
@@ -123,7 +123,7 @@ def main() -> int:
     words.add_argument("--program", default=f"{BIN}/rcell-pipe")
     words.add_argument("--runs", type=int, default=150, help="random flows")
     words.add_argument("--seed", type=int, default=1)
-    words.add_argument("--spoiled", type=int, default=4, help="spoiled requests of a flow")
+    words.add_argument("--spoiled", type=int, default=4, help="damaged requests of each flow")
     given = words.parse_args()
     with tempfile.TemporaryDirectory(
         prefix="join-", dir="/dev/shm" if os.path.isdir("/dev/shm") else None

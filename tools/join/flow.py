@@ -28,7 +28,8 @@ Columns = list[tuple[Frame, tuple[Frame, ...]]]  # frames of the full map, and o
 
 
 class Pipe:
-    """Runs rcell-pipe. Its input and output are files in a folder, which is faster than pipes."""
+    """Runs rcell-pipe. Its input and output are files in a folder, because these are faster than
+    pipes."""
 
     def __init__(self, program: str, folder: str):
         self.program = os.path.abspath(program)
@@ -88,7 +89,7 @@ class Job:
 
 
 def halo_of(frames: Sequence[test_plan.Frame], questions: Sequence[Question]) -> Margin:
-    """Return the halo that a plan and questions need. The map of r.clump is read only at the same
+    """Return the halo that a plan and questions need. Maps of r.clump are read only at the same
     cell."""
     depths: dict[bytes, Margin] = {}
     halo: Margin = NO_MARGIN
@@ -124,7 +125,7 @@ def cells_of(line: Sequence[int]) -> Line:
 
 
 def borders(cut: Cut, tiles: Iterable[bytes], connectivity: int) -> bytes:
-    """Return the request that joins the tiles of a map, given their borders."""
+    """Return the request that joins the tiles of a map, from their borders."""
     sizes = struct.pack("<BII", connectivity, len(cut.ends), len(cut.col_ends))
     return test_join.MAGIC + sizes + b"".join(tiles)
 
@@ -138,7 +139,7 @@ def full_numbers(runs: Iterable[Run]) -> Numbers:
 
 
 def main_zones(table: Iterable[Entry], patches: int) -> list[Optional[int]]:
-    """Return the main zone of each patch, from the table of their numbers and zones."""
+    """Return the main zone of each patch, from the table of patch numbers and zones."""
     best: dict[Optional[int], tuple[int, int]] = {}
     for (number, zone), count in table:
         if zone is not None:
@@ -147,7 +148,7 @@ def main_zones(table: Iterable[Entry], patches: int) -> list[Optional[int]]:
 
 
 class Flow:
-    """The requests of a job with their responses, and what is joined from them."""
+    """The requests of a job, their responses, and the results that are joined from them."""
 
     def __init__(self, pipe: Pipe, job: Job):
         self.pipe, self.job = pipe, job
@@ -212,8 +213,8 @@ class Flow:
     # Questions
 
     def check_numbers(self, answers: dict[bytes, tuple], connectivity: int) -> list[Run]:
-        """Compare the joined numbers of a question's patches with the full map's. Return the runs
-        that join them."""
+        """Compare the joined numbers of a question's patches with the full map's numbers. Return
+        the runs that join them."""
         sides = [it["border"] for it in answers[b"BORD"][1]]
         patches, runs = self.joined(borders(self.job.cut, sides, connectivity))
         self.numbers.append(full_numbers(runs))
@@ -225,7 +226,7 @@ class Flow:
         return runs
 
     def check_patches(self, whole: Frame, parts: Sequence[Frame], runs: list[Run]) -> None:
-        """Compare the joined measures of a question's patches with the full map's."""
+        """Compare the joined measures of a question's patches with the full map's measures."""
         listed = tuple(
             Part(tile, number, patch)
             for tile, part in enumerate(parts, 1)
@@ -236,7 +237,7 @@ class Flow:
             raise Wrong(f"{found}, and not {whole}")
 
     def check_zones(self, columns: Columns, question: int, measures: Frame) -> None:
-        """Compare the main zones of the joined table of patches and zones with the full map's."""
+        """Compare the patches' main zones, from the joined table, with the full map's zones."""
         zones = self.job.questions[question].zones
         for whole, parts in columns:
             is_table = whole["kind"] == b"TABL" and whole["counts"] is not None
@@ -251,7 +252,7 @@ class Flow:
     def renumbered(
         self, cells: Iterable[Optional[int]], tile: int, question: Optional[int]
     ) -> Line:
-        """Return the full map's numbers if the cells are numbers of a tile's patches."""
+        """Return the cells, with the full map's numbers if they are numbers of a tile's patches."""
         if question is None:
             return tuple(cells)
         numbers = self.numbers[question]
@@ -266,7 +267,7 @@ class Flow:
                 raise Wrong(f"tile {tile}: {found}, and not {wanted}")
 
     def table(self, whole: Frame, part: Frame, tile: int) -> tuple[Entry, ...]:
-        """Return the table of a tile, with the full map's numbers of patches."""
+        """Return the table of a tile, with the full map's patch numbers."""
         columns = zip(*map(cells_of, part["cells"]))
         lines = zip(
             *(

@@ -1,4 +1,4 @@
-"""Make random jobs: maps, a script, questions and a cutting into tiles."""
+"""Make random jobs: maps, a script, questions and a grid of tiles."""
 from __future__ import annotations
 
 import random
@@ -37,7 +37,7 @@ def raster_of(draw: random.Random, name: bytes, edges: Edges, cells: Cells) -> R
 
 
 def random_maps(draw: random.Random) -> list[Raster]:
-    """Return one to three maps of a size, at most 60 x 60."""
+    """Return one to three maps of the same size, at most 60 x 60 cells."""
     rows, cols = (
         draw.choice([1, *(draw.randint(1, most) for most in (8, 8, 8, 20, 20, LARGEST_SIDE))])
         for _ in range(2)
@@ -47,7 +47,7 @@ def random_maps(draw: random.Random) -> list[Raster]:
 
 
 class JobMaker(ScriptMaker):
-    """Makes scripts without labels, whose clumps are used cell by cell, with questions."""
+    """Makes questions, and scripts without labels that use clump maps only cell by cell."""
 
     def __init__(self, draw: random.Random, names: list[bytes]):
         super().__init__(draw)
@@ -69,7 +69,7 @@ class JobMaker(ScriptMaker):
         return super().flags(letters.replace(b"l", b""), part)
 
     def add_local(self) -> None:
-        """Add a statement that needs only cells around a cell."""
+        """Add a statement that needs only the cells around each cell."""
         names = list(self.local)
         makers = self.stats, self.out_ascii, self.mapcalc, self.mapcalc, self.reclass
         self.lines += self.one(makers)(names)
@@ -137,7 +137,7 @@ def random_job(draw: random.Random) -> Job:
 
 
 def job_of_cut(cut: made.Cut, connectivity: int) -> Job:
-    """Return a job about the patches of a map: their numbers, and tables with and without."""
+    """Return a job about a map's patches: their numbers, and tables with and without them."""
     rows = [[NULL if cell is None else cell for cell in row] for row in cut.cells]
     edges = (b"%d" % len(rows), b"0", b"%d" % len(rows[0]), b"0")
     clump = b"r.clump -d" if connectivity == 8 else b"r.clump"
@@ -153,7 +153,7 @@ def calls_position(statement: model.Statement) -> bool:
 
 
 def features(job: Job) -> Iterator[str]:
-    """Yield what a job contains, for a count of what was tried."""
+    """Yield the features of a job, for the counts of what was tried."""
     statements = [it for _, it in statements_of([it.name for it in job.maps], job.script)]
     if len(list(job.cut.spans())) > 1:
         yield "more than one tile"

@@ -1,4 +1,4 @@
-"""Spoil requests, and compare the response to any request with the plain models."""
+"""Damage requests, and compare the response to any request with the plain models."""
 from __future__ import annotations
 
 import random
@@ -55,8 +55,8 @@ def small_requests() -> Iterator[tuple[str, bytes]]:
 
 
 def all_spoiled(data: bytes) -> Iterator[bytes]:
-    """Yield each truncation of a request, the request with bytes after it, and with each byte
-    changed."""
+    """Yield each truncation of a request, the request with further bytes after it, and the request
+    with each byte changed."""
     yield from (data[:length] for length in range(len(data)))
     yield from (data + b"\0", data + data)
     for at, byte in enumerate(data):
@@ -64,7 +64,7 @@ def all_spoiled(data: bytes) -> Iterator[bytes]:
 
 
 def with_other_number(draw: random.Random, data: bytes) -> bytes:
-    """Return a request with another number of 1, 4 or 8 bytes somewhere."""
+    """Return a request in which 1, 4 or 8 bytes are replaced with another number."""
     size = draw.choice([1, 4, 8])
     number = draw.choice([0, 1, 2, 255, 65536, 2**31 - 1, 2**31, 2**63, 2**64 - 1])
     at = draw.randrange(max(1, len(data) - size))
@@ -89,8 +89,8 @@ def any_spoiled(draw: random.Random, data: bytes, others: Sequence[bytes]) -> by
 
 
 def swapped(draw: random.Random, data: bytes, others: Sequence[bytes]) -> bytes:
-    """Return a join request whose tables, borders or patches are swapped, sent twice, of another
-    tile or request, or of another connectivity."""
+    """Return a join request in which tables, borders or patches are swapped, repeated, or taken
+    from another request, or the connectivity is changed."""
     try:
         one, other = (JoinReader(it).request() for it in (data, draw.choice(others)))
     except BadRequest:
@@ -104,7 +104,7 @@ def swapped(draw: random.Random, data: bytes, others: Sequence[bytes]) -> bytes:
 
 
 def with_other_item(draw: random.Random, items: tuple, others: tuple) -> tuple:
-    """Return items of which two are swapped, or one occurs twice or is another."""
+    """Return the items with two of them swapped, one repeated, or one replaced."""
     if not items:
         return others
     found, (one, two) = list(items), (draw.randrange(len(items)) for _ in range(2))

@@ -1,5 +1,5 @@
 """Compute the response of `rcell-pipe` to a request for a run, a text or a tile with the plain models,
-as docs/pipe.md defines it, and compare it with a given one."""
+as docs/pipe.md defines it, and compare a given response with it."""
 from __future__ import annotations
 
 import re
@@ -48,7 +48,7 @@ def margin_after_read(margin: Margin, reach: Need) -> Margin:
 
 
 def is_exceeded(margin: Margin, depth: int = 0) -> bool:
-    """Return whether cells are read that are further away than a margin and a depth."""
+    """Return whether a margin is smaller than a depth on some side."""
     return any(side is not None and side < depth for side in margin)
 
 
@@ -93,7 +93,7 @@ class Halo:
 @dataclass(frozen=True)
 class Expected:
     """A response: the text of each statement that writes a frame, with its line; the frames of
-    questions; the end."""
+    questions; and the last frame."""
 
     texts: Sequence[tuple[int, bytes]] = ()
     answers: Sequence[Frame] = ()
@@ -102,7 +102,7 @@ class Expected:
 
 @dataclass
 class Moved(CellMap):
-    """A map whose cells are named by their positions in a larger map."""
+    """A map whose cells are addressed by their positions in a larger map."""
 
     top: int = 0
     left: int = 0
@@ -170,8 +170,7 @@ class Run:
         return None
 
     def frames(self, at: int, question: Question) -> list[Frame]:
-        """Return the frames of a question. Only the measures of patches depend on the cells around
-        a tile."""
+        """Return the frames of a question. Only the measures of patches depend on a tile's halo."""
         cells, connectivity = self.tile(question.map).rows, question.connectivity
         zones = self.tile(question.zones).rows if question.zones else None
         rows = patch_numbers(cells, connectivity)
@@ -195,7 +194,7 @@ class Run:
             return patches(cells, question.connectivity, question.depth)
         top, left = place.tile_top - place.top, place.tile_left - place.left
         tile = slice(top, top + place.tile_rows), slice(left, left + place.tile_cols)
-        # A depth beyond the maps is equivalent to one at their edges.
+        # A depth that reaches beyond the maps gives the same core as one that reaches their edges.
         depth = min(question.depth, len(cells) + len(cells[0]))
         return [
             replace(
@@ -225,7 +224,7 @@ def read(data: bytes) -> tuple[Place, list[Raster], bytes, list[Question]]:
 
 
 def question_fault(magic: bytes, known: set[bytes], halo: Halo, asked: list[Question]) -> Fault:
-    """Return the first question that is rejected."""
+    """Return the number of the first question that is rejected, and the error."""
     for number, it in enumerate(asked, 1):
         if magic == TEXT:
             return number, b"question for a text"

@@ -5,10 +5,10 @@
 
 - worked examples: patches that meet along seams, at the corner of four tiles, and around a tile;
   tables
-- each error by name, and spoiled borders
+- each error by name, and damaged borders
 - N random maps, cut at random: the numbers and the joined measures must equal the numbers and the
-  measures of the full map's patches; N random lists of tables; some requests are
-  damaged
+  measures of the full map's patches
+- N random lists of tables; some requests are damaged
 
 The last line is 'N passed, M failed'.
 """

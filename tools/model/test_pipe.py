@@ -4,8 +4,8 @@
     test_pipe.py [CLANG] [--program PROGRAM] [--rcell PROGRAM] [--runs N] [--seed N]
 
 - N random requests of all types, with nodata, masks, labels and scripts of tools/model/fuzz.py: the
-  printed frames must be the output of rcell, and errors of scripts the errors of rcell; as text,
-  the response must be that output, or the same rejection; with questions, it must be the model's
+  printed frames must be the output of rcell, and errors of scripts the errors of rcell. As text,
+  the response must be this output or error. With questions, the response must be the model's.
 - the request of the crate rcell_pipe, and the response that the gate compares with the proved
   program's
 - each error of a request by name: the response must be the model's

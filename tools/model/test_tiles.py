@@ -1,14 +1,14 @@
 #!/usr/bin/env python3
-"""Send requests for tiles to rcell-pipe, and compare the responses with those for the full map.
+"""Send requests for tiles to rcell-pipe, and compare the responses with a plain model.
 
     test_tiles.py [--program PROGRAM] [--runs N] [--seed N]
 
 - each error of a place by name
-- random scripts and questions over tiles of random maps, with halos that are enough or too small:
-  the response must be the plain model's
-- requests whose place is damaged
+- N random scripts and questions over tiles of random maps, with halos that are large enough or too
+  small: the response must be the plain model's
+- N requests whose place is damaged
 
-tools/join compares the tiles of a map with the full map, and truncates requests.
+tools/join compares the tiles of a map with the full map, and damages requests.
 
 The last line is 'N passed, M failed'.
 """
@@ -67,7 +67,7 @@ def statements_of(names: list[bytes], script: bytes) -> Statements:
 
 
 def random_script(choice: random.Random, names: list[bytes]) -> bytes:
-    """Return a valid script. Few scripts print labels, which a tile does not have."""
+    """Return a valid script. Few scripts print labels, which are an error in a tile."""
     maker = ScriptMaker(choice)
     makers = [
         maker.stats,
@@ -129,8 +129,8 @@ def cut_maps(maps: list[Raster], height: Span, width: Span) -> list[Raster]:
 
 
 def least_halo(names: list[bytes], script: bytes) -> int:
-    """Return the smallest number of rows and columns around a tile that are enough for a script, or
-    0 if no number is."""
+    """Return the smallest halo that is enough for a script, in rows and columns, or 0 if no halo
+    is."""
     statements = statements_of(names, script)
     enough = (halo for halo in range(MOST_HALO) if not Halo((halo,) * 4).fault(statements))
     return next(enough, 0)
