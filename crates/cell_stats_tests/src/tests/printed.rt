@@ -28,6 +28,9 @@ fn table_text(
     }
     let table = tally(alloc, shelf, picks, Skip::Nothing)?;
     let combo = Combo::read(alloc, after, picks.len())?;
+    if combo.len() != picks.len() {
+        return Err(Fail::from("another width"));
+    }
     let mut out = MemorySink::new(vec![in alloc; 0u8; 100]?, 3, false);
     let mut block = OutputBlock::new();
     write_table(
