@@ -1,9 +1,8 @@
 -- A map that contains a tile with a halo has the cells of the full map near the tile.
-use Rattle.std.proofs.Common.{◌≡◌, ℕ, ℤ, zero, suc, pos, ◌+◌, ◌-◌, ◌<◌, ◌≤◌, ◌↔◌, Bool, true, false, Some, None, refl}
+use Rattle.std.proofs.Common.{◌≡◌, ℕ, ℤ, zero, suc, pos, ◌+◌, ◌-◌, ◌<◌, ◌≤◌, ◌↔◌, Bool, true, false, Some, refl}
 use Rattle.std.proofs.Common.{ap, sym, ◌∙◌, inl, inr, ◌⊎◌, arith}
-use Rattle.std.proofs.lemmas.Bool.{cases_lt}
 use Rattle.cell_core_values.specs.Region.{RegionValue}
-use Rattle.cell_core.specs.Grid.{Grid, CellValue, RowsFillRegion, cell_at}
+use Rattle.cell_core.specs.Grid.{Grid, CellValue, cell_at}
 use Rattle.cell_clumps.proofs.StartLemmas.{inside_map}
 use Rattle.cell_clumps.specs.parts.CellPlaces.{position_at_row_and_column}
 use Rattle.cell_patches.specs.declared.patch.Patch.{Patch}
@@ -13,26 +12,13 @@ use Rattle.cell_patches.specs.Patches.{value_or_0_outside_patch, do_cells_within
 use Rattle.cell_patches.specs.Patches.{sum_over_cells_of_first_rows}
 use Rattle.cell_patches.specs.TilePatches.{one_if_side_leaves_category, outer_north_south_side_count_of_cell}
 use Rattle.cell_patches.specs.TilePatches.{outer_west_east_side_count_of_cell, one_if_cell_is_core}
-use Rattle.cell_patches.specs.TilePatches.{AreMeasuresOfPatchInTile, ContainsTileWithHalo, position_in_its_full_map}
+use Rattle.cell_patches.specs.TilePatches.{AreMeasuresOfPatchInTile, ContainsTileWithHalo, IsNearTile}
+use Rattle.cell_patches.specs.TilePatches.{position_in_its_full_map}
+use Rattle.cell_patches.specs.TilePatchLaw.{HaloDeterminesMeasures}
 use Rattle.cell_patches.proofs.InsideLemmas.{of_from, of_to, IsWithin, within_from, within_to}
 use Rattle.cell_patches.proofs.PassLemmas.{pick}
 use Rattle.cell_patches.proofs.SumLemmas.{rows_all}
 use Rattle.cell_patches.proofs.FullMapLemmas.{same_tests}
-
--- a cell outside the map is null
-beyond : (m : Grid) (r c : ℕ) → RowsFillRegion m.region m.rows → (m.region.rows ≤ r) ⊎ (m.region.cols ≤ c)
-    → cell_at m r c ≡ None
-beyond m r c filled out = by_case (cell_at m r c) refl
-  where
-    never : (v : ℤ) → cell_at m r c ≡ Some v → (m.region.rows ≤ r) ⊎ (m.region.cols ≤ c) → ⊥
-    never v e (inl le) =
-        let row = (inside_map m (position_at_row_and_column r c) v filled e).0 in omega arith
-    never v e (inr le) =
-        let col = (inside_map m (position_at_row_and_column r c) v filled e).1 in omega arith
-
-    by_case : (x : CellValue) → cell_at m r c ≡ x → x ≡ None
-    by_case None e = refl
-    by_case (Some v) e = absurd (never v e out)
 
 -- the first row, or the first column, of a part in the full map
 abbrev pub row_of_part : TilePosition → ℕ
@@ -41,105 +27,14 @@ row_of_part position = position.first_row - position.top
 abbrev pub col_of_part : TilePosition → ℕ
 col_of_part position = position.first_col - position.left
 
--- a cell of the part is the cell of the full map, and where the part ends, the full map ends also
-same_cell : (whole part : Grid) (position : TilePosition) (tile : RegionValue) (depth a b : ℕ)
-    → ContainsTileWithHalo whole part position tile depth
-    → (whole.region.rows ≤ row_of_part position + part.region.rows) ⊎ (a < part.region.rows)
-    → (whole.region.cols ≤ col_of_part position + part.region.cols) ⊎ (b < part.region.cols)
-    → cell_at part a b ≡ cell_at whole (row_of_part position + a) (col_of_part position + b)
-same_cell whole part position tile depth a b h south east =
-    by_case (cases_lt a part.region.rows) (cases_lt b part.region.cols)
-  where
-    past_row : part.region.rows ≤ a
-        → (whole.region.rows ≤ row_of_part position + part.region.rows) ⊎ (a < part.region.rows)
-        → whole.region.rows ≤ row_of_part position + a
-    past_row le (inl end) = omega arith
-    past_row le (inr lt) = absurd (omega arith)
-
-    past_col : part.region.cols ≤ b
-        → (whole.region.cols ≤ col_of_part position + part.region.cols) ⊎ (b < part.region.cols)
-        → whole.region.cols ≤ col_of_part position + b
-    past_col le (inl end) = omega arith
-    past_col le (inr lt) = absurd (omega arith)
-
-    by_case : (a < part.region.rows) ⊎ (part.region.rows ≤ a) → (b < part.region.cols) ⊎ (part.region.cols ≤ b)
-        → cell_at part a b ≡ cell_at whole (row_of_part position + a) (col_of_part position + b)
-    by_case (inl row) (inl col) = h.cells a b row col
-    by_case (inr le) col = beyond part a b h.filled.1 (inl le)
-        ∙ sym (beyond whole (row_of_part position + a) (col_of_part position + b) h.filled.0 (inl (past_row le south)))
-    by_case (inl row) (inr le) = beyond part a b h.filled.1 (inr le)
-        ∙ sym (beyond whole (row_of_part position + a) (col_of_part position + b) h.filled.0 (inr (past_col le east)))
-
--- rows and columns at most `depth` after the tile are in the part, unless both maps end
-south_is : (whole part : Grid) (position : TilePosition) (tile : RegionValue) (depth a : ℕ)
-    → ContainsTileWithHalo whole part position tile depth → a < position.top + tile.rows + depth
-    → (whole.region.rows ≤ row_of_part position + part.region.rows) ⊎ (a < part.region.rows)
-south_is whole part position tile depth a h lt = by_case h.south
-  where
-    by_case : (whole.region.rows ≤ row_of_part position + part.region.rows)
-        ⊎ (position.top + tile.rows + depth ≤ part.region.rows)
-        → (whole.region.rows ≤ row_of_part position + part.region.rows) ⊎ (a < part.region.rows)
-    by_case (inl end) = inl end
-    by_case (inr le) = inr (omega arith)
-
-east_is : (whole part : Grid) (position : TilePosition) (tile : RegionValue) (depth b : ℕ)
-    → ContainsTileWithHalo whole part position tile depth → b < position.left + tile.cols + depth
-    → (whole.region.cols ≤ col_of_part position + part.region.cols) ⊎ (b < part.region.cols)
-east_is whole part position tile depth b h lt = by_case h.east
-  where
-    by_case : (whole.region.cols ≤ col_of_part position + part.region.cols)
-        ⊎ (position.left + tile.cols + depth ≤ part.region.cols)
-        → (whole.region.cols ≤ col_of_part position + part.region.cols) ⊎ (b < part.region.cols)
-    by_case (inl end) = inl end
-    by_case (inr le) = inr (omega arith)
-
 -- a cell of the part near the tile, at its row and column in the full map
 near_cell : (whole part : Grid) (position : TilePosition) (tile : RegionValue) (depth a b x y : ℕ)
-    → ContainsTileWithHalo whole part position tile depth → a < position.top + tile.rows + depth
-    → b < position.left + tile.cols + depth → row_of_part position + a ≡ x → col_of_part position + b ≡ y
+    → ContainsTileWithHalo whole part position tile depth → IsNearTile depth position.top tile.rows a
+    → IsNearTile depth position.left tile.cols b → row_of_part position + a ≡ x → col_of_part position + b ≡ y
     → cell_at part a b ≡ cell_at whole x y
-near_cell whole part position tile depth a b x y h a_lt b_lt row col =
-    same_cell whole part position tile depth a b h (south_is whole part position tile depth a h a_lt)
-    (east_is whole part position tile depth b h b_lt)
+near_cell whole part position tile depth a b x y h high wide row col =
+    h.cells a b high wide
     ∙ ap (λ z. cell_at whole z (col_of_part position + b)) row ∙ ap (cell_at whole x) col
-
--- the cell north of a cell of the tile, and the cell west of it
-north_is : (whole part : Grid) (position : TilePosition) (tile : RegionValue) (depth a b x y : ℕ)
-    → ContainsTileWithHalo whole part position tile depth → 0 < depth → position.top ≤ a
-    → a < position.top + tile.rows → b < position.left + tile.cols
-    → row_of_part position + a ≡ x → col_of_part position + b ≡ y
-    → north_cell_in_map_or_null part a b ≡ north_cell_in_map_or_null whole x y
-north_is whole part position tile depth zero b zero y h some top a_lt b_lt row col = refl
-north_is whole part position tile depth zero b (suc x) y h some top a_lt b_lt row col = absurd (by_case h.north)
-  where
-    by_case : (position.top ≡ position.first_row) ⊎ (depth ≤ position.top) → ⊥
-    by_case (inl e) = omega arith
-    by_case (inr le) = omega arith
-north_is whole part position tile depth (suc a) b zero y h some top a_lt b_lt row col = absurd (omega arith)
-north_is whole part position tile depth (suc a) b (suc x) y h some top a_lt b_lt row col =
-    near_cell whole part position tile depth a b x y h (omega arith) (omega arith) (omega arith) col
-
-west_is : (whole part : Grid) (position : TilePosition) (tile : RegionValue) (depth a b x y : ℕ)
-    → ContainsTileWithHalo whole part position tile depth → 0 < depth → position.left ≤ b
-    → a < position.top + tile.rows → b < position.left + tile.cols
-    → row_of_part position + a ≡ x → col_of_part position + b ≡ y
-    → west_cell_in_map_or_null part a b ≡ west_cell_in_map_or_null whole x y
-west_is whole part position tile depth a zero x zero h some left a_lt b_lt row col = refl
-west_is whole part position tile depth a zero x (suc y) h some left a_lt b_lt row col = absurd (by_case h.west)
-  where
-    by_case : (position.left ≡ position.first_col) ⊎ (depth ≤ position.left) → ⊥
-    by_case (inl e) = omega arith
-    by_case (inr le) = omega arith
-west_is whole part position tile depth a (suc b) x zero h some left a_lt b_lt row col = absurd (omega arith)
-west_is whole part position tile depth a (suc b) x (suc y) h some left a_lt b_lt row col =
-    near_cell whole part position tile depth a b x y h (omega arith) (omega arith) row (omega arith)
-
--- the sides of a cell of the tile
-sides_is : (cell other x y : CellValue) → cell ≡ other → x ≡ y
-    → one_if_side_leaves_category cell x ≡ one_if_side_leaves_category other y
-sides_is cell other x y one two =
-    ap (λ (z : CellValue). one_if_side_leaves_category z x) one
-    ∙ ap (λ (z : CellValue). one_if_side_leaves_category other z) two
 
 -- a cell of the tile: its row and column in the part, and in the full map
 record IsCellOfTile (position : TilePosition) (tile : RegionValue) (a b x y : ℕ) : Type 0 where
@@ -150,32 +45,77 @@ record IsCellOfTile (position : TilePosition) (tile : RegionValue) (a b x y : �
   row : row_of_part position + a ≡ x
   col : col_of_part position + b ≡ y
 
+-- a row or column at most `depth` away from one of the tile is near the tile
+near_tile : (depth start size i j : ℕ) → start ≤ i → i < start + size → i ≤ j + depth → j ≤ i + depth
+    → IsNearTile depth start size j
+near_tile depth start size i j from to below above = record { before = omega arith; after = omega arith }
+
+-- the cell north of a cell of the tile, and the cell west of it
+north_is : (whole part : Grid) (position : TilePosition) (tile : RegionValue) (depth a b x y : ℕ)
+    → ContainsTileWithHalo whole part position tile depth → 0 < depth → IsCellOfTile position tile a b x y
+    → north_cell_in_map_or_null part a b ≡ north_cell_in_map_or_null whole x y
+north_is whole part position tile depth zero b zero y h some at = refl
+north_is whole part position tile depth zero b (suc x) y h some at = absurd (by_case h.north)
+  where
+    by_case : (position.top ≡ position.first_row) ⊎ (depth ≤ position.top) → ⊥
+    by_case (inl e) = omega (arith, at.top, at.row)
+    by_case (inr le) = omega (arith, at.top)
+north_is whole part position tile depth (suc a) b zero y h some at = absurd (let no : ⊥ = omega (arith, at.row) in no)
+north_is whole part position tile depth (suc a) b (suc x) y h some at =
+    near_cell whole part position tile depth a b x y h
+    (near_tile depth position.top tile.rows (suc a) a at.top at.rows (omega arith) (omega arith))
+    (near_tile depth position.left tile.cols b b at.left at.cols (omega arith) (omega arith)) (omega (arith, at.row))
+    at.col
+
+west_is : (whole part : Grid) (position : TilePosition) (tile : RegionValue) (depth a b x y : ℕ)
+    → ContainsTileWithHalo whole part position tile depth → 0 < depth → IsCellOfTile position tile a b x y
+    → west_cell_in_map_or_null part a b ≡ west_cell_in_map_or_null whole x y
+west_is whole part position tile depth a zero x zero h some at = refl
+west_is whole part position tile depth a zero x (suc y) h some at = absurd (by_case h.west)
+  where
+    by_case : (position.left ≡ position.first_col) ⊎ (depth ≤ position.left) → ⊥
+    by_case (inl e) = omega (arith, at.left, at.col)
+    by_case (inr le) = omega (arith, at.left)
+west_is whole part position tile depth a (suc b) x zero h some at = absurd (let no : ⊥ = omega (arith, at.col) in no)
+west_is whole part position tile depth a (suc b) x (suc y) h some at =
+    near_cell whole part position tile depth a b x y h
+    (near_tile depth position.top tile.rows a a at.top at.rows (omega arith) (omega arith))
+    (near_tile depth position.left tile.cols (suc b) b at.left at.cols (omega arith) (omega arith)) at.row
+    (omega (arith, at.col))
+
+-- the sides of a cell of the tile
+sides_is : (cell other x y : CellValue) → cell ≡ other → x ≡ y
+    → one_if_side_leaves_category cell x ≡ one_if_side_leaves_category other y
+sides_is cell other x y one two =
+    ap (λ (z : CellValue). one_if_side_leaves_category z x) one
+    ∙ ap (λ (z : CellValue). one_if_side_leaves_category other z) two
+
 ends_is : (whole part : Grid) (position : TilePosition) (tile : RegionValue) (depth a b x y : ℕ)
     → ContainsTileWithHalo whole part position tile depth → 0 < depth → IsCellOfTile position tile a b x y
     → outer_north_south_side_count_of_cell part a b ≡ outer_north_south_side_count_of_cell whole x y
 ends_is whole part position tile depth a b x y h some at =
-    let a_lt = at.rows in
-    let b_lt = at.cols in
-    let row = at.row in
-    let here = near_cell whole part position tile depth a b x y h (omega arith) (omega arith) at.row at.col in
-    let north = sides_is _ _ _ _ here
-    (north_is whole part position tile depth a b x y h some at.top at.rows at.cols at.row at.col) in
+    let wide = near_tile depth position.left tile.cols b b at.left at.cols (omega arith) (omega arith) in
+    let near = near_tile depth position.top tile.rows a in
+    let here = near_cell whole part position tile depth a b x y h
+    (near a at.top at.rows (omega arith) (omega arith)) wide at.row at.col in
+    let north = sides_is _ _ _ _ here (north_is whole part position tile depth a b x y h some at) in
     let south = sides_is _ _ _ _ here
-    (near_cell whole part position tile depth (a + 1) b (x + 1) y h (omega arith) (omega arith) (omega arith) at.col) in
+    (near_cell whole part position tile depth (a + 1) b (x + 1) y h
+    (near (a + 1) at.top at.rows (omega arith) (omega arith)) wide (omega (arith, at.row)) at.col) in
     omega arith
 
 flanks_is : (whole part : Grid) (position : TilePosition) (tile : RegionValue) (depth a b x y : ℕ)
     → ContainsTileWithHalo whole part position tile depth → 0 < depth → IsCellOfTile position tile a b x y
     → outer_west_east_side_count_of_cell part a b ≡ outer_west_east_side_count_of_cell whole x y
 flanks_is whole part position tile depth a b x y h some at =
-    let a_lt = at.rows in
-    let b_lt = at.cols in
-    let col = at.col in
-    let here = near_cell whole part position tile depth a b x y h (omega arith) (omega arith) at.row at.col in
-    let west = sides_is _ _ _ _ here
-    (west_is whole part position tile depth a b x y h some at.left at.rows at.cols at.row at.col) in
+    let high = near_tile depth position.top tile.rows a a at.top at.rows (omega arith) (omega arith) in
+    let near = near_tile depth position.left tile.cols b in
+    let here = near_cell whole part position tile depth a b x y h high
+    (near b at.left at.cols (omega arith) (omega arith)) at.row at.col in
+    let west = sides_is _ _ _ _ here (west_is whole part position tile depth a b x y h some at) in
     let east = sides_is _ _ _ _ here
-    (near_cell whole part position tile depth a (b + 1) x (y + 1) h (omega arith) (omega arith) at.row (omega arith)) in
+    (near_cell whole part position tile depth a (b + 1) x (y + 1) h high
+    (near (b + 1) at.left at.cols (omega arith) (omega arith)) at.row (omega (arith, at.col))) in
     omega arith
 
 -- the cells within `depth` steps of a cell of the tile have a category in the part if and only if they have it in the
@@ -198,22 +138,26 @@ core_to whole part position tile depth a b x y v h at w =
       all = λ c d near.
           let back_row : row_of_part position + (c - row_of_part position) ≡ c = omega arith in
           let back_col : col_of_part position + (d - col_of_part position) ≡ d = omega arith in
-          let is = w.all (c - row_of_part position) (d - col_of_part position) (omega arith) in
-          there c d back_row back_col is;
+          let i = c - row_of_part position in
+          let j = d - col_of_part position in
+          there c d back_row back_col
+          (near_tile depth position.top tile.rows a i at.top at.rows (omega arith) (omega arith))
+          (near_tile depth position.left tile.cols b j at.left at.cols (omega arith) (omega arith))
+          (w.all i j (omega arith));
     }
   where
     there : (c d : ℕ) → row_of_part position + (c - row_of_part position) ≡ c
         → col_of_part position + (d - col_of_part position) ≡ d
+        → IsNearTile depth position.top tile.rows (c - row_of_part position)
+        → IsNearTile depth position.left tile.cols (d - col_of_part position)
         → has_value part (Some v) (c - row_of_part position) (d - col_of_part position) ≡ true
         → has_value whole (Some v) c d ≡ true
-    there c d row col is =
+    there c d row col high wide is =
         let e = of_to part (Some v) (c - row_of_part position) (d - col_of_part position) is in
-        let place = position_at_row_and_column (c - row_of_part position) (d - col_of_part position) in
-        let inside = inside_map part place v h.filled.1 e in
         of_from whole (Some v) c d
         (ap (λ z. cell_at whole z d) (sym row)
         ∙ ap (cell_at whole (row_of_part position + (c - row_of_part position))) (sym col)
-        ∙ sym (h.cells (c - row_of_part position) (d - col_of_part position) inside.0 inside.1) ∙ e)
+        ∙ sym (h.cells (c - row_of_part position) (d - col_of_part position) high wide) ∙ e)
 
 core_from : (whole part : Grid) (position : TilePosition) (tile : RegionValue) (depth a b x y : ℕ) (v : ℤ)
     → ContainsTileWithHalo whole part position tile depth → IsCellOfTile position tile a b x y
@@ -221,8 +165,6 @@ core_from : (whole part : Grid) (position : TilePosition) (tile : RegionValue) (
 core_from whole part position tile depth a b x y v h at w =
     let row = at.row in
     let col = at.col in
-    let a_lt = at.rows in
-    let b_lt = at.cols in
     record {
       up = up h.north;
       left = left h.west;
@@ -230,7 +172,8 @@ core_from whole part position tile depth a b x y v h at w =
           let is = w.all (row_of_part position + c) (col_of_part position + d) (omega arith) in
           of_from part (Some v) c d
           (near_cell whole part position tile depth c d (row_of_part position + c) (col_of_part position + d) h
-          (omega arith) (omega arith) refl refl
+          (near_tile depth position.top tile.rows a c at.top at.rows (omega arith) (omega arith))
+          (near_tile depth position.left tile.cols b d at.left at.cols (omega arith) (omega arith)) refl refl
           ∙ of_to whole (Some v) (row_of_part position + c) (col_of_part position + d) is);
     }
   where
@@ -266,11 +209,16 @@ value_is numbers n r c one other same = by_case (is_in_patch numbers n r c) refl
     by_case false e = refl
     by_case true e = same e
 
-pub halo : (whole part numbers : Grid) (position : TilePosition) (depth n : ℕ) (patch : Patch) → 0 < depth
-    → RowsFillRegion numbers.region numbers.rows → ContainsTileWithHalo whole part position numbers.region depth
+-- no cell of the patch is outside its map
+abbrev pub IsPatchInsideMap : Grid → ℕ → Type 0
+IsPatchInsideMap numbers n =
+    (r c : ℕ) → is_in_patch numbers n r c ≡ true → (r < numbers.region.rows) × (c < numbers.region.cols)
+
+pub halo_inside : (whole part numbers : Grid) (position : TilePosition) (depth n : ℕ) (patch : Patch) → 0 < depth
+    → IsPatchInsideMap numbers n → ContainsTileWithHalo whole part position numbers.region depth
     → AreMeasuresOfPatchInTile part position numbers depth n patch
     ↔ AreMeasuresOfPatchInTile whole (position_in_its_full_map position) numbers depth n patch
-halo whole part numbers position depth n patch some filled h = (to, from)
+halo_inside whole part numbers position depth n patch some inside h = (to, from)
   where
     cols : ℕ
     cols = numbers.region.cols
@@ -282,10 +230,9 @@ halo whole part numbers position depth n patch some filled h = (to, from)
         → IsCellOfTile position numbers.region (position.top + r) (position.left + c) (position.first_row + r)
         (position.first_col + c)
     at r c of =
-        let there = inside_map numbers (position_at_row_and_column r c) (pos n) filled
-        (of_to numbers (Some (pos n)) r c of) in
-        let row = there.0 in
-        let col = there.1 in
+        let within = inside r c of in
+        let row = within.0 in
+        let col = within.1 in
         let top = h.top in
         let left = h.left in
         record {
@@ -302,10 +249,11 @@ halo whole part numbers position depth n patch some filled h = (to, from)
         ≡ cell_at whole (position.first_row + r) (position.first_col + c)
     class_is r c of =
         let place = at r c of in
-        let row = place.rows in
-        let col = place.cols in
-        near_cell whole part position numbers.region depth (position.top + r) (position.left + c) _ _ h (omega arith)
-        (omega arith) place.row place.col
+        near_cell whole part position numbers.region depth (position.top + r) (position.left + c) _ _ h
+        (near_tile depth position.top numbers.region.rows (position.top + r) (position.top + r) place.top place.rows
+        (omega arith) (omega arith))
+        (near_tile depth position.left numbers.region.cols (position.left + c) (position.left + c) place.left place.cols
+        (omega arith) (omega arith)) place.row place.col
 
     ends : sum_over_cells_of_first_rows (λ r c. value_or_0_outside_patch numbers n r c
         (outer_north_south_side_count_of_cell part (position.top + r) (position.left + c))) cols rows
@@ -358,3 +306,9 @@ halo whole part numbers position depth n patch some filled h = (to, from)
       first_col = g.first_col;
       last_col = g.last_col;
     }
+
+pub halo : HaloDeterminesMeasures
+halo whole part numbers position depth n patch some filled =
+    halo_inside whole part numbers position depth n patch some
+    (λ r c of. inside_map numbers (position_at_row_and_column r c) (pos n) filled
+    (of_to numbers (Some (pos n)) r c of))

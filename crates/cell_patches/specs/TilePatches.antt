@@ -3,7 +3,7 @@
 use Rattle.std.specs.Prelude.{ℕ, pos, ◌+◌, ◌-◌, ◌<◌, ◌≤◌, ◌≡◌, ◌⊎◌, true, List, length, Some, slice_get, if◌then◌else◌}
 use Rattle.cell_core_values.specs.Cell.{cell_eq}
 use Rattle.cell_core_values.specs.Region.{RegionValue}
-use Rattle.cell_core.specs.Grid.{Grid, CellValue, RowsFillRegion, cell_at}
+use Rattle.cell_core.specs.Grid.{Grid, CellValue, cell_at}
 use Rattle.cell_clumps.specs.declared.clump.Joining.{Joining}
 use Rattle.cell_clumps.specs.Clumps.{IsClumpMapOf}
 use Rattle.cell_patches.specs.declared.patch.Patch.{Patch}
@@ -83,24 +83,22 @@ pub record IsTileInsideMap (region : RegionValue) (position : TilePosition) (til
   pub last_row : position.first_row + tile.rows < 4294967296
   pub last_col : position.first_col + tile.cols < 4294967296
 
--- the map `part` is cut out of the full map, and contains a tile of this size with `depth` cells around it, except on
--- sides where both maps end
+-- a row or column is at most `depth` before or after a tile that begins at `start` and has `size` rows or columns
+pub record IsNearTile (depth start size i : ℕ) : Type 0 where
+  pub before : start ≤ i + depth
+  pub after : i < start + size + depth
+
+-- within `depth` rows and columns of a tile of this size, the map `part` has the cells of the full map, and null where
+-- the full map ends; above the tile and on its left, it has all these rows and columns that the full map has
 pub record ContainsTileWithHalo (whole part : Grid) (position : TilePosition) (tile : RegionValue) (depth : ℕ) : Type 0
   where
-    pub filled : RowsFillRegion whole.region whole.rows × RowsFillRegion part.region part.rows
-    pub cells : (r c : ℕ) → r < part.region.rows → c < part.region.cols
+    pub cells : (r c : ℕ) → IsNearTile depth position.top tile.rows r → IsNearTile depth position.left tile.cols c
         → cell_at part r c
         ≡ cell_at whole (position.first_row - position.top + r) (position.first_col - position.left + c)
     pub top : position.top ≤ position.first_row
     pub left : position.left ≤ position.first_col
-    pub rows : position.top + tile.rows ≤ part.region.rows
-    pub cols : position.left + tile.cols ≤ part.region.cols
     pub north : (position.top ≡ position.first_row) ⊎ (depth ≤ position.top)
     pub west : (position.left ≡ position.first_col) ⊎ (depth ≤ position.left)
-    pub south : (whole.region.rows ≤ position.first_row - position.top + part.region.rows)
-        ⊎ (position.top + tile.rows + depth ≤ part.region.rows)
-    pub east : (whole.region.cols ≤ position.first_col - position.left + part.region.cols)
-        ⊎ (position.left + tile.cols + depth ≤ part.region.cols)
 
 -- the position of a full map in itself, and of a tile in its full map
 abbrev pub position_of_full_map : TilePosition
