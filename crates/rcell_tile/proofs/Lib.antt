@@ -8,4 +8,8 @@ pub mod CutLemmas
 pub mod StatementLemmas
 pub mod TileRunLemmas
 pub mod TileCoverLemmas
+pub mod ClumpMarginLemmas
 pub mod TileTableLemmas
+pub mod ReadPlaceLemmas
+pub mod PlannedHaloLemmas
+pub mod NeededHaloLemmas

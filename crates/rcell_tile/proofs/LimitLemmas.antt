@@ -219,7 +219,7 @@ module _ (s : Stretches) (are : AreStretches s) (up down : Option ℕ) (fit : Li
   ends-outside (Some n) j fits after past = absurd (let no : ⊥ = omega (arith, fits, after, past, are.last) in no)
 
   -- an index within the limits, or past the full map
-  lead-on : (z : ℤ) (j : ℕ) → z ≡ pos (j - s.first) → IsWithinLimits s up down j → LeadToSameIndex z (pos j)
+  pub lead-on : (z : ℤ) (j : ℕ) → z ≡ pos (j - s.first) → IsWithinLimits s up down j → LeadToSameIndex z (pos j)
   lead-on z j is within = ⊎_elim on past (cases_lt j s.total)
     where
       on : j < s.total → LeadToSameIndex z (pos j)

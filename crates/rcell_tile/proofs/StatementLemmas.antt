@@ -33,7 +33,7 @@ use Rattle.rcell_tile.specs.ClumpDependence.{clump_dependence_after_command, clu
 use Rattle.rcell_tile.specs.HaloMargins.{no_halo_margin, margin_of_map_at_place, margin_after_reads}
 use Rattle.rcell_tile.specs.HaloMargins.{read_exceeds_margin}
 use Rattle.rcell_tile.specs.HaloMargins.{margins_after_command, halo_fault_of_command, fault_at_line_or_next}
-use Rattle.rcell_tile.specs.HaloMargins.{first_fault_with_margins, command_prints_labels}
+use Rattle.rcell_tile.specs.HaloMargins.{first_fault_with_margins, command_prints_labels, margins_after_statements}
 use Rattle.rcell_tile.specs.TileMaps.{map_with_null_halo}
 use Rattle.rcell_tile.specs.TilePlaces.{TilePlaceValue}
 use Rattle.rcell_tile.specs.TileRuns.{RunShelvesValue, IsTileShelfAfterCommand, IsOuterShelfAfterCommand}
@@ -255,23 +255,22 @@ no-fault line None next e = (refl, e)
 no-fault line (Some kind) next e = cc
 
 -- the relation after statements, and the place of the tile
-pub record RunAgreesInTile (p : TilePlaceValue) (clumps : List Bool) (after : RunShelvesValue)
-    (whole : ShelfValue) : Type 0 where
+pub record RunAgreesInTile (p : TilePlaceValue) (clumps : List Bool) (known : List HaloMargin)
+    (after : RunShelvesValue) (whole : ShelfValue) : Type 0 where
   pub place : after.place ≡ Some p
-  pub known : List HaloMargin
   pub shelves : ShelvesAgreeInTile p clumps known after.outer whole
 
 module _ (p : TilePlaceValue) (halo : HaloMargin) (halo_fits : MarginFits p halo)
     (none_fits : MarginFits p no_halo_margin) where
-  -- after the statements, the shelves of the tile and of the full maps agree within some margins
+  -- after the statements, the shelves of the tile and of the full maps agree within the margins
   pub agree-after-statements : (clumps : List Bool) (known : List HaloMargin) (part after : RunShelvesValue)
       (whole other : ShelfValue) (statements : List Statement) → part.place ≡ Some p
       → ShelvesAgreeInTile p clumps known part.outer whole → first_fault_with_margins halo known statements ≡ None
       → AreShelvesAfterStatements part statements after → IsShelfAfterStatements whole statements other
-      → RunAgreesInTile p (clump_dependence_after_statements clumps statements) after other
+      → RunAgreesInTile p (clump_dependence_after_statements clumps statements)
+      (margins_after_statements halo known statements) after other
   agree-after-statements clumps known part after whole other [] place_is h none u v = record {
     place = subst (λ (s : RunShelvesValue). s.place ≡ Some p) u place_is;
-    known = known;
     shelves = subst (λ (s : RunShelvesValue). ShelvesAgreeInTile p clumps known s.outer other) u
         (subst (λ (s : ShelfValue). ShelvesAgreeInTile p clumps known part.outer s) v h);
   }

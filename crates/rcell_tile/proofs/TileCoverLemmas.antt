@@ -51,10 +51,10 @@ region-after-all shelf after (s ∷ ss) u =
 -- ---- scripts without r.clump
 
 -- no map depends on an r.clump
-abbrev NoMapDependsOnClump : List Bool → Type 0
+abbrev pub NoMapDependsOnClump : List Bool → Type 0
 NoMapDependsOnClump known = (place : ℕ) → map_depends_on_clump known place ≡ false
 
-none-given : (count : ℕ) → NoMapDependsOnClump (replicate count false)
+pub none-given : (count : ℕ) → NoMapDependsOnClump (replicate count false)
 none-given zero place = refl
 none-given (suc count) zero = refl
 none-given (suc count) (suc place) = none-given count place
@@ -66,7 +66,7 @@ one-more [] b e h (suc place) = refl
 one-more (k ∷ known) b e h zero = h zero
 one-more (k ∷ known) b e h (suc place) = one-more known b e (λ i. h (suc i)) place
 
-none-made : (known : List Bool) (command : Command) → command_is_clump command ≡ false → NoMapDependsOnClump known
+pub none-made : (known : List Bool) (command : Command) → command_is_clump command ≡ false → NoMapDependsOnClump known
     → NoMapDependsOnClump (clump_dependence_after_command known command)
 none-made known command no_clump h = by (command_makes_map command)
   where
@@ -103,7 +103,7 @@ all-cut r (w ∷ whole) (m ∷ part) cut =
     λ i. first i ∷ rest i
 
 -- in a script without r.clump, no map depends on an r.clump
-plain-place : (full : ShelfValue) (statements : List Statement) → NoStatementIsClump statements → (place : ℕ)
+pub plain-place : (full : ShelfValue) (statements : List Statement) → NoStatementIsClump statements → (place : ℕ)
     → MapDoesNotDependOnClump (length full.maps) statements place
 plain-place full statements no_clump place =
     no-map-depends (replicate (length full.maps) false) statements no_clump (none-given (length full.maps)) place

@@ -10,18 +10,22 @@ use Rattle.cell_core.specs.Shelf.{ShelfValue}
 use Rattle.cell_join_numbers.specs.Parts.{cells_of_rectangle, RowsAreCutOutOfMaps}
 use Rattle.cell_join_numbers.proofs.CutLemmas.{first-or}
 use Rattle.rcell_plan.proofs.MapLemmas.{same_rows}
+use Rattle.rcell_plan.specs.NeedsLaw.{IsShelfAfterStatements}
+use Rattle.rcell_script.specs.declared.statement.Statement.{Statement}
 use Rattle.rcell_tile.specs.declared.halo_margins.HaloMargin.{HaloMargin}
-use Rattle.rcell_tile.specs.HaloMargins.{halo_margin, margin_of_map_at_place}
+use Rattle.rcell_tile.specs.ClumpDependence.{clump_dependence_after_statements}
+use Rattle.rcell_tile.specs.HaloMargins.{halo_margin, margin_of_map_at_place, margins_of_maps}
 use Rattle.rcell_tile.specs.TileMaps.{tile_in_its_maps, tile_map, tile_region, halo_rows_above, halo_columns_left}
 use Rattle.rcell_tile.specs.TilePlaces.{TilePlaceValue, IsValidTilePlace}
-use Rattle.rcell_tile.specs.TileRunLaw.{IsShelfOfTile, MapIsCutOutOfFullMap, TileRunsHaveFullMapCells, shelves_at_place}
+use Rattle.rcell_tile.specs.TileRunLaw.{IsShelfOfTile, IsRunWithEnoughHalo, TileRun, MapIsCutOutOfFullMap}
+use Rattle.rcell_tile.specs.TileRunLaw.{TileRunsHaveFullMapCells, shelves_at_place}
 use Rattle.rcell_tile.specs.TileRuns.{shelf_without_halo}
 use Rattle.rcell_tile.proofs.AgreeLemmas.{MapsAgreeInTile, ShelvesAgreeInTile}
 use Rattle.rcell_tile.proofs.AgreeLemmas.{rows_of, columns_of, MapsAgree}
 use Rattle.rcell_tile.proofs.CutLemmas.{cut-fills, cut-cell}
 use Rattle.rcell_tile.proofs.LimitLemmas.{within-maps, tile-within}
 use Rattle.rcell_tile.proofs.MarginLemmas.{halo-fits, no-margin-fits}
-use Rattle.rcell_tile.proofs.StatementLemmas.{agree-after-statements}
+use Rattle.rcell_tile.proofs.StatementLemmas.{RunAgreesInTile, agree-after-statements}
 
 -- ---- the given maps
 
@@ -107,7 +111,7 @@ module _ (p : TilePlaceValue) (valid : IsValidTilePlace p) (outer full : RegionV
 -- ---- the law
 
 -- as many maps of the tile are given as full maps
-given-count : (p : TilePlaceValue) (full shelf : ShelfValue) → IsShelfOfTile p full shelf
+pub given-count : (p : TilePlaceValue) (full shelf : ShelfValue) → IsShelfOfTile p full shelf
     → length full.maps ≡ length shelf.maps
 given-count p full shelf h =
     sym (length-map full.maps (λ m. cells_of_rectangle p.outer m.rows)) ∙ ap length (sym h.cells)
@@ -133,17 +137,26 @@ given-shelves p full shelf h =
           full.maps shelf.maps h.filled h.cells place;
     }
 
+-- after the statements, the maps of the tile agree with the full maps within their margins
+pub maps-agree-after-run : (full after : ShelfValue) (statements : List Statement) (run : TileRun)
+    → IsShelfAfterStatements full statements after → IsRunWithEnoughHalo full statements run
+    → RunAgreesInTile run.place (clump_dependence_after_statements (replicate (length full.maps) false) statements)
+    (margins_of_maps run.place (length run.given.maps) statements) run.after after
+maps-agree-after-run full after statements run whole is =
+    let p = run.place in
+    let valid = is.tile.place.valid in
+    agree-after-statements p (halo_margin p) (halo-fits p valid) (no-margin-fits p valid)
+    (replicate (length full.maps) false) (replicate (length run.given.maps) (halo_margin p))
+    (shelves_at_place p run.given) run.after full after statements refl (given-shelves p full run.given is.tile)
+    is.enough is.executed whole
+
 pub tile-runs : TileRunsHaveFullMapCells
 tile-runs full after statements run whole is place plain =
     let p = run.place in
-    let shelf = run.given in
-    let valid = is.tile.place.valid in
-    let ran = agree-after-statements p (halo_margin p) (halo-fits p valid) (no-margin-fits p valid)
-    (replicate (length full.maps) false) (replicate (length shelf.maps) (halo_margin p)) (shelves_at_place p shelf)
-    run.after full after statements refl (given-shelves p full shelf is.tile) is.enough is.executed whole in
+    let ran = maps-agree-after-run full after statements run whole is in
     let h = ran.shelves in
     subst (λ (o : Option TilePlaceValue). MapIsCutOutOfFullMap p.tile (slice_get after.maps place)
     (slice_get (shelf_without_halo o run.after.outer).maps place)) (sym ran.place)
-    (tile-at-place p valid run.after.outer.region after.region h.outer_rows h.outer_cols h.full_rows h.full_cols
-    (margin_of_map_at_place ran.known place) run.after.outer.maps after.maps place
-    (h.part_count ∙ sym h.whole_count) (h.maps place plain))
+    (tile-at-place p h.valid run.after.outer.region after.region h.outer_rows h.outer_cols h.full_rows h.full_cols
+    (margin_of_map_at_place (margins_of_maps p (length run.given.maps) statements) place) run.after.outer.maps
+    after.maps place (h.part_count ∙ sym h.whole_count) (h.maps place plain))

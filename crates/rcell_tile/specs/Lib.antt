@@ -6,4 +6,5 @@ pub mod TileRuns
 pub mod HaloMargins
 pub mod parts
 pub mod TileRunLaw
+pub mod PlannedHalo
 pub mod ClumpDependence

@@ -6,7 +6,8 @@
 //! - `halo_margins`: `first_halo_fault`: the first statement for which the halo is too small; `depth_exceeds_margin`:
 //!   whether a map has too little halo for a question
 //! - `tile_maps`: maps without their halo, and with null in it
-//! - `law`: `tile_runs_have_full_map_cells`: after the same statements, a tile has the full maps' cells;
+//! - `law`: `planned_halo_is_enough`: the halo computed from a script's plan is enough, and no smaller halo is;
+//!   `tile_runs_have_full_map_cells`: after the same statements, a tile has the full maps' cells;
 //!   `tables_after_runs_merge_into_full_table`: tables of tiles merge into the table of the full maps
 //!
 //! In a tile, `row()` and `col()` count in the full map, and `nrows()` and `ncols()` are its numbers. r.clump numbers the
