@@ -4,17 +4,19 @@ use Rattle.std.proofs.Common.{List, [], ◌∷◌, All, Contains, map, count_by,
 use Rattle.std.proofs.Common.{subst, arith, ◌⊎◌, inl, inr, nat_le, if◌then◌else◌}
 use Rattle.std.specs.List.{AllZip}
 use Rattle.std.proofs.lemmas.Bool.{and_left, and_parts, and_right, le-leb, leb-true, lt-leb}
-use Rattle.std.proofs.lemmas.List.Elements.{All-contains, All-head, All-tail}
-use Rattle.std.proofs.lemmas.List.Sums.{sum_by-cons}
+use Rattle.std.proofs.lemmas.List.Elements.{All-cons, All-contains, All-head, All-nil, All-tail}
+use Rattle.std.proofs.lemmas.List.Sums.{get_or-le-sum_by, sum_by-cons}
 use Rattle.cell_core_values.specs.Cell.{cell_eq}
 use Rattle.cell_core.specs.Grid.{Grid, CellValue, RowsFillRegion, cell_at}
+use Rattle.cell_clumps.specs.declared.clump.Joining.{Joining}
+use Rattle.cell_clumps.specs.Clumps.{IsClumpMapOf}
 use Rattle.cell_clumps.proofs.StartLemmas.{inside_map}
 use Rattle.cell_clumps.specs.parts.CellPlaces.{position_at_row_and_column}
 use Rattle.cell_patches.proofs.FullMapLemmas.{full_map}
 use Rattle.cell_patches.specs.declared.patch.Patch.{Patch}
 use Rattle.cell_patches.specs.declared.tile_position.TilePosition.{TilePosition}
-use Rattle.cell_patches.specs.Patches.{IsLargestWithProperty, IsSmallestWithProperty, is_in_patch, sum_over_cells}
-use Rattle.cell_patches.specs.Patches.{value_or_0_outside_patch}
+use Rattle.cell_patches.specs.Patches.{AreMeasuresOfPatch, IsLargestWithProperty, IsSmallestWithProperty, is_in_patch}
+use Rattle.cell_patches.specs.Patches.{sum_over_cells, value_or_0_outside_patch}
 use Rattle.cell_patches.specs.TilePatches.{AreMeasuresOfPatchInTile, TilePatchHasCellInColumn, TilePatchHasCellInRow}
 use Rattle.cell_patches.specs.TilePatches.{one_if_cell_is_core, outer_north_south_side_count_of_cell}
 use Rattle.cell_patches.specs.TilePatches.{outer_west_east_side_count_of_cell, position_in_its_full_map}
@@ -33,7 +35,7 @@ here p = position_in_its_full_map p.position
 and-same : (a b x : Bool) → a ≡ true → b ≡ true → (a && (b && x)) ≡ x
 and-same a b x ea eb = rw (ea, eb) refl
 
-has-inside : (p : PatchPlace) (r c : ℕ) → place_has_cell (p.position.first_row + r) (p.position.first_col + c) p
+pub has-inside : (p : PatchPlace) (r c : ℕ) → place_has_cell (p.position.first_row + r) (p.position.first_col + c) p
     ≡ is_in_patch p.numbers p.number r c
 has-inside p r c =
     let t : ℕ = p.position.first_row in
@@ -98,6 +100,14 @@ place-sum full f p inside =
 
 abbrev pub one_if : Bool → ℕ
 one_if b = cond b 1 0
+
+-- a list that contains an element that passes a test has at least one such element
+pub count-some : {X : Type 0} (test : X → Bool) (xs : List X) (x : X) → Contains xs x → test x ≡ true
+    → 1 ≤ count_by test xs
+count-some test xs x (k, lt, is) passes =
+    let least = get_or-le-sum_by (λ y. one_if (test y)) xs k x lt in
+    let one = ap (λ y. one_if (test y)) is ∙ ap one_if passes in
+    omega (arith, least, one)
 
 none-sum : (f : ℕ → ℕ → ℕ) (r c : ℕ) (ps : List PatchPlace) → count_by (place_has_cell r c) ps ≡ 0
     → sum_by (λ p. value f p r c) ps ≡ 0
@@ -189,19 +199,6 @@ module _ (numbers : Grid) (n : ℕ) (ps : List PatchPlace) (make : PlacesMakeUpP
 
   -- ---- cells and the tiles' patches that have them
 
-  count-some : (r c : ℕ) (qs : List PatchPlace) (p : PatchPlace) → Contains qs p → place_has_cell r c p ≡ true
-      → 1 ≤ count_by (place_has_cell r c) qs
-  count-some r c [] p at has = absurd (let lt = at.1 in omega (arith, lt))
-  count-some r c (q ∷ qs) p (zero, lt, is) has =
-      let all = sum_by-cons (λ (x : PatchPlace). one_if (place_has_cell r c x)) q qs in
-      let same : place_has_cell r c q ≡ true = ap (place_has_cell r c) is ∙ has in
-      let yes : one_if (place_has_cell r c q) ≡ 1 = ap one_if same in
-      omega (arith, all, yes)
-  count-some r c (q ∷ qs) p (suc k, lt, is) has =
-      let all = sum_by-cons (λ (x : PatchPlace). one_if (place_has_cell r c x)) q qs in
-      let rest = count-some r c qs p (k, omega (arith, lt), is) has in
-      omega (arith, all, rest)
-
   in-patch : (p : PatchPlace) (r c : ℕ) → Contains ps p → place_has_cell r c p ≡ true
       → is_in_patch numbers n r c ≡ true
   in-patch p r c in_list has = by (is_in_patch numbers n r c) refl
@@ -209,7 +206,7 @@ module _ (numbers : Grid) (n : ℕ) (ps : List PatchPlace) (make : PlacesMakeUpP
       by : (b : Bool) → is_in_patch numbers n r c ≡ b → b ≡ true
       by true is = refl
       by false is =
-          let some = count-some r c ps p in_list has in
+          let some = count-some (place_has_cell r c) ps p in_list has in
           let none = count-out r c is in
           absurd (omega (arith, some, none))
 
@@ -219,12 +216,12 @@ there y xs x at = (suc at.0, let lt = at.1 in omega (arith, lt), at.2)
 first : {X : Type 0} (x : X) (xs : List X) → Contains (x ∷ xs) x
 first x xs = (0, omega arith, refl)
 
-mapped : (g : Patch → ℕ) (parts : List Patch) (n : ℕ) → Contains (map g parts) n
-    → (part : Patch) × Contains parts part × (g part ≡ n)
+pub mapped : {X : Type 0} (g : X → ℕ) (xs : List X) (n : ℕ) → Contains (map g xs) n
+    → (x : X) × Contains xs x × (g x ≡ n)
 mapped g [] n at = absurd (let lt = at.1 in omega (arith, lt))
-mapped g (part ∷ parts) n (zero, lt, is) = (part, first part parts, is)
-mapped g (part ∷ parts) n (suc k, lt, is) =
-    let rest = mapped g parts n (k, omega (arith, lt), is) in (rest.0, there part parts rest.0 rest.1, rest.2)
+mapped g (x ∷ xs) n (zero, lt, is) = (x, first x xs, is)
+mapped g (x ∷ xs) n (suc k, lt, is) =
+    let rest = mapped g xs n (k, omega (arith, lt), is) in (rest.0, there x xs rest.0 rest.1, rest.2)
 
 in-map : (g : Patch → ℕ) (parts : List Patch) (part : Patch) → Contains parts part → Contains (map g parts) (g part)
 in-map g [] part at = absurd (let lt = at.1 in omega (arith, lt))
@@ -421,7 +418,44 @@ module _ (m numbers : Grid) (depth n : ℕ) (ps : List PatchPlace) (make : Place
         (λ p part has. has.last_col) patch.last_col are.last_col;
   }
 
+-- parts that make up a patch have its measures together
+pub parts-make-patch : (j : Joining) (m numbers : Grid) (depth n : ℕ) → IsClumpMapOf j m numbers
+    → (ps : List PatchPlace) → PlacesMakeUpPatch numbers n ps
+    → (parts : List Patch) → AllZip (HasMeasuresInFullMap m depth) ps parts
+    → (patch : Patch) → AreMeasuresOfParts parts patch → AreMeasuresOfPatch m numbers depth n patch
+parts-make-patch j m numbers depth n clumps ps make parts all patch are =
+    (full_map j m numbers depth n patch clumps).0 (as-only-tile m numbers depth n ps make parts all patch are)
+
 pub joined-patches : JoinedPatchesHavePatchMeasures
 joined-patches j m numbers depth n clumps ps make parts all patches joined patch is =
-    (full_map j m numbers depth n patch clumps).0
-    (as-only-tile m numbers depth n ps make (parts_of_patch n parts) all patch (rw is at (joined.each n)))
+    parts-make-patch j m numbers depth n clumps ps make (parts_of_patch n parts) all patch (rw is at (joined.each n))
+
+-- a part has its own measures
+only-value : (f : Patch → ℕ) (part : Patch) (k : ℕ) → Contains (map f (part ∷ [])) k → f part ≡ k
+only-value f part k (zero, lt, is) = is
+only-value f part k (suc i, lt, is) = absurd (omega (arith, lt))
+
+only-smallest : (f : Patch → ℕ) (part : Patch) → IsSmallestWithProperty (Contains (map f (part ∷ []))) (f part)
+only-smallest f part = record {
+  some = first (f part) [];
+  least = λ k has. let is = only-value f part k has in omega (arith, is);
+}
+
+only-largest : (f : Patch → ℕ) (part : Patch) → IsLargestWithProperty (Contains (map f (part ∷ []))) (f part)
+only-largest f part = record {
+  some = first (f part) [];
+  most = λ k has. let is = only-value f part k has in omega (arith, is);
+}
+
+pub measures-of-one : (part : Patch) → AreMeasuresOfParts (part ∷ []) part
+measures-of-one part = record {
+  class = All-cons (λ (p : Patch). p.class ≡ part.class) part [] refl (All-nil (λ (p : Patch). p.class ≡ part.class));
+  cells = let one = sum_by-cons (λ (p : Patch). p.cells) part [] in omega (arith, one);
+  ends = let one = sum_by-cons (λ (p : Patch). p.ends) part [] in omega (arith, one);
+  flanks = let one = sum_by-cons (λ (p : Patch). p.flanks) part [] in omega (arith, one);
+  core = let one = sum_by-cons (λ (p : Patch). p.core) part [] in omega (arith, one);
+  first_row = only-smallest (λ (p : Patch). p.first_row) part;
+  last_row = only-largest (λ (p : Patch). p.last_row) part;
+  first_col = only-smallest (λ (p : Patch). p.first_col) part;
+  last_col = only-largest (λ (p : Patch). p.last_col) part;
+}

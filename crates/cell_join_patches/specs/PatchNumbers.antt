@@ -3,9 +3,13 @@ use Rattle.std.specs.Prelude.{ℕ, ◌≡◌, ◌<◌, ◌+◌, ◌-◌, ◌^◌
 use Rattle.std.specs.Prelude.{Option, Some, None, length, slice_get, slice_index_or, if◌then◌else◌}
 use Rattle.cell_join_numbers.specs.declared.stretch.ConsecutiveClumps.{ConsecutiveClumps}
 
--- the run has a patch, and its numbers in the full map are below 2^64
+-- the run has a patch; its tile, patches and numbers in the full map are counted from 1, and the numbers are below 2^64
 abbrev pub is_run_of_patches : ConsecutiveClumps → Bool
-is_run_of_patches run = nat_le run.first run.last && nat_lt (run.number + (run.last - run.first)) (2 ^ 64)
+is_run_of_patches run =
+    nat_lt 0 run.tile
+    && (nat_lt 0 run.first
+    && (nat_lt 0 run.number
+    && (nat_le run.first run.last && nat_lt (run.number + (run.last - run.first)) (2 ^ 64))))
 
 -- a run is of a later tile, or has later patches of the same tile
 abbrev pub run_comes_after : (previous run : ConsecutiveClumps) → Bool

@@ -1,10 +1,12 @@
 -- What the runs of a numbering say about a full map that is cut into a grid of tiles: the number of each cell's clump,
--- and the measures of all patches.
+-- and the measures of patches.
 use Rattle.std.specs.List.{range_with_len}
+use Rattle.std.specs.List.Sorted.{IsStrictlySortedBy}
 use Rattle.std.specs.Map.{keys_of, values_of}
 use Rattle.std.specs.Option.{option_map}
-use Rattle.std.specs.Prelude.{ℕ, pos, negsuc, ◌≡◌, ◌+◌, ◌*◌, ◌<◌, ◌==◌, ◌&&◌, Bool, List, length, take, sum, All}
-use Rattle.std.specs.Prelude.{count_by, Some, None, slice_index}
+use Rattle.std.specs.Ordering.{nat_cmp}
+use Rattle.std.specs.Prelude.{ℕ, pos, negsuc, ◌≡◌, ◌⊎◌, ◌↔◌, ◌+◌, ◌*◌, ◌<◌, ◌≤◌, ◌==◌, ◌&&◌, Bool, true, List, length}
+use Rattle.std.specs.Prelude.{map, take, sum, All, Contains, count_by, Some, None, slice_index}
 use Rattle.cell_clumps.specs.declared.clump.Joining.{Joining}
 use Rattle.cell_clumps.specs.Clumps.{Position, cell_at_position, IsClumpMapOf}
 use Rattle.cell_clumps.specs.ClumpLaw.{NumberOccursInMap}
@@ -20,7 +22,7 @@ use Rattle.cell_join_tiles.specs.JoinedTiles.{AreConsecutiveClumpsOfTiles}
 use Rattle.cell_join_tiles.specs.Values.{TileBorderValue}
 use Rattle.cell_patches.specs.declared.patch.Patch.{Patch}
 use Rattle.cell_patches.specs.declared.tile_position.TilePosition.{TilePosition}
-use Rattle.cell_patches.specs.Patches.{AreMeasuresOfAllPatches}
+use Rattle.cell_patches.specs.Patches.{AreMeasuresOfAllPatches, AreMeasuresOfPatch, is_in_patch}
 use Rattle.cell_patches.specs.TilePatches.{AreMeasuresOfPatchInTile}
 
 -- ---- a numbered grid of tiles
@@ -96,6 +98,51 @@ pub record IsPatchOfTileGrid (whole : Grid) (heights widths : List ℕ) (numbers
 -- the part is this patch of the tile with this number
 abbrev pub is_patch_of_tile : (tile number : ℕ) → PatchOfTile → Bool
 is_patch_of_tile tile number part = part.tile == tile && part.number == number
+
+-- a patch of a tile is open if it has a cell in the tile's first or last row or column, and otherwise closed
+pub record IsOpenPatch (numbers : Grid) (n : ℕ) : Type 0 where
+  pub row : ℕ
+  pub col : ℕ
+  pub in_patch : is_in_patch numbers n row col ≡ true
+  pub at_border : ((row ≡ 0) ⊎ (row + 1 ≡ numbers.region.rows)) ⊎ ((col ≡ 0) ⊎ (col + 1 ≡ numbers.region.cols))
+
+-- a closed patch of a tile is a patch of the full map with the same measures, and no other patch of a tile has its
+-- number in the full map
+abbrev pub ClosedPatchesAreFullMapPatches : Type 0
+ClosedPatchesAreFullMapPatches = (j : Joining) (whole numbers : Grid) (heights widths : List ℕ)
+    (map_of numbers_of : ℕ → ℕ → Grid) (runs : List ConsecutiveClumps)
+    → IsNumberedTileGrid j whole numbers heights widths map_of numbers_of runs
+    → HaveSizesOfTileGrid whole heights widths numbers_of
+    → (depth : ℕ) (part : PatchOfTile)
+    → (is : IsPatchOfTileGrid whole heights widths numbers_of runs depth part)
+    → ¬ IsOpenPatch (numbers_of is.row is.col) part.number
+    → AreMeasuresOfPatch whole numbers depth part.full_map_number part.patch
+    × ((other : PatchOfTile) → IsPatchOfTileGrid whole heights widths numbers_of runs depth other
+    → other.full_map_number ≡ part.full_map_number → (other.tile ≡ part.tile) × (other.number ≡ part.number))
+
+-- the parts are patches of tiles, none of them listed twice; if a part of a full map's patch is listed, all its open
+-- parts are listed
+pub record AreJoinableParts (whole : Grid) (heights widths : List ℕ) (numbers_of : ℕ → ℕ → Grid)
+    (runs : List ConsecutiveClumps) (depth : ℕ) (parts : List PatchOfTile) : Type 0 where
+  pub each : All (IsPatchOfTileGrid whole heights widths numbers_of runs depth) parts
+  pub once : (tile number : ℕ) → count_by (is_patch_of_tile tile number) parts ≤ 1
+  pub all_open : (part : PatchOfTile) → Contains parts part → (r c k : ℕ) → r < length heights → c < length widths
+      → IsOpenPatch (numbers_of r c) k
+      → number_in_full_map runs (tile_number_in_grid (length widths) r c) k ≡ Some part.full_map_number
+      → 0 < count_by (is_patch_of_tile (tile_number_in_grid (length widths) r c) k) parts
+
+-- patches that are joined from such parts have the parts' numbers in the full map, and are the full map's patches with
+-- these numbers
+abbrev pub JoinedPartsAreFullMapPatches : Type 0
+JoinedPartsAreFullMapPatches = (j : Joining) (whole numbers : Grid) (heights widths : List ℕ)
+    (map_of numbers_of : ℕ → ℕ → Grid) (runs : List ConsecutiveClumps)
+    → IsNumberedTileGrid j whole numbers heights widths map_of numbers_of runs
+    → HaveSizesOfTileGrid whole heights widths numbers_of
+    → (depth : ℕ) (parts : List PatchOfTile) → AreJoinableParts whole heights widths numbers_of runs depth parts
+    → (patches : List (ℕ × Patch)) → AreJoinedPatches parts patches
+    → IsStrictlySortedBy nat_cmp (keys_of patches)
+    × ((n : ℕ) → Contains (keys_of patches) n ↔ Contains (map (λ part. part.full_map_number) parts) n)
+    × ((n : ℕ) (patch : Patch) → Contains patches (n, patch) → AreMeasuresOfPatch whole numbers depth n patch)
 
 -- the parts are the patches of all tiles, each of them once
 pub record AreAllPatchesOfTileGrid (whole : Grid) (heights widths : List ℕ) (numbers_of : ℕ → ℕ → Grid)

@@ -3,7 +3,7 @@
 //! - `part`: `PatchOfTile`, a patch of a tile, which is a part of a patch of the full map
 //! - `patch_numbering`: `PatchNumbering`, the runs of a numbering, which give a tile's patch its number in the full map
 //! - `patch_joiner`: `PatchJoiner` adds one part after another, and has the patches of the full map
-//! - `law`: joined patches have the measures of the full map's patches, and the numbers are its clump numbers
+//! - `law`: joined patches, and closed patches of tiles, are the full map's patches; the numbers are its clump numbers
 //!
 //! specs/PatchNumbers.antt defines the number of a patch, specs/JoinedPatches.antt the measures of joined patches.
 //! specs/TileGridLaw.antt states what they are for a full map that is cut into a grid of tiles.

@@ -12,7 +12,7 @@ use std::marker::Model;
 /// Why a run is not added to a numbering.
 #[derive(Clone, Copy, Debug, PartialEq, Eq)]
 pub enum NumberingFault {
-    /// The run has no patch, does not come after the run before it, or has numbers of 2^64 or more.
+    /// The run has no patch, a number 0, or numbers of 2^64 or more, or does not come after the run before it.
     BadRun,
     /// Memory ran out.
     Memory,
@@ -37,11 +37,15 @@ impl Model for PatchNumbering {
     ghost invariant = { λ n. AreRunsInOrder n.runs.items };
 }
 
-// Returns whether the run has a patch, and its numbers in the full map fit in a `u64`.
+// Returns whether the run has a patch, no number is 0, and its numbers in the full map fit in a `u64`.
 fn is_run_of_patches(run: ConsecutiveClumps) -> bool
     ensures { result ≡ is_run_of_patches run }
 {
-    run.first <= run.last && run.number.checked_add(run.last - run.first).is_some()
+    0 < run.tile
+        && 0 < run.first
+        && 0 < run.number
+        && run.first <= run.last
+        && run.number.checked_add(run.last - run.first).is_some()
 }
 
 // Returns whether a run is of a later tile, or has later patches of the same tile.
