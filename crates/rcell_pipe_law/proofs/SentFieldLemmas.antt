@@ -9,9 +9,9 @@ use Rattle.cell_core_devices.specs.Device.{ComingBytes}
 use Rattle.cell_core_values.specs.Name.{is_name, starts_like_name, is_name_byte}
 use Rattle.std.specs.List.{list_all}
 use Rattle.rcell_pipe_request.specs.Feeds.{after}
-use Rattle.rcell_pipe_request.specs.Heads.{LabelValue, coordinate_reading, map_name_reading, format_flags_reading}
-use Rattle.rcell_pipe_request.specs.Heads.{cell_type_reading, raw_format_reading}
-use Rattle.rcell_pipe_request.specs.Heads.{label_reading, nodata_if_valid}
+use Rattle.rcell_pipe_request.specs.Heads.{LabelValue, map_name_reading, format_flags_reading, cell_type_reading}
+use Rattle.rcell_pipe_request.specs.Heads.{raw_format_reading, label_reading, nodata_if_valid}
+use Rattle.rcell_pipe_request.specs.RequestRegions.{coordinate_reading}
 use Rattle.rcell_pipe_request.specs.Numbers.{cell_type_of_code}
 use Rattle.rcell_pipe_request.specs.RequestFields.{sized_text_reading}
 use Rattle.rcell_pipe_request.specs.declared.head.RawFormat.{RawFormat}

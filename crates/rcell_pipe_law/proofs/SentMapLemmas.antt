@@ -1,25 +1,26 @@
 -- Maps are read back from their bytes.
 use Rattle.std.proofs.Common.{◌≡◌, ℕ, suc, ◌<◌, ◌^◌, true, List, [], ◌∷◌, ◌++◌}
-use Rattle.std.proofs.Common.{length, Option, Some, Ok, refl, ap, sym, ◌∙◌, subst, arith, append_assoc}
+use Rattle.std.proofs.Common.{length, Some, Ok, refl, ap, sym, ◌∙◌, subst, arith, append_assoc}
 use Rattle.std.proofs.Common.{append-nil}
 use Rattle.std.specs.Prelude.{flat_map, map, All, Result, slice_get}
 use Rattle.std.specs.Int.{w8, w32, to_le_bytes}
+use Rattle.std.specs.Option.{is_none}
 use Rattle.std.proofs.lemmas.Option.{slice_get_within, get_or_from_slice_get}
 use Rattle.cell_core_devices.specs.Device.{ComingBytes}
+use Rattle.cell_core_values.specs.Name.{place_of_name}
+use Rattle.cell_core_values.specs.Region.{RegionValue}
 use Rattle.cell_core.specs.Grid.{CellValue}
 use Rattle.cell_core.specs.Shelf.{ShelfValue}
 use Rattle.rcell_pipe_request.specs.Feeds.{after}
-use Rattle.rcell_pipe_request.specs.Heads.{LabelValue, edges_reading, region_reading, new_map_name_reading}
-use Rattle.rcell_pipe_request.specs.Heads.{same_region_reading, is_new_map_name}
-use Rattle.rcell_pipe_request.specs.Heads.{is_region_of_shelf, next_label_reading, labels_reading, map_head_reading}
+use Rattle.rcell_pipe_request.specs.Heads.{LabelValue, new_map_name_reading, next_label_reading, labels_reading}
+use Rattle.rcell_pipe_request.specs.Heads.{map_head_reading}
 use Rattle.rcell_pipe_request.specs.RequestFields.{reading_repeated_n_times}
+use Rattle.rcell_pipe_request.specs.RequestRegions.{edges_reading, region_reading}
 use Rattle.rcell_pipe_request.specs.Requests.{next_row_reading, map_reading}
 use Rattle.rcell_pipe_law.specs.SentBytes.{text_with_length_bytes, raw_format_bytes, label_bytes, sent_labels_bytes}
-use Rattle.rcell_pipe_law.specs.SentBytes.{region_bytes}
-use Rattle.rcell_pipe_law.specs.SentBytes.{sent_map_head_bytes, bytes_of_sent_row, bytes_of_sent_map}
-use Rattle.rcell_pipe_law.specs.SentMaps.{SentCell, SentMap, IsSendableLabel, IsSendableMap, IsSendableCell}
-use Rattle.rcell_pipe_law.specs.SentMaps.{cell_of_sent_cell}
-use Rattle.rcell_pipe_law.specs.SentMaps.{grid_of_sent_map}
+use Rattle.rcell_pipe_law.specs.SentBytes.{region_bytes, sent_map_head_bytes, bytes_of_sent_row, bytes_of_sent_map}
+use Rattle.rcell_pipe_law.specs.SentMaps.{SentCell, SentMap, SentRegion, IsSendableLabel, IsSendableMap}
+use Rattle.rcell_pipe_law.specs.SentMaps.{IsSendableCell, IsSendableRegion, cell_of_sent_cell, grid_of_sent_map}
 use Rattle.rcell_pipe_law.proofs.SentFieldLemmas.{after-append, coordinate_reads, name_reads, format_reads}
 use Rattle.rcell_pipe_law.proofs.SentFieldLemmas.{label_reads}
 use Rattle.rcell_pipe_law.proofs.SentNumberLemmas.{reads_32}
@@ -83,93 +84,73 @@ labels_read labels rest few good =
     (steps_all IsSendableLabel next_label_reading label_bytes (λ label. label) labels good one_label [] rest
     ∙ ap (λ ls. Ok (ls, rest)) (same_map labels))
 
--- the rows and the columns of a region fit in 32 bits
-rows_fit : (m : SentMap) → IsSendableMap m → m.region.rows < 2 ^ 32
-rows_fit m is = omega (arith, is.region.rows_most)
-
-cols_fit : (m : SentMap) → IsSendableMap m → m.region.cols < 2 ^ 32
-cols_fit m is = omega (arith, is.region.cols_most)
-
-region_reads : (m : SentMap) (rest : ComingBytes) → IsSendableMap m
-    → region_reading (after (region_bytes m) rest) ≡ Ok (m.region, rest)
+pub region_reads : (sent : SentRegion) (rest : ComingBytes) → IsSendableRegion sent
+    → region_reading (after (region_bytes sent) rest) ≡ Ok (sent.region, rest)
 unfolding region_reading edges_reading
-region_reads m rest is =
-    let sizes = to_le_bytes w32 m.region.rows ++ to_le_bytes w32 m.region.cols in
+region_reads sent rest is =
+    let sizes = to_le_bytes w32 sent.region.rows ++ to_le_bytes w32 sent.region.cols in
     rw (
-      after-append (text_with_length_bytes w8 m.north) (text_with_length_bytes w8 m.south
-          ++ (text_with_length_bytes w8 m.east ++ (text_with_length_bytes w8 m.west ++ sizes))) rest,
-      coordinate_reads m.region.north m.north (after (text_with_length_bytes w8 m.south
-          ++ (text_with_length_bytes w8 m.east ++ (text_with_length_bytes w8 m.west ++
+      after-append (text_with_length_bytes w8 sent.north) (text_with_length_bytes w8 sent.south
+          ++ (text_with_length_bytes w8 sent.east ++ (text_with_length_bytes w8 sent.west ++ sizes))) rest,
+      coordinate_reads sent.region.north sent.north (after (text_with_length_bytes w8 sent.south
+          ++ (text_with_length_bytes w8 sent.east ++ (text_with_length_bytes w8 sent.west ++
           sizes))) rest) is.north,
-      after-append (text_with_length_bytes w8 m.south) (text_with_length_bytes w8 m.east
-          ++ (text_with_length_bytes w8 m.west ++ sizes)) rest,
-      coordinate_reads m.region.south m.south (after (text_with_length_bytes w8 m.east
-          ++ (text_with_length_bytes w8 m.west ++ sizes)) rest) is.south,
-      after-append (text_with_length_bytes w8 m.east) (text_with_length_bytes w8 m.west ++ sizes) rest,
-      coordinate_reads m.region.east m.east (after (text_with_length_bytes w8 m.west ++ sizes) rest) is.east,
-      after-append (text_with_length_bytes w8 m.west) sizes rest,
-      coordinate_reads m.region.west m.west (after sizes rest) is.west,
-      after-append (to_le_bytes w32 m.region.rows) (to_le_bytes w32 m.region.cols) rest,
-      reads_32 m.region.rows (after (to_le_bytes w32 m.region.cols) rest) (rows_fit m is),
-      reads_32 m.region.cols rest (cols_fit m is),
-      is.region.accepted,
+      after-append (text_with_length_bytes w8 sent.south) (text_with_length_bytes w8 sent.east
+          ++ (text_with_length_bytes w8 sent.west ++ sizes)) rest,
+      coordinate_reads sent.region.south sent.south (after (text_with_length_bytes w8 sent.east
+          ++ (text_with_length_bytes w8 sent.west ++ sizes)) rest) is.south,
+      after-append (text_with_length_bytes w8 sent.east) (text_with_length_bytes w8 sent.west ++ sizes) rest,
+      coordinate_reads sent.region.east sent.east (after (text_with_length_bytes w8 sent.west ++ sizes) rest) is.east,
+      after-append (text_with_length_bytes w8 sent.west) sizes rest,
+      coordinate_reads sent.region.west sent.west (after sizes rest) is.west,
+      after-append (to_le_bytes w32 sent.region.rows) (to_le_bytes w32 sent.region.cols) rest,
+      reads_32 sent.region.rows (after (to_le_bytes w32 sent.region.cols) rest) (omega (arith, is.valid.rows_most)),
+      reads_32 sent.region.cols rest (omega (arith, is.valid.cols_most)),
+      is.valid.accepted,
     ) refl
 
--- the head of a map is read back if its name is new and its region is the shelf's
-pub head_reads : (shelf : Option ShelfValue) (m : SentMap) (rest : ComingBytes) → IsSendableMap m
-    → is_new_map_name shelf m.name ≡ true → is_region_of_shelf shelf m.region ≡ true
-    → map_head_reading shelf (after (sent_map_head_bytes m) rest) ≡ Ok (
-      record {
-        name = m.name;
-        region = m.region;
-        format = m.format;
-        labels = m.labels;
-      },
-      rest,
-    )
-unfolding map_head_reading new_map_name_reading same_region_reading
-head_reads shelf m rest is new same =
+-- the head of a map is read back if its name is new
+pub head_reads : (region : RegionValue) (names : List (List ℕ)) (m : SentMap) (rest : ComingBytes)
+    → IsSendableMap region m → is_none (place_of_name m.name names) ≡ true
+    → map_head_reading names (after (sent_map_head_bytes m) rest)
+    ≡ Ok (record { name = m.name; format = m.format; labels = m.labels }, rest)
+unfolding map_head_reading new_map_name_reading
+head_reads region names m rest is new =
     let format = raw_format_bytes m.format ++ sent_labels_bytes m.labels in
     rw (
-      after-append (text_with_length_bytes w8 m.name) (region_bytes m ++ format) rest,
-      name_reads m.name (after (region_bytes m ++ format) rest) is.name,
+      after-append (text_with_length_bytes w8 m.name) format rest,
+      name_reads m.name (after format rest) is.name,
       new,
-      after-append (region_bytes m) format rest,
-      region_reads m (after format rest) is,
-      same,
       after-append (raw_format_bytes m.format) (sent_labels_bytes m.labels) rest,
       format_reads m.format (after (sent_labels_bytes m.labels) rest) is.nodata,
       labels_read m.labels rest is.count is.labels,
     ) refl
 
 -- a row that can be sent
-abbrev IsSentRow : SentMap → List SentCell → Type 0
-IsSentRow m row = (length row ≡ m.region.cols) × All (IsSendableCell m.format) row
+abbrev IsSentRow : RegionValue → SentMap → List SentCell → Type 0
+IsSentRow region m row = (length row ≡ region.cols) × All (IsSendableCell m.format) row
 
-one_row : (maps : ℕ) (m : SentMap) (so_far : List (List CellValue)) (row : List SentCell) (rest : ComingBytes)
-    → IsSentRow m row
-    → next_row_reading maps m.format m.region.cols so_far (after (bytes_of_sent_row m.format row) rest) ≡ Ok (
-      so_far ++ map
-          (cell_of_sent_cell m.format) row ∷ [],
-      rest,
-    )
+one_row : (maps : ℕ) (region : RegionValue) (m : SentMap) (so_far : List (List CellValue)) (row : List SentCell)
+    (rest : ComingBytes) → IsSentRow region m row
+    → next_row_reading maps m.format region.cols so_far (after (bytes_of_sent_row m.format row) rest)
+    ≡ Ok (so_far ++ map (cell_of_sent_cell m.format) row ∷ [], rest)
 unfolding next_row_reading
-one_row maps m so_far row rest is =
+one_row maps region m so_far row rest is =
     rw (sym is.0, row_reads m.format row (of_each (IsSendableCell m.format) row is.1) rest) refl
 
 -- a map is read back
-pub map_reads : (maps : ℕ) (shelf : Option ShelfValue) (m : SentMap) (rest : ComingBytes) → IsSendableMap m
-    → is_new_map_name shelf m.name ≡ true → is_region_of_shelf shelf m.region ≡ true
-    → map_reading maps shelf (after (bytes_of_sent_map m) rest)
-    ≡ Ok (record { name = m.name; grid = grid_of_sent_map m }, rest)
+pub map_reads : (shelf : ShelfValue) (m : SentMap) (rest : ComingBytes) → IsSendableMap shelf.region m
+    → is_none (place_of_name m.name shelf.names) ≡ true
+    → map_reading shelf (after (bytes_of_sent_map m) rest)
+    ≡ Ok (record { name = m.name; grid = grid_of_sent_map shelf.region m }, rest)
 unfolding map_reading
-map_reads maps shelf m rest is new same =
-    let all : All (IsSentRow m) m.rows = λ k d within. (is.width k d within, is.cells k d within) in
+map_reads shelf m rest is new =
+    let all : All (IsSentRow shelf.region m) m.rows = λ k d within. (is.width k d within, is.cells k d within) in
+    let step = next_row_reading (length shelf.names) m.format shelf.region.cols in
     rw (
       after-append (sent_map_head_bytes m) (flat_map (bytes_of_sent_row m.format) m.rows) rest,
-      head_reads shelf m (after (flat_map (bytes_of_sent_row m.format) m.rows) rest) is new same,
+      head_reads shelf.region shelf.names m (after (flat_map (bytes_of_sent_row m.format) m.rows) rest) is new,
       sym is.height,
-      steps_all (IsSentRow m) (next_row_reading maps m.format m.region.cols) (bytes_of_sent_row m.format)
-          (map (cell_of_sent_cell
-          m.format)) m.rows all (one_row maps m) [] rest,
+      steps_all (IsSentRow shelf.region m) step (bytes_of_sent_row m.format) (map (cell_of_sent_cell m.format)) m.rows
+          all (one_row (length shelf.names) shelf.region m) [] rest,
     ) refl

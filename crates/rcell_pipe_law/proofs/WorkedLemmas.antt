@@ -6,22 +6,26 @@ use Rattle.std.proofs.lemmas.List.Elements.{All-cons, All-nil}
 use Rattle.std.proofs.lemmas.List.Kept.{AllPairs-cons}
 use Rattle.cell_core_values.specs.Name.{AreDistinctNames}
 use Rattle.cell_core_values.proofs.NameLemmas.{bytes_eq-apart}
-use Rattle.cell_core_values.specs.Region.{IsValidRegion}
-use Rattle.rcell_pipe_law.specs.SentMaps.{IsSendableCell, IsSendableLabel, IsSendableMap}
+use Rattle.rcell_pipe_law.specs.SentMaps.{IsSendableCell, IsSendableLabel, IsSendableMap, IsSendableRegion}
 use Rattle.rcell_pipe_law.specs.SentQuestions.{IsSendableQuestion}
 use Rattle.rcell_pipe_law.specs.SentExamples.{ExampleRequestsMatchBytes, negative_sent_cell, example_heat_map, hidden}
-use Rattle.rcell_pipe_law.specs.SentExamples.{docs_example_map}
+use Rattle.rcell_pipe_law.specs.SentExamples.{docs_example_map, docs_example_region}
 use Rattle.rcell_pipe_law.specs.SentExamples.{visible_sent_cell, example_heat_question}
 
-region : IsValidRegion docs_example_map.region
-region = record {
-  rows_least = omega arith;
-  rows_most = omega arith;
-  cols_least = omega arith;
-  cols_most = omega
-      arith;
-  cells_most = omega arith;
-  accepted = refl;
+region_is : IsSendableRegion docs_example_region
+region_is = record {
+  valid = record {
+    rows_least = omega arith;
+    rows_most = omega arith;
+    cols_least = omega arith;
+    cols_most = omega arith;
+    cells_most = omega arith;
+    accepted = refl;
+  };
+  north = record { short = omega arith; spelt = refl };
+  south = record { short = omega arith; spelt = refl };
+  east = record { short = omega arith; spelt = refl };
+  west = record { short = omega arith; spelt = refl };
 }
 
 all_three : {X : Type 0} (P : X → Type 0) (a b c : X) → P a → P b → P c → All P (a ∷ b ∷ c ∷ [])
@@ -33,14 +37,9 @@ all_two P a b x y = All-cons P a (b ∷ []) x (All-cons P b [] y (All-nil P))
 all_one : {X : Type 0} (P : X → Type 0) (a : X) → P a → All P (a ∷ [])
 all_one P a x = All-cons P a [] x (All-nil P)
 
-land_is : IsSendableMap docs_example_map
+land_is : IsSendableMap docs_example_region.region docs_example_map
 land_is = record {
   name = refl;
-  region = region;
-  north = record { short = omega arith; spelt = refl };
-  south = record { short = omega arith; spelt = refl };
-  east = record { short = omega arith; spelt = refl };
-  west = record { short = omega arith; spelt = refl };
   nodata = record { has = refl; fits = omega arith };
   count = omega arith;
   labels = All-nil IsSendableLabel;
@@ -66,14 +65,9 @@ land_is = record {
     null : IsSendableCell docs_example_map.format (visible_sent_cell 255)
     null = record { number = record { has = refl; fits = omega arith }; means = refl }
 
-heat_is : IsSendableMap example_heat_map
+heat_is : IsSendableMap docs_example_region.region example_heat_map
 heat_is = record {
   name = refl;
-  region = region;
-  north = record { short = omega arith; spelt = refl };
-  south = record { short = omega arith; spelt = refl };
-  east = record { short = omega arith; spelt = refl };
-  west = record { short = omega arith; spelt = refl };
   nodata = tt;
   count = omega arith;
   labels = all_one IsSendableLabel (record { category = negsuc 1; text = codes "cold" }) (record {
@@ -116,9 +110,10 @@ apart = bytes_eq-apart (codes "land") (codes "heat") refl
 pub worked : ExampleRequestsMatchBytes
 worked = record {
   one = record {
-    maps = all_one IsSendableMap docs_example_map land_is;
-    one_region = All-nil (λ m. m.region ≡ docs_example_map.region);
+    region = region_is;
+    maps = all_one (IsSendableMap docs_example_region.region) docs_example_map land_is;
     distinct = none_after docs_example_map.name;
+    some = omega arith;
     few = omega arith;
     short = omega arith;
     questions = All-nil IsSendableQuestion;
@@ -127,11 +122,12 @@ worked = record {
   one_is = refl;
   land_means = refl;
   two = record {
-    maps = all_two IsSendableMap docs_example_map example_heat_map land_is heat_is;
-    one_region = all_one (λ m. m.region ≡ docs_example_map.region) example_heat_map refl;
+    region = region_is;
+    maps = all_two (IsSendableMap docs_example_region.region) docs_example_map example_heat_map land_is heat_is;
     distinct = AllPairs-cons (λ a b. a ≢ b) docs_example_map.name (example_heat_map.name
         ∷ []) (all_one (λ b. docs_example_map.name ≢ b)
         example_heat_map.name apart) (none_after example_heat_map.name);
+    some = omega arith;
     few = omega arith;
     short = omega arith;
     questions = all_one IsSendableQuestion example_heat_question (record {

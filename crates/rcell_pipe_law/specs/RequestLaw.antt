@@ -1,42 +1,44 @@
 -- A request is read as its caller meant it.
-use Rattle.std.specs.Prelude.{ℕ, ◌≡◌, ◌≤◌, ◌<◌, ◌^◌, false, List, [], ◌∷◌, ◌++◌, length, map, All, Ok}
+use Rattle.std.specs.Prelude.{ℕ, ◌≡◌, ◌≤◌, ◌<◌, ◌^◌, false, List, [], ◌++◌, length, map, All, Ok}
 use Rattle.std.specs.Int.{w32}
 use Rattle.cell_core_devices.specs.Device.{ComingBytes}
 use Rattle.cell_core_values.specs.Name.{AreDistinctNames}
 use Rattle.rcell_pipe_request.specs.RequestFields.{bytes_reading}
 use Rattle.rcell_pipe_request.specs.Requests.{RunRequestValue, run_request_reading}
 use Rattle.rcell_tile.specs.TileRuns.{shelves_of_full_maps}
-use Rattle.rcell_pipe_law.specs.SentBytes.{bytes_of_sent_maps, text_with_length_bytes}
-use Rattle.rcell_pipe_law.specs.SentMaps.{IsSendableMap, SentMap, shelf_of_sent_maps}
+use Rattle.rcell_pipe_law.specs.SentBytes.{bytes_of_sent_maps, region_bytes, text_with_length_bytes}
+use Rattle.rcell_pipe_law.specs.SentMaps.{IsSendableMap, IsSendableRegion, SentMap, SentRegion}
+use Rattle.rcell_pipe_law.specs.SentMaps.{shelf_of_sent_maps}
 use Rattle.rcell_pipe_law.specs.SentQuestions.{IsSendableQuestion, SentQuestion, questions_with_numbers}
 use Rattle.rcell_pipe_law.specs.SentQuestions.{questions_bytes}
 
--- at least one map, a script, and questions
+-- a region, maps, a script, and questions
 pub record SentRequest : Type 0 where
-  pub first : SentMap
-  pub others : List SentMap
+  pub region : SentRegion
+  pub maps : List SentMap
   pub script : List ℕ
   pub questions : List SentQuestion
 
--- at most 65535 maps of one region with distinct names, and a script of at most 1048576 bytes
+-- 1 to 65535 maps with distinct names, and a script of at most 1048576 bytes
 pub record IsSendableRequest (r : SentRequest) : Type 0 where
-  pub maps : All IsSendableMap (r.first ∷ r.others)
-  pub one_region : All (λ m. m.region ≡ r.first.region) r.others
-  pub distinct : AreDistinctNames (map (λ m. m.name) (r.first ∷ r.others))
-  pub few : length (r.first ∷ r.others) ≤ 65535
+  pub region : IsSendableRegion r.region
+  pub maps : All (IsSendableMap r.region.region) r.maps
+  pub distinct : AreDistinctNames (map (λ m. m.name) r.maps)
+  pub some : 1 ≤ length r.maps
+  pub few : length r.maps ≤ 65535
   pub short : length r.script ≤ 1048576
   pub questions : All IsSendableQuestion r.questions
   pub count : length r.questions < 2 ^ 32
 
--- the bytes of the maps, then the script, then the questions
+-- the bytes of the region, then the maps, then the script, then the questions
 abbrev pub request_bytes : SentRequest → List ℕ
-request_bytes r = bytes_of_sent_maps r.first r.others ++ (text_with_length_bytes w32 r.script
-    ++ questions_bytes r.questions)
+request_bytes r = region_bytes r.region ++ (bytes_of_sent_maps r.maps ++ (text_with_length_bytes w32 r.script
+    ++ questions_bytes r.questions))
 
 -- the maps, the script and the questions that the bytes denote
 abbrev pub meaning_of_sent_request : SentRequest → RunRequestValue
 meaning_of_sent_request r = record {
-  shelves = shelves_of_full_maps (shelf_of_sent_maps r.first r.others);
+  shelves = shelves_of_full_maps (shelf_of_sent_maps r.region.region r.maps);
   script = r.script;
   questions = questions_with_numbers 0 r.questions;
 }

@@ -1,6 +1,6 @@
--- The bytes that a caller writes for maps and a script: each length or count precedes what it counts, and numbers have
--- their lowest byte first (profile).
-use Rattle.std.specs.Prelude.{ℕ, ℤ, pos, ◌+◌, ◌*◌, Bool, true, false, List, [], ◌∷◌, ◌++◌, length, map, flat_map}
+-- The bytes that a caller writes for a region, maps and a script: each length or count precedes what it counts, and
+-- numbers have their lowest byte first (profile).
+use Rattle.std.specs.Prelude.{ℕ, ℤ, pos, ◌+◌, ◌*◌, Bool, true, false, List, [], ◌++◌, length, map, flat_map}
 use Rattle.std.specs.Prelude.{Option, is_some, unwrap_or, if◌then◌else◌}
 use Rattle.std.specs.Int.{Width, w8, w16, w32, w64, to_le_bytes, cast_unsigned}
 use Rattle.rcell_pipe_request.specs.Heads.{LabelValue}
@@ -8,7 +8,7 @@ use Rattle.rcell_pipe_request.specs.Numbers.{bit_width_of_cell_type}
 use Rattle.rcell_pipe_request.specs.declared.head.RawFormat.{RawFormat}
 use Rattle.rcell_pipe_request.specs.declared.kind.CellType.{CellType}
 use Rattle.rcell_pipe_request.specs.declared.kind.CellType.TheVariants.{U8, I8, U16, I16, U32, I32, I64}
-use Rattle.rcell_pipe_law.specs.SentMaps.{SentCell, SentMap}
+use Rattle.rcell_pipe_law.specs.SentMaps.{SentCell, SentMap, SentRegion}
 
 -- a number in two's complement
 abbrev pub twos_complement_bytes : Width → ℤ → List ℕ
@@ -49,14 +49,13 @@ abbrev pub sent_labels_bytes : List LabelValue → List ℕ
 sent_labels_bytes labels = to_le_bytes w32 (length labels) ++ flat_map label_bytes labels
 
 -- the edges, then the numbers of rows and columns
-abbrev pub region_bytes : SentMap → List ℕ
-region_bytes m = text_with_length_bytes w8 m.north ++ (text_with_length_bytes w8 m.south
-    ++ (text_with_length_bytes w8 m.east ++ (text_with_length_bytes w8 m.west
-    ++ (to_le_bytes w32 m.region.rows ++ to_le_bytes w32 m.region.cols))))
+abbrev pub region_bytes : SentRegion → List ℕ
+region_bytes sent = text_with_length_bytes w8 sent.north ++ (text_with_length_bytes w8 sent.south
+    ++ (text_with_length_bytes w8 sent.east ++ (text_with_length_bytes w8 sent.west
+    ++ (to_le_bytes w32 sent.region.rows ++ to_le_bytes w32 sent.region.cols))))
 
 abbrev pub sent_map_head_bytes : SentMap → List ℕ
-sent_map_head_bytes m = text_with_length_bytes w8 m.name ++ (region_bytes m
-    ++ (raw_format_bytes m.format ++ sent_labels_bytes m.labels))
+sent_map_head_bytes m = text_with_length_bytes w8 m.name ++ (raw_format_bytes m.format ++ sent_labels_bytes m.labels)
 
 -- the numbers in a row
 abbrev pub bytes_of_row_numbers : CellType → List SentCell → List ℕ
@@ -73,6 +72,5 @@ abbrev pub bytes_of_sent_map : SentMap → List ℕ
 bytes_of_sent_map m = sent_map_head_bytes m ++ flat_map (bytes_of_sent_row m.format) m.rows
 
 -- the number of maps, followed by the maps
-abbrev pub bytes_of_sent_maps : SentMap → List SentMap → List ℕ
-bytes_of_sent_maps first others = to_le_bytes w32 (length (first ∷ others)) ++ flat_map bytes_of_sent_map (first
-    ∷ others)
+abbrev pub bytes_of_sent_maps : List SentMap → List ℕ
+bytes_of_sent_maps sent = to_le_bytes w32 (length sent) ++ flat_map bytes_of_sent_map sent

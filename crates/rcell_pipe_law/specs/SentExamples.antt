@@ -5,7 +5,7 @@ use Rattle.cell_core.specs.Grid.{CellValue}
 use Rattle.cell_clumps.specs.declared.clump.Joining.TheVariants.{EdgesAndCorners}
 use Rattle.rcell_pipe_request.specs.declared.kind.CellType.TheVariants.{U8, I16}
 use Rattle.rcell_pipe_law.specs.RequestLaw.{IsSendableRequest, SentRequest, request_bytes}
-use Rattle.rcell_pipe_law.specs.SentMaps.{SentCell, SentMap, grid_of_sent_map}
+use Rattle.rcell_pipe_law.specs.SentMaps.{SentCell, SentMap, SentRegion, grid_of_sent_map}
 use Rattle.rcell_pipe_law.specs.SentQuestions.{SentQuestion}
 
 abbrev pub visible_sent_cell : ℕ → SentCell
@@ -17,14 +17,18 @@ negative_sent_cell n = record { number = negsuc n; hidden = false }
 abbrev pub hidden : SentCell
 hidden = record { number = pos 7; hidden = true }
 
-abbrev pub docs_example_map : SentMap
-docs_example_map = record {
-  name = codes "land";
+abbrev pub docs_example_region : SentRegion
+docs_example_region = record {
   region = record { north = pos 200000000; south = pos 0; east = pos 300000000; west = pos 0; rows = 2; cols = 3 };
   north = codes "2";
   south = codes "0";
   east = codes "3";
   west = codes "0";
+}
+
+abbrev pub docs_example_map : SentMap
+docs_example_map = record {
+  name = codes "land";
   format = record { kind = U8; nodata = Some (pos 255); is_masked = false };
   labels = [];
   rows = (visible_sent_cell 1 ∷ visible_sent_cell 1 ∷ visible_sent_cell 2 ∷ [])
@@ -32,7 +36,7 @@ docs_example_map = record {
 }
 
 abbrev pub example_heat_map : SentMap
-example_heat_map = record docs_example_map {
+example_heat_map = record {
   name = codes "heat";
   format = record { kind = I16; nodata = None; is_masked = true };
   labels = record { category = negsuc 1; text = codes "cold" } ∷ [];
@@ -44,7 +48,12 @@ abbrev pub script : List ℕ
 script = codes "r.stats -c input=land\n"
 
 abbrev pub docs_example_request : SentRequest
-docs_example_request = record { first = docs_example_map; others = []; script = script; questions = [] }
+docs_example_request = record {
+  region = docs_example_region;
+  maps = docs_example_map ∷ [];
+  script = script;
+  questions = [];
+}
 
 abbrev pub example_heat_question : SentQuestion
 example_heat_question = record {
@@ -57,30 +66,28 @@ example_heat_question = record {
 
 abbrev pub example_heat_request : SentRequest
 example_heat_request = record {
-  first = docs_example_map;
-  others = example_heat_map
-      ∷ [];
+  region = docs_example_region;
+  maps = docs_example_map ∷ example_heat_map ∷ [];
   script = script;
   questions = example_heat_question ∷ [];
 }
 
--- one map, a script of 22 bytes, and no questions
+-- the region, one map, a script of 22 bytes, and no questions
 abbrev pub docs_example_request_bytes : List ℕ
 docs_example_request_bytes =
-    (1 ∷ 0 ∷ 0 ∷ 0 ∷ 4 ∷ []) ++ codes "land"
-    ++ (1 ∷ 50 ∷ 1 ∷ 48 ∷ 1 ∷ 51 ∷ 1 ∷ 48 ∷ 2 ∷ 0 ∷ 0 ∷ 0 ∷ 3 ∷ 0 ∷ 0 ∷ 0 ∷ [])
+    (1 ∷ 50 ∷ 1 ∷ 48 ∷ 1 ∷ 51 ∷ 1 ∷ 48 ∷ 2 ∷ 0 ∷ 0 ∷ 0 ∷ 3 ∷ 0 ∷ 0 ∷ 0 ∷ [])
+    ++ (1 ∷ 0 ∷ 0 ∷ 0 ∷ 4 ∷ []) ++ codes "land"
     ++ (1 ∷ 1 ∷ 255 ∷ 0 ∷ 0 ∷ 0 ∷ 0 ∷ 0 ∷ 0 ∷ 0 ∷ 0 ∷ 0 ∷ 0 ∷ 0 ∷ 1 ∷ 1 ∷ [])
     ++ (2 ∷ 2 ∷ 2 ∷ 255 ∷ 22 ∷ 0 ∷ 0 ∷ 0 ∷ []) ++ codes "r.stats -c input=land\n"
     ++ (0 ∷ 0 ∷ 0 ∷ 0 ∷ [])
 
--- two maps, where each row of the second is followed by its mask, and one question
+-- the region, two maps, where each row of the second is followed by its mask, and one question
 abbrev pub example_heat_request_bytes : List ℕ
 example_heat_request_bytes =
-    (2 ∷ 0 ∷ 0 ∷ 0 ∷ 4 ∷ []) ++ codes "land"
-    ++ (1 ∷ 50 ∷ 1 ∷ 48 ∷ 1 ∷ 51 ∷ 1 ∷ 48 ∷ 2 ∷ 0 ∷ 0 ∷ 0 ∷ 3 ∷ 0 ∷ 0 ∷ 0 ∷ [])
+    (1 ∷ 50 ∷ 1 ∷ 48 ∷ 1 ∷ 51 ∷ 1 ∷ 48 ∷ 2 ∷ 0 ∷ 0 ∷ 0 ∷ 3 ∷ 0 ∷ 0 ∷ 0 ∷ [])
+    ++ (2 ∷ 0 ∷ 0 ∷ 0 ∷ 4 ∷ []) ++ codes "land"
     ++ (1 ∷ 1 ∷ 255 ∷ 0 ∷ 0 ∷ 0 ∷ 0 ∷ 0 ∷ 0 ∷ 0 ∷ 0 ∷ 0 ∷ 0 ∷ 0 ∷ 1 ∷ 1 ∷ [])
     ++ (2 ∷ 2 ∷ 2 ∷ 255 ∷ 4 ∷ []) ++ codes "heat"
-    ++ (1 ∷ 50 ∷ 1 ∷ 48 ∷ 1 ∷ 51 ∷ 1 ∷ 48 ∷ 2 ∷ 0 ∷ 0 ∷ 0 ∷ 3 ∷ 0 ∷ 0 ∷ 0 ∷ [])
     ++ (4 ∷ 2 ∷ 0 ∷ 0 ∷ 0 ∷ 0 ∷ 0 ∷ 0 ∷ 0 ∷ 0 ∷ [])
     ++ (1 ∷ 0 ∷ 0 ∷ 0 ∷ 254 ∷ 255 ∷ 255 ∷ 255 ∷ 4 ∷ 0 ∷ []) ++ codes "cold"
     ++ (254 ∷ 255 ∷ 7 ∷ 0 ∷ 3 ∷ 0 ∷ 0 ∷ 1 ∷ 0 ∷ []) ++ (3 ∷ 0 ∷ 3 ∷ 0 ∷ 212 ∷ 254 ∷ 0 ∷ 0 ∷ 0 ∷ [])
@@ -100,7 +107,7 @@ example_heat_map_cells = (Some (negsuc 1) ∷ None ∷ Some (pos 3) ∷ [])
 pub record ExampleRequestsMatchBytes : Type 0 where
   pub one : IsSendableRequest docs_example_request
   pub one_is : request_bytes docs_example_request ≡ docs_example_request_bytes
-  pub land_means : (grid_of_sent_map docs_example_map).rows ≡ docs_example_map_cells
+  pub land_means : (grid_of_sent_map docs_example_region.region docs_example_map).rows ≡ docs_example_map_cells
   pub two : IsSendableRequest example_heat_request
   pub two_are : request_bytes example_heat_request ≡ example_heat_request_bytes
-  pub heat_means : (grid_of_sent_map example_heat_map).rows ≡ example_heat_map_cells
+  pub heat_means : (grid_of_sent_map docs_example_region.region example_heat_map).rows ≡ example_heat_map_cells

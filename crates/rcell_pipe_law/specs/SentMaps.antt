@@ -1,5 +1,5 @@
 -- The maps that a caller of rcell-pipe sends, and the cells that their numbers denote (profile).
-use Rattle.std.specs.Prelude.{ℕ, ℤ, ◌≡◌, ◌<◌, ◌^◌, Bool, true, false, ◌&&◌, ◌||◌, List, ◌∷◌, length, map, All}
+use Rattle.std.specs.Prelude.{ℕ, ℤ, ◌≡◌, ◌<◌, ◌^◌, Bool, true, false, ◌&&◌, ◌||◌, List, length, map, All}
 use Rattle.std.specs.Prelude.{IfSome, Some, None, if◌then◌else◌}
 use Rattle.std.specs.Int.{w32, w64}
 use Rattle.std.specs.Int.RustNames.{FitsSigned}
@@ -21,15 +21,18 @@ pub record SentCell : Type 0 where
   pub number : ℤ
   pub hidden : Bool
 
--- a map of numbers: its edges as numbers and as the texts that are sent; the format: the type of the numbers, the
--- number that denotes null, if any, and whether the map has a mask; the labels; and the rows from north to south
-pub record SentMap : Type 0 where
-  pub name : List ℕ
+-- a region, and its edges as the texts that are sent
+pub record SentRegion : Type 0 where
   pub region : RegionValue
   pub north : List ℕ
   pub south : List ℕ
   pub east : List ℕ
   pub west : List ℕ
+
+-- a map of numbers: the format: the type of the numbers, the number that denotes null, if any, and whether the map has
+-- a mask; the labels; and the rows from north to south
+pub record SentMap : Type 0 where
+  pub name : List ℕ
   pub format : RawFormat
   pub labels : List LabelValue
   pub rows : List (List SentCell)
@@ -42,20 +45,20 @@ sent_cell_means_null format cell = (format.is_masked && cell.hidden) || is_nodat
 abbrev pub cell_of_sent_cell : RawFormat → SentCell → CellValue
 cell_of_sent_cell format cell = if sent_cell_means_null format cell then None else Some cell.number
 
--- the map that the numbers denote
-abbrev pub grid_of_sent_map : SentMap → Grid
-grid_of_sent_map m = record {
-  region = m.region;
+-- the map of this region that the numbers denote
+abbrev pub grid_of_sent_map : RegionValue → SentMap → Grid
+grid_of_sent_map region m = record {
+  region = region;
   rows = map (map (cell_of_sent_cell m.format)) m.rows;
   labels = label_map_with_added_labels empty_category_labels m.labels;
 }
 
--- the maps that the numbers denote, with their names; the region is the first map's
-abbrev pub shelf_of_sent_maps : SentMap → List SentMap → ShelfValue
-shelf_of_sent_maps first others = record {
-  region = first.region;
-  names = map (λ m. m.name) (first ∷ others);
-  maps = map grid_of_sent_map (first ∷ others);
+-- the maps of this region that the numbers denote, with their names
+abbrev pub shelf_of_sent_maps : RegionValue → List SentMap → ShelfValue
+shelf_of_sent_maps region sent = record {
+  region = region;
+  names = map (λ m. m.name) sent;
+  maps = map (grid_of_sent_map region) sent;
 }
 
 -- a number that the type can represent
@@ -79,17 +82,20 @@ pub record IsSendableCoordinateText (edge : ℤ) (text : List ℕ) : Type 0 wher
   pub short : length text < 2 ^ 8
   pub spelt : coordinate_of_text text ≡ Some edge
 
--- a map that can be sent
-pub record IsSendableMap (m : SentMap) : Type 0 where
+-- a region that can be sent
+pub record IsSendableRegion (sent : SentRegion) : Type 0 where
+  pub valid : IsValidRegion sent.region
+  pub north : IsSendableCoordinateText sent.region.north sent.north
+  pub south : IsSendableCoordinateText sent.region.south sent.south
+  pub east : IsSendableCoordinateText sent.region.east sent.east
+  pub west : IsSendableCoordinateText sent.region.west sent.west
+
+-- a map that can be sent in a request for this region
+pub record IsSendableMap (region : RegionValue) (m : SentMap) : Type 0 where
   pub name : is_name m.name ≡ true
-  pub region : IsValidRegion m.region
-  pub north : IsSendableCoordinateText m.region.north m.north
-  pub south : IsSendableCoordinateText m.region.south m.south
-  pub east : IsSendableCoordinateText m.region.east m.east
-  pub west : IsSendableCoordinateText m.region.west m.west
   pub nodata : IfSome m.format.nodata (IsNumberOfCellType m.format.kind)
   pub count : length m.labels < 2 ^ 32
   pub labels : All IsSendableLabel m.labels
-  pub height : length m.rows ≡ m.region.rows
-  pub width : All (λ row. length row ≡ m.region.cols) m.rows
+  pub height : length m.rows ≡ region.rows
+  pub width : All (λ row. length row ≡ region.cols) m.rows
   pub cells : All (All (IsSendableCell m.format)) m.rows

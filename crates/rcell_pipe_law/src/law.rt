@@ -3,8 +3,8 @@
 ghost use Rattle.rcell_pipe_law.specs.RequestLaw.{SentRequestsAreRead};
 ghost use Rattle.rcell_pipe_law.specs.SentExamples.{ExampleRequestsMatchBytes};
 
-/// A caller writes maps of one region with distinct names, a script and questions. The request is read as exactly
-/// these: the region, each cell, label and name, each byte of the script, and each question.
+/// A caller writes a region, maps of this region with distinct names, a script and questions. The request is read as
+/// exactly these: the region, each cell, label and name, each byte of the script, and each question.
 pub fn sent_requests_are_read()
     ensures { SentRequestsAreRead }
 {}

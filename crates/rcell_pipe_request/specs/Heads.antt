@@ -1,76 +1,21 @@
 -- The head of a map in a request: everything before its rows (profile).
-use Rattle.std.specs.Prelude.{◌≡◌, ℕ, ℤ, pos, negsuc, Bool, true, false, ◌||◌, nat_le, List, [], ◌∷◌, ◌++◌, map, Option, Some, None, Result, Ok, Err, ◌==◌, if◌then◌else◌}
+use Rattle.std.specs.Prelude.{◌≡◌, ℕ, ℤ, pos, negsuc, Bool, true, false, ◌||◌, nat_le, List, [], ◌∷◌, ◌++◌, map, Option, Some, None, Ok, Err, ◌==◌, if◌then◌else◌}
 use Rattle.std.specs.Ordering.{int_eq}
 use Rattle.std.specs.List.{list_any}
 use Rattle.std.specs.Option.{is_none}
 use Rattle.std.specs.Int.{w8, w16, w32, w64}
 use Rattle.cell_core_devices.specs.Device.{ComingBytes}
 use Rattle.cell_core_values.specs.Name.{is_name, place_of_name}
-use Rattle.cell_core_values.specs.Region.{RegionValue, region_or_first_fault}
-use Rattle.cell_core_values.specs.declared.region.RegionFault.{RegionFault}
-use Rattle.cell_core_values.specs.SameRegion.{is_same_region}
-use Rattle.cell_core.specs.Shelf.{ShelfValue}
-use Rattle.cell_ascii_meaning.specs.EdgeNumbers.{coordinate_of_text}
 use Rattle.rcell_pipe_request.specs.declared.kind.CellType.{CellType}
 use Rattle.rcell_pipe_request.specs.Numbers.{cell_type_of_code, can_represent_number}
 use Rattle.rcell_pipe_request.specs.declared.head.RawFormat.{RawFormat}
 use Rattle.rcell_pipe_request.specs.declared.head.CategoryLabel.{CategoryLabel}
 use Rattle.rcell_pipe_request.specs.declared.head.MapHead.{MapHead}
-use Rattle.rcell_pipe_request.specs.declared.error.ErrorKind.{ErrorKind}
 use Rattle.rcell_pipe_request.specs.declared.error.ErrorKind.TheVariants as kinds
 use Rattle.cell_core_values.specs.Answers.{◌>>=◌}
 use Rattle.rcell_pipe_request.specs.RequestFields.{RequestFieldReading, unsigned_number_reading, signed_number_reading}
 use Rattle.rcell_pipe_request.specs.RequestFields.{sized_text_reading, reading_repeated_n_times}
-
--- the value, or the error if there is none
-abbrev pub reading_of_value_or_error_kind : {X : Type 0} → ErrorKind → ComingBytes → Option X → RequestFieldReading X
-reading_of_value_or_error_kind kind rest None = Err kind
-reading_of_value_or_error_kind kind rest (Some x) = Ok (x, rest)
-
--- a coordinate, written as in the header of a grid text
-unfoldable pub coordinate_reading : ComingBytes → RequestFieldReading ℤ
-coordinate_reading c = do
-  text ← sized_text_reading w8 c
-  reading_of_value_or_error_kind kinds.BadNumber text.1 (coordinate_of_text text.0)
-
--- the region, or an error if the six numbers do not form a region
-abbrev pub region_or_error : ComingBytes → Result RegionValue RegionFault → RequestFieldReading RegionValue
-region_or_error rest (Ok region) = Ok (region, rest)
-region_or_error rest (Err error) = Err kinds.BadRegion
-
--- north, south, east and west
-pub record RegionEdgesValue : Type 0 where
-  pub north : ℤ
-  pub south : ℤ
-  pub east : ℤ
-  pub west : ℤ
-
--- four coordinates as texts
-unfoldable pub edges_reading : ComingBytes → RequestFieldReading RegionEdgesValue
-edges_reading c = do
-  north ← coordinate_reading c
-  south ← coordinate_reading north.1
-  east ← coordinate_reading south.1
-  west ← coordinate_reading east.1
-  Ok (record { north = north.0; south = south.0; east = east.0; west = west.0 }, west.1)
-
--- the edges, then the numbers of rows and columns
-unfoldable pub region_reading : ComingBytes → RequestFieldReading RegionValue
-region_reading c = do
-  edges ← edges_reading c
-  rows ← unsigned_number_reading w32 edges.1
-  cols ← unsigned_number_reading w32 rows.1
-  region_or_error cols.1 (region_or_first_fault (record { north = edges.0.north; south = edges.0.south; east = edges.0.east; west = edges.0.west; rows = rows.0; cols = cols.0 }))
-
--- no previous map has this name
-abbrev pub is_new_map_name : Option ShelfValue → List ℕ → Bool
-is_new_map_name None name = true
-is_new_map_name (Some shelf) name = is_none (place_of_name name shelf.names)
-
--- the previous maps, if any, have this region
-abbrev pub is_region_of_shelf : Option ShelfValue → RegionValue → Bool
-is_region_of_shelf None region = true
-is_region_of_shelf (Some shelf) region = is_same_region region shelf.region
+use Rattle.rcell_pipe_request.specs.RequestFields.{reading_of_value_or_error_kind}
 
 -- a map name
 unfoldable pub map_name_reading : ComingBytes → RequestFieldReading (List ℕ)
@@ -78,17 +23,11 @@ map_name_reading c = do
   text ← sized_text_reading w8 c
   if is_name text.0 then Ok text else Err kinds.BadName
 
--- a name that no previous map has
-unfoldable pub new_map_name_reading : Option ShelfValue → ComingBytes → RequestFieldReading (List ℕ)
-new_map_name_reading shelf c = do
+-- a name that differs from the previous maps' names
+unfoldable pub new_map_name_reading : List (List ℕ) → ComingBytes → RequestFieldReading (List ℕ)
+new_map_name_reading names c = do
   name ← map_name_reading c
-  if is_new_map_name shelf name.0 then Ok name else Err kinds.NameTwice
-
--- a region, which must equal the region of the previous maps
-unfoldable pub same_region_reading : Option ShelfValue → ComingBytes → RequestFieldReading RegionValue
-same_region_reading shelf c = do
-  region ← region_reading c
-  if is_region_of_shelf shelf region.0 then Ok region else Err kinds.OtherRegion
+  if is_none (place_of_name name.0 names) then Ok name else Err kinds.NameTwice
 
 -- with flag 1, a number of the type denotes null; without it, the number must be 0
 abbrev pub nodata_if_valid : CellType → ℕ → ℤ → Option (Option ℤ)
@@ -149,18 +88,16 @@ labels_reading c = do
 
 pub record MapHeadValue : Type 0 where
   pub name : List ℕ
-  pub region : RegionValue
   pub format : RawFormat
   pub labels : List LabelValue
 
--- the head of a map; an error in a field is reported before the next field is read
-unfoldable pub map_head_reading : Option ShelfValue → ComingBytes → RequestFieldReading MapHeadValue
-map_head_reading shelf c = do
-  name ← new_map_name_reading shelf c
-  region ← same_region_reading shelf name.1
-  format ← raw_format_reading region.1
+-- the head of a map after maps with these names; an error in a field is reported before the next field is read
+unfoldable pub map_head_reading : List (List ℕ) → ComingBytes → RequestFieldReading MapHeadValue
+map_head_reading names c = do
+  name ← new_map_name_reading names c
+  format ← raw_format_reading name.1
   labels ← labels_reading format.1
-  Ok (record { name = name.0; region = region.0; format = format.0; labels = labels.0 }, labels.1)
+  Ok (record { name = name.0; format = format.0; labels = labels.0 }, labels.1)
 
 -- the label as a value
 abbrev pub label_as_value : CategoryLabel → LabelValue
@@ -170,7 +107,7 @@ abbrev pub labels_as_values : List CategoryLabel → List LabelValue
 labels_as_values labels = map label_as_value labels
 
 abbrev pub map_head_as_value : MapHead → MapHeadValue
-map_head_as_value head = record { name = head.name; region = head.region; format = head.format; labels = labels_as_values head.labels.items }
+map_head_as_value head = record { name = head.name; format = head.format; labels = labels_as_values head.labels.items }
 
 -- the label's number is a category, and its text contains no line feed
 abbrev pub IsGoodLabel : CategoryLabel → Type 0

@@ -4,6 +4,7 @@ pub mod Numbers
 pub mod RawRows
 pub mod PackedRows
 pub mod RequestFields
+pub mod RequestRegions
 pub mod Heads
 pub mod Rows
 pub mod Questions

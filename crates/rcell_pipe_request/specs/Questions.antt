@@ -12,8 +12,7 @@ use Rattle.rcell_pipe_request.specs.declared.question.Question.{Question}
 use Rattle.rcell_pipe_request.specs.declared.question.WantedFrames.{WantedFrames}
 use Rattle.rcell_pipe_request.specs.RequestFields.{RequestFieldReading, PositionedReading, result_with_error_position}
 use Rattle.rcell_pipe_request.specs.RequestFields.{unsigned_number_reading, sized_text_reading, end_of_request_reading}
-use Rattle.rcell_pipe_request.specs.RequestFields.{reading_repeated_n_times}
-use Rattle.rcell_pipe_request.specs.Heads.{reading_of_value_or_error_kind}
+use Rattle.rcell_pipe_request.specs.RequestFields.{reading_repeated_n_times, reading_of_value_or_error_kind}
 
 -- a question about the patches of a map: its number in the request, from 1, the map's name, which cells are adjacent,
 -- the depth of the core in steps from its patch's edge, the name of the zones' map, if any, and the frames that it asks

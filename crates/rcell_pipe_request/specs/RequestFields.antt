@@ -1,7 +1,7 @@
 -- Requests are read from left to right, up to the first error. Numbers have their lowest byte first, and each length
 -- precedes its bytes (profile).
-use Rattle.std.specs.Prelude.{ℕ, ℤ, zero, suc, Bool, true, false, List, length, take, Result, Ok, Err, nat_lt}
-use Rattle.std.specs.Prelude.{◌==◌, if◌then◌else◌}
+use Rattle.std.specs.Prelude.{ℕ, ℤ, zero, suc, Bool, true, false, List, length, take, Option, Some, None}
+use Rattle.std.specs.Prelude.{Result, Ok, Err, nat_lt, ◌==◌, if◌then◌else◌}
 use Rattle.std.specs.Int.{Width, byte_len, from_le_bytes, cast_signed}
 use Rattle.cell_core_devices.specs.Device.{ComingBytes, bytes_to_come_after_reading}
 use Rattle.cell_core_values.specs.Answers.{◌>>=◌}
@@ -12,6 +12,11 @@ use Rattle.rcell_pipe_request.specs.declared.error.RequestError.{RequestError}
 -- the value read and what is still to come, or an error
 abbrev pub RequestFieldReading : Type 0 → Type 0
 RequestFieldReading X = Result (X × ComingBytes) ErrorKind
+
+-- the value, or the error if there is none
+abbrev pub reading_of_value_or_error_kind : {X : Type 0} → ErrorKind → ComingBytes → Option X → RequestFieldReading X
+reading_of_value_or_error_kind kind rest None = Err kind
+reading_of_value_or_error_kind kind rest (Some x) = Ok (x, rest)
 
 -- why a source returns no more bytes: it ended or failed
 abbrev pub error_kind_of_source_end : Bool → ErrorKind

@@ -1,17 +1,18 @@
--- The place of a tile in a full map, as a request states it (profile).
-use Rattle.std.specs.Prelude.{ℕ, ◌-◌, Bool, Option, Some, Ok, Err, if◌then◌else◌}
-use Rattle.std.specs.Option.{option_map, is_some}
+-- The place of a tile in a full map, as a request states it, and the region of its maps (profile).
+use Rattle.std.specs.Prelude.{ℕ, ◌-◌, Bool, Ok, Err, if◌then◌else◌}
+use Rattle.std.specs.Option.{is_some}
 use Rattle.std.specs.Int.{w32}
 use Rattle.cell_core_devices.specs.Device.{ComingBytes}
 use Rattle.cell_core_values.specs.Answers.{◌>>=◌}
-use Rattle.cell_core.specs.Shelf.{ShelfValue}
 use Rattle.cell_join_numbers.specs.Parts.{Rectangle}
 use Rattle.rcell_tile.specs.TilePlaces.{TilePlaceValue, valid_tile_place}
-use Rattle.rcell_tile.specs.TileRuns.{RunShelvesValue}
 use Rattle.rcell_pipe_request.specs.declared.error.ErrorKind.TheVariants as kinds
 use Rattle.rcell_pipe_request.specs.declared.place.FullMapAndCorner.{FullMapAndCorner}
+use Rattle.rcell_pipe_request.specs.declared.place.PlaceAndRegion.{PlaceAndRegion}
 use Rattle.rcell_pipe_request.specs.declared.place.StatedPlace.{StatedPlace}
 use Rattle.rcell_pipe_request.specs.RequestFields.{RequestFieldReading, unsigned_number_reading}
+use Rattle.rcell_pipe_request.specs.RequestFields.{reading_of_value_or_error_kind}
+use Rattle.rcell_pipe_request.specs.RequestRegions.{region_reading}
 
 -- the size of the full map, and the first row and column of the maps in it
 unfoldable pub full_map_and_corner_reading : ComingBytes → RequestFieldReading FullMapAndCorner
@@ -53,8 +54,11 @@ place_reading c = do
   if is_possible_place (record { maps = maps.0; tile = tile.0 }) then Ok
       (record { maps = maps.0; tile = tile.0 }, tile.1) else Err kinds.BadPlace
 
--- the maps of a tile with their halo, if they contain the tile and are inside the full map
-abbrev pub shelves_of_tile_if_it_fits : StatedPlace → ShelfValue → Option RunShelvesValue
-shelves_of_tile_if_it_fits p shelf =
-    option_map (λ place. record { outer = shelf; place = Some place })
-    (valid_tile_place (place_of_maps_of_size p shelf.region.rows shelf.region.cols))
+-- the place, then the region of the maps, which must contain the tile and be inside the full map
+unfoldable pub place_and_region_reading : ComingBytes → RequestFieldReading PlaceAndRegion
+place_and_region_reading c = do
+  stated ← place_reading c
+  region ← region_reading stated.1
+  place ← reading_of_value_or_error_kind kinds.BadPlace region.1
+      (valid_tile_place (place_of_maps_of_size stated.0 region.0.rows region.0.cols))
+  Ok (record { place = place.0; region = region.0 }, place.1)

@@ -28,8 +28,6 @@ pub enum ErrorKind {
     BadNumber,
     /// The six numbers are not a region.
     BadRegion,
-    /// The region differs from the first map's.
-    OtherRegion,
     /// The type of cells is unknown.
     BadType,
     /// The flags are unknown.
@@ -56,6 +54,10 @@ pub enum ErrorKind {
     BadKind,
     /// There is no tile, or there are more than 4294967295.
     BadTileCount,
+    /// A border was numbered with another connectivity than the request's.
+    OtherConnectivity,
+    /// The tiles above or on the left do not end where a tile begins in the full map.
+    OtherPlace,
     /// A tile has no row, no column, or more than 65535 rows or columns.
     BadSize,
     /// A tile has other rows than the tiles on its left, or other columns than the tile above.

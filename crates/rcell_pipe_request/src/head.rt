@@ -1,12 +1,9 @@
 //! Reads the head of a map in a request: everything before its rows.
 
 ghost use Rattle.std.specs.Prelude.{ℕ, ◌≡◌, List, [], length, ◌≤◌, IfOk, All, false};
-ghost use Rattle.std.specs.Option.{option_map};
-ghost use Rattle.cell_core_values.specs.Region.{region_or_first_fault};
 ghost use Rattle.rcell_pipe_request.specs.RequestFields.{reading_repeated_n_times};
 ghost use Rattle.rcell_pipe_request.specs.Feeds.{left, ReadsRequestFieldAndStaysOpen};
-ghost use Rattle.rcell_pipe_request.specs.Heads.{coordinate_reading, region_reading, is_new_map_name, is_region_of_shelf, map_name_reading, new_map_name_reading, same_region_reading, nodata_if_valid, format_flags_reading, cell_type_reading, raw_format_reading, edges_reading, has_line_feed, is_bad_label, IsGoodLabel, next_label_reading, label_reading, labels_reading, map_head_reading, label_as_value, labels_as_values, map_head_as_value};
-ghost use Rattle.rcell_pipe_request.specs.parts.Edges.{edges_as_value, region_of_edge_values};
+ghost use Rattle.rcell_pipe_request.specs.Heads.{map_name_reading, new_map_name_reading, nodata_if_valid, format_flags_reading, cell_type_reading, raw_format_reading, has_line_feed, is_bad_label, IsGoodLabel, next_label_reading, label_reading, labels_reading, map_head_reading, label_as_value, labels_as_values, map_head_as_value};
 
 use crate::error::{ErrorKind, FieldReadingStop};
 use crate::feed::{
@@ -14,9 +11,7 @@ use crate::feed::{
     read_u32,
 };
 use crate::kind::CellType;
-use cell_ascii_reading::number::coordinate_of_text;
 use cell_core::name::{Name, NameFault};
-use cell_core::region::{Region, RegionFault};
 use cell_core::shelf::Shelf;
 use std::alloc::Global;
 use std::io::Read;
@@ -29,15 +24,6 @@ pub struct RawFormat {
     pub is_masked: bool,
 }
 
-// A region's coordinates.
-#[derive(Clone, Copy, Debug)]
-struct Edges {
-    north: i64,
-    south: i64,
-    east: i64,
-    west: i64,
-}
-
 /// A category and its label.
 #[derive(Debug, Drop)]
 pub struct CategoryLabel {
@@ -45,87 +31,12 @@ pub struct CategoryLabel {
     pub text: Vec<u8>,
 }
 
-/// The name, region, format and labels of a map.
+/// The name, format and labels of a map.
 #[derive(Debug, Drop)]
 pub struct MapHead {
     pub name: Name,
-    pub region: Region,
     pub format: RawFormat,
     pub labels: Vec<CategoryLabel>,
-}
-
-// Reads a coordinate, written as in the header of a grid text.
-#[tactic(auto, unfolding(crate::specs::Heads::coordinate_reading))]
-fn read_coordinate<R: Read>(alloc: Global, feed: &mut Feed<R>) -> Result<i64, FieldReadingStop>
-    ensures { ReadsRequestFieldAndStaysOpen (λ n. n) feed.old result feed.new coordinate_reading }
-{
-    let text = read_text_with_u8_length(alloc, feed)?;
-    match coordinate_of_text(&text) {
-        Some(units) => Ok(units),
-        None => Err(FieldReadingStop::Error(ErrorKind::BadNumber)),
-    }
-}
-
-// Reads four coordinates.
-#[tactic(auto, unfolding(crate::specs::Heads::edges_reading))]
-fn read_edge_coordinates<R: Read>(
-    alloc: Global,
-    feed: &mut Feed<R>,
-) -> Result<Edges, FieldReadingStop>
-    ensures { ReadsRequestFieldAndStaysOpen edges_as_value feed.old result feed.new edges_reading }
-{
-    let north = read_coordinate(alloc, feed)?;
-    let south = read_coordinate(alloc, feed)?;
-    let east = read_coordinate(alloc, feed)?;
-    let west = read_coordinate(alloc, feed)?;
-    Ok(Edges {
-        north,
-        south,
-        east,
-        west,
-    })
-}
-
-// Builds the region from its coordinates, rows and columns.
-fn region_of_edges(edges: Edges, rows: u32, cols: u32) -> Result<Region, RegionFault>
-    ensures { result ≡ region_or_first_fault (region_of_edge_values edges rows cols) }
-{
-    Region::new(edges.north, edges.south, edges.east, edges.west, rows, cols)
-}
-
-// Reads four coordinates and two counts, and checks that they form a region.
-#[tactic(auto, unfolding(crate::specs::Heads::region_reading))]
-fn read_region<R: Read>(alloc: Global, feed: &mut Feed<R>) -> Result<Region, FieldReadingStop>
-    ensures { ReadsRequestFieldAndStaysOpen (λ region. region) feed.old result feed.new
-        region_reading }
-{
-    let edges = read_edge_coordinates(alloc, feed)?;
-    let rows = read_u32(feed)?;
-    let cols = read_u32(feed)?;
-    match region_of_edges(edges, rows, cols) {
-        Ok(region) => Ok(region),
-        Err(_) => Err(FieldReadingStop::Error(ErrorKind::BadRegion)),
-    }
-}
-
-// Returns whether no previous map has this name.
-fn is_new_map_name(shelf: Option<&Shelf>, name: &Name) -> bool
-    ensures { result ≡ is_new_map_name (option_map (λ s. s.now) shelf.entry) name.now }
-{
-    match shelf {
-        Some(shelf) => shelf.find(name.bytes()).is_none(),
-        None => true,
-    }
-}
-
-// Returns whether the previous maps, if any, have this region.
-fn is_region_of_shelf(shelf: Option<&Shelf>, region: Region) -> bool
-    ensures { result ≡ is_region_of_shelf (option_map (λ s. s.now) shelf.entry) region }
-{
-    match shelf {
-        Some(shelf) => region == shelf.region(),
-        None => true,
-    }
 }
 
 /// Reads a map name.
@@ -142,38 +53,21 @@ pub fn read_map_name<R: Read>(alloc: Global, feed: &mut Feed<R>) -> Result<Name,
     }
 }
 
-// Reads a name that no previous map has.
+// Reads a name that differs from the names of the previous maps.
 #[tactic(auto, unfolding(crate::specs::Heads::new_map_name_reading))]
 fn read_new_map_name<R: Read>(
     alloc: Global,
     feed: &mut Feed<R>,
-    shelf: Option<&Shelf>,
+    shelf: &Shelf,
 ) -> Result<Name, FieldReadingStop>
     ensures { ReadsRequestFieldAndStaysOpen (λ name. name) feed.old result feed.new
-        (new_map_name_reading (option_map (λ s. s.now) shelf.entry)) }
+        (new_map_name_reading shelf.now.names) }
 {
     let name = read_map_name(alloc, feed)?;
-    if !is_new_map_name(shelf, &name) {
+    if shelf.find(name.bytes()).is_some() {
         return Err(FieldReadingStop::Error(ErrorKind::NameTwice));
     }
     Ok(name)
-}
-
-// Reads a region that must equal the region of the previous maps.
-#[tactic(auto, unfolding(crate::specs::Heads::same_region_reading))]
-fn read_region_of_shelf<R: Read>(
-    alloc: Global,
-    feed: &mut Feed<R>,
-    shelf: Option<&Shelf>,
-) -> Result<Region, FieldReadingStop>
-    ensures { ReadsRequestFieldAndStaysOpen (λ region. region) feed.old result feed.new
-        (same_region_reading (option_map (λ s. s.now) shelf.entry)) }
-{
-    let region = read_region(alloc, feed)?;
-    if !is_region_of_shelf(shelf, region) {
-        return Err(FieldReadingStop::Error(ErrorKind::OtherRegion));
-    }
-    Ok(region)
 }
 
 // Returns the number that denotes null, if any. Returns `None` if it is invalid: the type cannot represent it, or it is
@@ -318,19 +212,17 @@ fn read_label_count_and_labels<R: Read>(
 pub fn read_map_head<R: Read>(
     alloc: Global,
     feed: &mut Feed<R>,
-    shelf: Option<&Shelf>,
+    shelf: &Shelf,
 ) -> Result<MapHead, FieldReadingStop>
     ensures reads { ReadsRequestFieldAndStaysOpen map_head_as_value feed.old result feed.new
-        (map_head_reading (option_map (λ s. s.now) shelf.entry)) }
+        (map_head_reading shelf.now.names) }
     ensures good { IfOk result (λ head. All IsGoodLabel head.labels.items) }
 {
     let name = read_new_map_name(alloc, feed, shelf)?;
-    let region = read_region_of_shelf(alloc, feed, shelf)?;
     let format = read_raw_format(feed)?;
     let labels = read_label_count_and_labels(alloc, feed)?;
     Ok(MapHead {
         name,
-        region,
         format,
         labels,
     })

@@ -1,7 +1,6 @@
 //! Reads a map of a request: its head and its rows.
 
 ghost use Rattle.std.specs.Prelude.{◌≡◌, ◌+◌, ◌*◌, ◌<◌, ◌≤◌, List, [], ◌∷◌, ◌++◌, length, map, true, Ok, OnOk, IfOk, All};
-ghost use Rattle.std.specs.Option.{option_map};
 ghost use Rattle.std.specs.FinMap.{insert};
 ghost use Rattle.cell_core_values.specs.Region.{RegionValue};
 ghost use Rattle.cell_core.specs.Grid.{Grid, UnfinishedMap, empty_category_labels};
@@ -196,28 +195,28 @@ fn set_labels(map: &mut CellMap, labels: &[CategoryLabel]) -> Result<(), Memory>
     Ok(())
 }
 
-/// Reads a map and its name. The shelf contains the previous maps.
+/// Reads a map of the shelf's region, and its name. The shelf contains the previous maps.
 #[tactic(auto, unfolding(crate::specs::Requests::map_reading))]
 pub fn read_named_map<R: Read>(
     alloc: Global,
     feed: &mut Feed<R>,
-    maps: u32,
-    shelf: Option<&Shelf>,
+    shelf: &Shelf,
 ) -> Result<NamedMap, RequestStop>
+    requires { length shelf.now.names < 65536 }
     ensures { ReadsWithErrorPosition named_map_as_value feed.old result feed.new
-        (map_reading maps (option_map (λ s. s.now) shelf.entry)) }
+        (map_reading shelf.now) }
 {
+    let maps = shelf.len() as u32;
     let head = match read_map_head(alloc, feed, shelf) {
         Ok(head) => head,
         Err(stop) => return Err(stop.at(maps, 0)),
     };
     let MapHead {
         name,
-        region,
         format,
         labels,
     } = head;
-    let mut map = match read_rows_into_map(alloc, feed, maps, format, region) {
+    let mut map = match read_rows_into_map(alloc, feed, maps, format, shelf.region()) {
         Ok(map) => map,
         Err(stop) => return Err(stop),
     };

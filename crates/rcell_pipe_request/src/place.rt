@@ -1,16 +1,14 @@
-//! Reads the place of a tile in a full map.
+//! Reads the place of a tile in a full map, and the region of its maps.
 
 ghost use Rattle.std.specs.Prelude.{◌≡◌, IfOk};
-ghost use Rattle.std.specs.Option.{option_map};
 ghost use Rattle.rcell_pipe_request.specs.Feeds.{ReadsRequestFieldAndStaysOpen};
-ghost use Rattle.rcell_pipe_request.specs.RequestPlaces.{full_map_and_corner_reading, tile_rectangle_reading, place_of_maps_of_size, is_possible_place, place_reading, shelves_of_tile_if_it_fits};
+ghost use Rattle.rcell_pipe_request.specs.RequestPlaces.{full_map_and_corner_reading, tile_rectangle_reading, place_of_maps_of_size, is_possible_place, place_reading, place_and_region_reading};
 ghost use Rattle.rcell_tile.specs.TilePlaces.{valid_tile_place};
 
 use crate::error::{ErrorKind, FieldReadingStop};
 use crate::feed::{Feed, read_u32};
-use cell_core::memory::Memory;
-use cell_core::shelf::Shelf;
-use rcell_tile::run_shelves::RunShelves;
+use crate::request_region::read_region;
+use cell_core::region::Region;
 use rcell_tile::tile_place::{CellRectangle, TilePlace};
 use std::alloc::Global;
 use std::io::Read;
@@ -29,6 +27,13 @@ pub struct FullMapAndCorner {
 pub struct StatedPlace {
     pub maps: FullMapAndCorner,
     pub tile: CellRectangle,
+}
+
+/// The place of a tile, and the region of its maps.
+#[derive(Clone, Copy, Debug)]
+pub struct PlaceAndRegion {
+    pub place: TilePlace,
+    pub region: Region,
 }
 
 #[tactic(auto, unfolding(crate::specs::RequestPlaces::full_map_and_corner_reading))]
@@ -80,9 +85,9 @@ fn is_possible_place(maps: FullMapAndCorner, tile: CellRectangle) -> bool
     place_of_maps_of_size(StatedPlace { maps, tile }, rows, cols).is_some()
 }
 
-/// Reads the place of a tile.
+// Reads the place of a tile.
 #[tactic(auto, unfolding(crate::specs::RequestPlaces::place_reading))]
-pub(crate) fn read_place<R: Read>(feed: &mut Feed<R>) -> Result<StatedPlace, FieldReadingStop>
+fn read_place<R: Read>(feed: &mut Feed<R>) -> Result<StatedPlace, FieldReadingStop>
     ensures { ReadsRequestFieldAndStaysOpen (λ place. place) feed.old result feed.new
         place_reading }
 {
@@ -94,24 +99,21 @@ pub(crate) fn read_place<R: Read>(feed: &mut Feed<R>) -> Result<StatedPlace, Fie
     Ok(StatedPlace { maps, tile })
 }
 
-/// Returns the maps of a tile with their halo, or `None` if they do not contain the tile or are not inside the full map.
-///
-/// # Errors
-///
-/// Returns [`Memory`] if memory runs out.
-pub(crate) fn shelves_of_tile_if_it_fits(
+/// Reads the place of a tile and the region of its maps, which must contain the tile and be inside the full map.
+#[tactic(auto, unfolding(crate::specs::RequestPlaces::place_and_region_reading))]
+pub(crate) fn read_place_and_region<R: Read>(
     alloc: Global,
-    place: StatedPlace,
-    shelf: Shelf,
-) -> Result<Option<RunShelves>, Memory>
-    ensures { IfOk result (λ shelves. shelves ≡ shelves_of_tile_if_it_fits place shelf) }
+    feed: &mut Feed<R>,
+) -> Result<PlaceAndRegion, FieldReadingStop>
+    ensures reads { ReadsRequestFieldAndStaysOpen (λ placed. placed) feed.old result feed.new
+        place_and_region_reading }
+    ensures rows { IfOk result (λ placed. placed.region.rows ≡ placed.place.outer.rows) }
+    ensures cols { IfOk result (λ placed. placed.region.cols ≡ placed.place.outer.cols) }
 {
-    let region = shelf.region();
-    match place_of_maps_of_size(place, region.rows(), region.cols()) {
-        Some(place) => {
-            let shelves = RunShelves::of_tile(alloc, shelf, place)?;
-            Ok(Some(shelves))
-        }
-        None => Ok(None),
+    let stated = read_place(feed)?;
+    let region = read_region(alloc, feed)?;
+    match place_of_maps_of_size(stated, region.rows(), region.cols()) {
+        Some(place) => Ok(PlaceAndRegion { place, region }),
+        None => Err(FieldReadingStop::Error(ErrorKind::BadPlace)),
     }
 }

@@ -3,14 +3,16 @@
 ghost use Rattle.std.specs.Prelude.{◌≡◌, ◌+◌, ◌<◌, ◌≤◌, length, OnOk, IfOk, IfErr};
 ghost use Rattle.rcell_pipe_request.specs.RequestFields.{reading_repeated_n_times};
 ghost use Rattle.rcell_pipe_request.specs.Feeds.{ReadsRequestFieldAndStaysOpen, ReadsRequestFieldToSourceEnd, ReadsWithErrorPosition, ReadsToEndWithErrorPosition};
-ghost use Rattle.rcell_pipe_request.specs.Requests.{shelf_of_first_map, shelf_with_named_map, map_count_reading, script_bytes_reading, script_to_request_end_reading, first_map_reading, next_map_reading, maps_reading, run_over_shelves_reading, run_request_reading, tile_run_request_reading, named_map_as_value, run_request_as_value};
+ghost use Rattle.rcell_pipe_request.specs.Requests.{shelf_with_named_map, map_count_reading, script_bytes_reading, script_to_request_end_reading, next_map_reading, maps_reading, run_over_shelves_reading, run_request_reading, tile_run_request_reading, named_map_as_value, run_request_as_value};
 
 use crate::error::{ErrorKind, FieldReadingStop, RequestStop};
 use crate::feed::{Feed, check_request_ends, read_bytes, read_u32};
 use crate::named_map::{NamedMap, read_named_map};
-use crate::place::{read_place, shelves_of_tile_if_it_fits};
+use crate::place::read_place_and_region;
 use crate::question::Question;
 use crate::questions::read_questions_to_request_end;
+use crate::request_region::read_region;
+use cell_core::region::Region;
 use cell_core::shelf::Shelf;
 use rcell_tile::run_shelves::RunShelves;
 use std::alloc::Global;
@@ -65,19 +67,6 @@ pub fn read_script_to_request_end<R: Read>(
     Ok(script)
 }
 
-// Creates a shelf with one map.
-fn shelf_of_first_map(alloc: Global, named: NamedMap) -> Result<Shelf, RequestStop>
-    ensures ok { IfOk result (λ shelf. shelf ≡ shelf_of_first_map (named_map_as_value named)) }
-    ensures error { IfErr result (λ stop. stop ≡ RequestStop.Memory) }
-{
-    let NamedMap { name, map } = named;
-    let mut shelf = Shelf::new(alloc, map.region());
-    match shelf.add(name, map) {
-        Ok(()) => Ok(shelf),
-        Err(_) => Err(RequestStop::Memory),
-    }
-}
-
 // Puts one more map on the shelf.
 fn put_map_on_shelf(shelf: &mut Shelf, named: NamedMap) -> Result<(), RequestStop>
     ensures ok { OnOk result (shelf.new ≡ shelf_with_named_map shelf.old
@@ -102,10 +91,10 @@ fn read_next_map_onto_shelf<R: Read>(
     requires { length shelf.old.names < 65536 }
     ensures reads { ReadsWithErrorPosition (λ _. shelf.new) feed.old result feed.new
         (next_map_reading shelf.old) }
+    ensures region { OnOk result (shelf.new.region ≡ shelf.old.region) }
     ensures count { OnOk result (length shelf.new.names ≡ length shelf.old.names + 1) }
 {
-    let maps = shelf.len() as u32;
-    let named = match read_named_map(alloc, feed, maps, Some(&*shelf)) {
+    let named = match read_named_map(alloc, feed, &*shelf) {
         Ok(named) => named,
         Err(stop) => return Err(stop),
     };
@@ -119,9 +108,11 @@ fn read_more_maps_onto_shelf<R: Read>(
     shelf: &mut Shelf,
     count: u32,
 ) -> Result<(), RequestStop>
-    requires { length shelf.old.names + count ≤ 65536 }
-    ensures { ReadsWithErrorPosition (λ _. shelf.new) feed.old result feed.new
+    requires { length shelf.old.names + count < 65536 }
+    ensures reads { ReadsWithErrorPosition (λ _. shelf.new) feed.old result feed.new
         (reading_repeated_n_times next_map_reading shelf.old count) }
+    ensures region { OnOk result (shelf.new.region ≡ shelf.old.region) }
+    ensures count { OnOk result (length shelf.new.names ≡ length shelf.old.names + count) }
 {
     for i in 0..count {
         match read_next_map_onto_shelf(alloc, feed, shelf) {
@@ -132,71 +123,46 @@ fn read_more_maps_onto_shelf<R: Read>(
     Ok(())
 }
 
-// The number of maps, and a shelf with the maps that have been read.
-#[derive(Drop)]
-struct MapCountAndShelf {
-    count: u32,
-    shelf: Shelf,
-}
-
-#[tactic(auto, unfolding(crate::specs::Requests::first_map_reading))]
-fn read_map_count_and_first_map<R: Read>(
+// Reads the number of maps, and all maps, which have this region.
+#[tactic(auto, unfolding(crate::specs::Requests::maps_reading))]
+fn read_maps<R: Read>(
     alloc: Global,
     feed: &mut Feed<R>,
-) -> Result<MapCountAndShelf, RequestStop>
-    ensures reads { ReadsWithErrorPosition (λ first.
-        (first.count, first.shelf)) feed.old result feed.new
-        first_map_reading }
-    ensures count { IfOk result (λ first. (1 ≤ first.count) × (first.count ≤ 65535)) }
-    ensures one { IfOk result (λ first. length first.shelf.names ≡ 1) }
+    region: Region,
+) -> Result<Shelf, RequestStop>
+    ensures reads { ReadsWithErrorPosition (λ shelf. shelf) feed.old result feed.new
+        (maps_reading region) }
+    ensures region { IfOk result (λ shelf. shelf.region ≡ region) }
+    ensures count { IfOk result (λ shelf. length shelf.names < 65536) }
 {
     let count = match read_map_count(feed) {
         Ok(count) => count,
         Err(stop) => return Err(stop.at(0, 0)),
     };
-    let named = match read_named_map(alloc, feed, 0, None) {
-        Ok(named) => named,
-        Err(stop) => return Err(stop),
-    };
-    match shelf_of_first_map(alloc, named) {
-        Ok(shelf) => Ok(MapCountAndShelf { count, shelf }),
+    let mut shelf = Shelf::new(alloc, region);
+    match read_more_maps_onto_shelf(alloc, feed, &mut shelf, count) {
+        Ok(()) => Ok(shelf),
         Err(stop) => Err(stop),
     }
 }
 
-// Reads the number of maps, and all maps.
-#[tactic(auto, unfolding(crate::specs::Requests::maps_reading))]
-fn read_maps<R: Read>(alloc: Global, feed: &mut Feed<R>) -> Result<MapCountAndShelf, RequestStop>
-    ensures { ReadsWithErrorPosition (λ maps. (maps.count, maps.shelf)) feed.old result feed.new
-        maps_reading }
-{
-    let first = match read_map_count_and_first_map(alloc, feed) {
-        Ok(first) => first,
-        Err(stop) => return Err(stop),
-    };
-    let MapCountAndShelf { count, mut shelf } = first;
-    match read_more_maps_onto_shelf(alloc, feed, &mut shelf, count - 1) {
-        Ok(()) => Ok(MapCountAndShelf { count, shelf }),
-        Err(stop) => Err(stop),
-    }
-}
-
-// Reads the script and questions of a run over `count` maps, to the end of the source.
+// Reads the script and questions of a run over these maps, to the end of the source.
 #[tactic(auto, unfolding(crate::specs::Requests::run_over_shelves_reading))]
 fn read_run_over_shelves<R: Read>(
     alloc: Global,
     feed: &mut Feed<R>,
-    count: u32,
     shelves: RunShelves,
 ) -> Result<Request, RequestStop>
+    requires { length shelves.outer.names < 65536 }
     ensures { ReadsToEndWithErrorPosition run_request_as_value feed.old result feed.new
-        (run_over_shelves_reading count shelves) }
+        (run_over_shelves_reading shelves) }
 {
+    let maps = shelves.outer().len() as u32;
     let script = match read_script(alloc, feed) {
         Ok(script) => script,
-        Err(stop) => return Err(stop.at(count, 0)),
+        Err(stop) => return Err(stop.at(maps, 0)),
     };
-    match read_questions_to_request_end(alloc, feed, count) {
+    match read_questions_to_request_end(alloc, feed, maps) {
         Ok(questions) => Ok(Request {
             shelves,
             script,
@@ -206,8 +172,8 @@ fn read_run_over_shelves<R: Read>(
     }
 }
 
-/// Reads the maps, script and questions of a run over full maps, to the end of the source. Memory grows only with the
-/// bytes that have arrived.
+/// Reads the region, maps, script and questions of a run over full maps, to the end of the source. Memory grows only
+/// with the bytes that have arrived.
 ///
 /// # Errors
 ///
@@ -217,16 +183,18 @@ pub fn read_run_request<R: Read>(alloc: Global, feed: &mut Feed<R>) -> Result<Re
     ensures { ReadsToEndWithErrorPosition run_request_as_value feed.old result feed.new
         run_request_reading }
 {
-    let maps = match read_maps(alloc, feed) {
-        Ok(maps) => maps,
-        Err(stop) => return Err(stop),
+    let region = match read_region(alloc, feed) {
+        Ok(region) => region,
+        Err(stop) => return Err(stop.at(0, 0)),
     };
-    let MapCountAndShelf { count, shelf } = maps;
-    read_run_over_shelves(alloc, feed, count, RunShelves::new(shelf))
+    match read_maps(alloc, feed, region) {
+        Ok(shelf) => read_run_over_shelves(alloc, feed, RunShelves::new(shelf)),
+        Err(stop) => Err(stop),
+    }
 }
 
-/// Reads the place of a tile, its maps with their halo, and the script and questions of a run over the tile, to the end
-/// of the source. Memory grows only with the bytes that have arrived.
+/// Reads the place of a tile and the region of its maps, the maps with their halo, and the script and questions of a run
+/// over the tile, to the end of the source. Memory grows only with the bytes that have arrived.
 ///
 /// # Errors
 ///
@@ -239,18 +207,16 @@ pub fn read_tile_run_request<R: Read>(
     ensures { ReadsToEndWithErrorPosition run_request_as_value feed.old result feed.new
         tile_run_request_reading }
 {
-    let place = match read_place(feed) {
-        Ok(place) => place,
-        Err(place_stop) => return Err(place_stop.at(0, 0)),
+    let placed = match read_place_and_region(alloc, feed) {
+        Ok(placed) => placed,
+        Err(stop) => return Err(stop.at(0, 0)),
     };
-    let maps = match read_maps(alloc, feed) {
-        Ok(maps) => maps,
+    let shelf = match read_maps(alloc, feed, placed.region) {
+        Ok(shelf) => shelf,
         Err(stop) => return Err(stop),
     };
-    let MapCountAndShelf { count, shelf } = maps;
-    match shelves_of_tile_if_it_fits(alloc, place, shelf) {
-        Ok(Some(shelves)) => read_run_over_shelves(alloc, feed, count, shelves),
-        Ok(None) => Err(FieldReadingStop::Error(ErrorKind::BadPlace).at(count, 0)),
+    match RunShelves::of_tile(alloc, shelf, placed.place) {
+        Ok(shelves) => read_run_over_shelves(alloc, feed, shelves),
         Err(_) => Err(RequestStop::Memory),
     }
 }

@@ -10,7 +10,7 @@ use Rattle.rcell_script.specs.declared.statement.Statement.{Statement}
 use Rattle.rcell_pipe_request.specs.declared.error.ErrorKind.TheVariants as kinds
 use Rattle.rcell_pipe_request.specs.declared.error.RequestError.{RequestError}
 use Rattle.rcell_pipe_request.specs.RequestFields.{RequestFieldReading, PositionedReading, bytes_reading}
-use Rattle.rcell_pipe_request.specs.Heads.{reading_of_value_or_error_kind}
+use Rattle.rcell_pipe_request.specs.RequestFields.{reading_of_value_or_error_kind}
 use Rattle.rcell_pipe_request.specs.Supposed.{source_may_hold}
 use Rattle.rcell_pipe_request.specs.Feeds.{read_state_after_error}
 use Rattle.rcell_pipe_request.specs.Questions.{PatchQuestionValue}

@@ -23,8 +23,8 @@ pub record RespondsToRequest (request response : List ℕ) : Type 0 where
 
 abbrev pub table_request : List ℕ
 table_request =
-    codes "RCELLQ1\n" ++ (1 ∷ 0 ∷ 0 ∷ 0 ∷ 4 ∷ []) ++ codes "land"
-    ++ (1 ∷ 50 ∷ 1 ∷ 48 ∷ 1 ∷ 51 ∷ 1 ∷ 48 ∷ 2 ∷ 0 ∷ 0 ∷ 0 ∷ 3 ∷ 0 ∷ 0 ∷ 0 ∷ [])
+    codes "RCELLQ1\n" ++ (1 ∷ 50 ∷ 1 ∷ 48 ∷ 1 ∷ 51 ∷ 1 ∷ 48 ∷ 2 ∷ 0 ∷ 0 ∷ 0 ∷ 3 ∷ 0 ∷ 0 ∷ 0 ∷ [])
+    ++ (1 ∷ 0 ∷ 0 ∷ 0 ∷ 4 ∷ []) ++ codes "land"
     ++ (1 ∷ 1 ∷ 255 ∷ 0 ∷ 0 ∷ 0 ∷ 0 ∷ 0 ∷ 0 ∷ 0 ∷ 0 ∷ 0 ∷ 0 ∷ 0 ∷ 1 ∷ 1 ∷ [])
     ++ (2 ∷ 2 ∷ 2 ∷ 255 ∷ 22 ∷ 0 ∷ 0 ∷ 0 ∷ []) ++ codes "r.stats -c input=land\n"
     ++ (0 ∷ 0 ∷ 0 ∷ 0 ∷ [])

@@ -1,8 +1,8 @@
 -- A region's coordinates, as the code stores them before the region is checked.
 use Rattle.std.specs.Prelude.{ℕ}
 use Rattle.cell_core_values.specs.Region.{RegionValue}
-use Rattle.rcell_pipe_request.specs.declared.head.Edges.{Edges}
-use Rattle.rcell_pipe_request.specs.Heads.{RegionEdgesValue}
+use Rattle.rcell_pipe_request.specs.declared.request_region.Edges.{Edges}
+use Rattle.rcell_pipe_request.specs.RequestRegions.{RegionEdgesValue}
 
 -- edges, rows and columns as a region
 abbrev pub region_of_edge_values : Edges → ℕ → ℕ → RegionValue

@@ -1,10 +1,10 @@
-use Rattle.std.proofs.Common.{◌≡◌, ℕ, ◌∙◌, true, Result, Ok, Err, Some, refl, sym}
+use Rattle.std.proofs.Common.{◌≡◌, ◌∙◌, true, Result, Ok, Err, Some, refl}
 use Rattle.cell_core_devices.specs.Device.{ComingBytes}
 use Rattle.cell_core_devices.specs.declared.source.Asked.TheVariants.{Going}
 use Rattle.cell_core.specs.Shelf.{ShelfValue}
 use Rattle.rcell_tile.specs.TileRuns.{RunShelvesValue}
-use Rattle.rcell_pipe_request.specs.declared.place.StatedPlace.{StatedPlace}
-use Rattle.rcell_pipe_request.specs.RequestPlaces.{place_reading, shelves_of_tile_if_it_fits}
+use Rattle.rcell_pipe_request.specs.declared.place.PlaceAndRegion.{PlaceAndRegion}
+use Rattle.rcell_pipe_request.specs.RequestPlaces.{place_and_region_reading}
 use Rattle.rcell_pipe_request.specs.Requests.{maps_reading, run_over_shelves_reading, tile_run_request_reading}
 use Rattle.rcell_pipe_request.specs.Requests.{run_request_as_value}
 use Rattle.rcell_pipe_request.specs.declared.error.RequestError.{RequestError}
@@ -38,25 +38,25 @@ read_after view old mid new (Err (request_stops.Error error)) rest all before st
   λ going. reads.1 (stays going),
 )
 
--- after the place and the maps, the script and the questions are read
-after_maps : (c placed read : ComingBytes) (place : StatedPlace) (count : ℕ) (shelf : ShelfValue)
-    (shelves : RunShelvesValue) → place_reading c ≡ Ok (place, placed)
-    → maps_reading placed ≡ Ok ((count, shelf), read) → shelves_of_tile_if_it_fits place shelf ≡ Some shelves
-    → tile_run_request_reading c ≡ run_over_shelves_reading count shelves read
+-- after the place, the region and the maps, the script and the questions are read
+after_maps : (c at read : ComingBytes) (placed : PlaceAndRegion) (shelf : ShelfValue) (shelves : RunShelvesValue)
+    → place_and_region_reading c ≡ Ok (placed, at) → maps_reading placed.region at ≡ Ok (shelf, read)
+    → shelves ≡ record { outer = shelf; place = Some placed.place }
+    → tile_run_request_reading c ≡ run_over_shelves_reading shelves read
 unfolding tile_run_request_reading
-after_maps c placed read place count shelf shelves one other fits = rw (one, other, fits) refl
+after_maps c at read placed shelf shelves one other same = rw (one, other, same) refl
 
-pub returns-in-Ok-Some : goal.returns-in-Ok-Some
-returns-in-Ok-Some g c =
+pub returns-in-Ok-of_tile : goal.returns-in-Ok-of_tile
+returns-in-Ok-of_tile g c =
     read_after run_request_as_value c.args.feed.now c.read_maps.new.feed
     c.read_run_over_shelves.new.feed c.read_run_over_shelves.result
-    (run_over_shelves_reading c.in-Ok-read_maps.maps.count c.in-Ok-Some.shelves) tile_run_request_reading
+    (run_over_shelves_reading c.in-Ok-of_tile.shelves) tile_run_request_reading
     (λ w is.
-    let maps = c.in-Ok-read_maps.ensures.0 w is in
-    let place = c.in-Ok.ensures.0 w maps.0 in (
-      place.0,
-      after_maps _ _ _ c.in-Ok.place c.in-Ok-read_maps.maps.count c.in-Ok-read_maps.maps.shelf c.in-Ok-Some.shelves
-          place.1 maps.1 (sym c.in-Ok-Some.ensures ∙ c.in-Ok-Some.field-0-is),
+    let maps = c.in-Ok-read_maps.ensures.reads.0 w is in
+    let placed = c.in-Ok.ensures.reads.0 w maps.0 in (
+      placed.0,
+      after_maps _ _ _ c.in-Ok.placed c.in-Ok-read_maps.shelf c.in-Ok-of_tile.shelves placed.1 maps.1
+          c.in-Ok-of_tile.ensures,
     ))
-    (λ going. c.in-Ok-read_maps.ensures.1 (c.in-Ok.ensures.1 going))
+    (λ going. c.in-Ok-read_maps.ensures.reads.1 (c.in-Ok.ensures.reads.1 going))
     c.read_run_over_shelves.ensures

@@ -11,14 +11,14 @@ use Rattle.rcell_worked.proofs.TableLemmas.{counts_are}
 use Rattle.rcell_worked.proofs.WorkedMaps.{small_shelf, counts}
 use Rattle.rcell_pipe_request.specs.RequestFields.{bytes_reading, unsigned_number_reading, signed_number_reading}
 use Rattle.rcell_pipe_request.specs.RequestFields.{sized_text_reading, end_of_request_reading, reading_repeated_n_times}
-use Rattle.rcell_pipe_request.specs.Heads.{coordinate_reading, edges_reading, region_reading, map_name_reading}
-use Rattle.rcell_pipe_request.specs.Heads.{new_map_name_reading, same_region_reading}
+use Rattle.rcell_pipe_request.specs.RequestRegions.{coordinate_reading, edges_reading, region_reading}
+use Rattle.rcell_pipe_request.specs.Heads.{map_name_reading, new_map_name_reading}
 use Rattle.rcell_pipe_request.specs.Heads.{format_flags_reading, cell_type_reading, raw_format_reading, label_reading}
 use Rattle.rcell_pipe_request.specs.Heads.{next_label_reading, labels_reading, map_head_reading}
 use Rattle.rcell_pipe_request.specs.Requests.{next_row_reading, label_map_with_added_labels, map_reading}
 use Rattle.rcell_pipe_request.specs.Requests.{next_map_reading}
 use Rattle.rcell_pipe_request.specs.Requests.{map_count_reading, script_bytes_reading}
-use Rattle.rcell_pipe_request.specs.Requests.{first_map_reading, maps_reading, run_over_shelves_reading}
+use Rattle.rcell_pipe_request.specs.Requests.{maps_reading, run_over_shelves_reading}
 use Rattle.rcell_pipe_request.specs.Requests.{run_request_reading}
 use Rattle.rcell_pipe_request.specs.Questions.{questions_reading, questions_to_request_end_reading}
 use Rattle.rcell_pipe_response.specs.QuestionFrames.{first_question_error}
@@ -37,11 +37,11 @@ small_cells = combinations_at_all_cells small_shelf (0 ∷ [])
 pub returns : goal.returns
 unfolding line_len lines_from bytes_reading unsigned_number_reading signed_number_reading sized_text_reading
     reading_repeated_n_times coordinate_reading edges_reading region_reading map_name_reading new_map_name_reading
-    same_region_reading format_flags_reading cell_type_reading raw_format_reading label_reading next_label_reading
+    format_flags_reading cell_type_reading raw_format_reading label_reading next_label_reading
     labels_reading map_head_reading next_row_reading label_map_with_added_labels map_reading next_map_reading
     map_count_reading
-    script_bytes_reading end_of_request_reading questions_reading questions_to_request_end_reading first_map_reading
-    maps_reading run_over_shelves_reading run_request_reading row_cells_reading request_form_reading
+    script_bytes_reading end_of_request_reading questions_reading questions_to_request_end_reading maps_reading
+    run_over_shelves_reading run_request_reading row_cells_reading request_form_reading
     first_question_error
 returns c = record {
   written = refl;

@@ -3,8 +3,8 @@ use Rattle.std.specs.Int.{w32}
 use Rattle.cell_core_devices.specs.Device.{ComingBytes}
 use Rattle.cell_core_values.specs.Region.{RegionValue, region_or_first_fault}
 use Rattle.rcell_pipe_request.specs.RequestFields.{unsigned_number_reading}
-use Rattle.rcell_pipe_request.specs.Heads.{RegionEdgesValue, edges_reading, region_reading}
-use Rattle.rcell_pipe_request.proofs.head.read_region.Goals as goal
+use Rattle.rcell_pipe_request.specs.RequestRegions.{RegionEdgesValue, edges_reading, region_reading}
+use Rattle.rcell_pipe_request.proofs.request_region.read_region.Goals as goal
 
 -- the edges, rows and columns that are read make up the region
 region_of_parts : (c c1 c2 c3 : ComingBytes) (edges : RegionEdgesValue) (rows cols : ℕ) (region : RegionValue) → edges_reading c ≡ Ok (edges, c1) → unsigned_number_reading w32 c1 ≡ Ok (rows, c2) → unsigned_number_reading w32 c2 ≡ Ok (cols, c3)
