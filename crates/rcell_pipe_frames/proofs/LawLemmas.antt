@@ -78,7 +78,7 @@ text-of shelf s frames rest same =
     ∙ ap (λ (l : List ℕ). l ++ flat_map frame_text rest) (command-same shelf s.line s.command)
 
 -- a statement over full maps leaves full maps
-full-maps-after : (shelf : ShelfValue) (command : Command) (next : RunShelvesValue)
+pub full-maps-after : (shelf : ShelfValue) (command : Command) (next : RunShelvesValue)
     → AreShelvesAfterCommand (shelves_of_full_maps shelf) command next → next ≡ shelves_of_full_maps next.outer
 full-maps-after shelf command next are =
     ap (λ (place : Option TilePlaceValue). record { outer = next.outer; place = place }) are.place

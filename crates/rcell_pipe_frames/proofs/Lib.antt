@@ -1,4 +1,5 @@
 pub mod LawLemmas
+pub mod TileFrameLemmas
 pub mod CellsLemmas
 pub mod CountLemmas
 pub mod ListingLemmas

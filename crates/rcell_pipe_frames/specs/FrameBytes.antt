@@ -132,13 +132,23 @@ abbrev pub border_fields_bytes : TileBorderValue → List ℕ
 border_fields_bytes border = tile_side_bytes border.first ++ (tile_side_bytes border.last
     ++ (tile_side_bytes border.left ++ (tile_side_bytes border.right ++ flat_map (to_le_bytes w32) border.begun)))
 
--- a tile as in a join request: the numbers of rows and columns, and the border
-abbrev pub tile_bytes : (rows cols : ℕ) → TileBorderValue → List ℕ
-tile_bytes rows cols border = to_le_bytes w32 rows ++ (to_le_bytes w32 cols ++ border_fields_bytes border)
+-- a tile's first row and column in the full map
+abbrev pub tile_position_bytes : (first_row first_col : ℕ) → List ℕ
+tile_position_bytes first_row first_col = eight_bytes_of_number first_row ++ eight_bytes_of_number first_col
+
+-- a tile's numbers of rows and columns, and its border
+abbrev pub tile_size_and_border_bytes : (rows cols : ℕ) → TileBorderValue → List ℕ
+tile_size_and_border_bytes rows cols border =
+    to_le_bytes w32 rows ++ (to_le_bytes w32 cols ++ border_fields_bytes border)
+
+-- a tile as in a join request: the connectivity, the position in the full map, the size, and the border
+abbrev pub tile_bytes : BorderFrame → List ℕ
+tile_bytes b = (joining_code b.joining ∷ []) ++ (tile_position_bytes b.first_row b.first_col
+    ++ tile_size_and_border_bytes b.rows b.cols b.border)
 
 -- the border of a map: the question's index, and the map as a tile in a join request
 abbrev pub border_frame_bytes : BorderFrame → List ℕ
-border_frame_bytes b = codes "BORD" ++ (eight_bytes_of_number b.question ++ tile_bytes b.rows b.cols b.border)
+border_frame_bytes b = codes "BORD" ++ (eight_bytes_of_number b.question ++ tile_bytes b)
 
 abbrev pub frame_bytes : OutputFrame → List ℕ
 frame_bytes (Table t) = table_frame_bytes (codes "TABL") t

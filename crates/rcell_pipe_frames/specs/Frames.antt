@@ -58,10 +58,13 @@ pub record PatchNumbersFrame : Type 0 where
   pub cols : ℕ
   pub cells : List (List CellValue)
 
--- the border of a map: the question's index, from 0, the numbers of rows and columns, and the border with the patches'
--- numbers
+-- the border of a map: the question's index, from 0, which cells are adjacent, the map's first row and column in the
+-- full map, from 0, its numbers of rows and columns, and the border with the patches' numbers
 pub record BorderFrame : Type 0 where
   pub question : ℕ
+  pub joining : Joining
+  pub first_row : ℕ
+  pub first_col : ℕ
   pub rows : ℕ
   pub cols : ℕ
   pub border : TileBorderValue

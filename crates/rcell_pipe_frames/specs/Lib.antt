@@ -2,4 +2,5 @@
 pub mod Frames
 pub mod FrameBytes
 pub mod FrameLaw
+pub mod TileFrameLaw
 pub mod parts

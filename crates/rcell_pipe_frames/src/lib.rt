@@ -5,7 +5,8 @@
 //! - `table_frame`, `cells_frame`, `map_frame`, `patches_frame`, `numbers_frame` and `border_frame` write one kind of
 //!   frame each
 //! - `bytes`: writes numbers, texts and cells as bytes
-//! - `law`: `frame_texts_are_program_output`: the text of frames is what `rcell` prints for the same maps
+//! - `law`: `frame_texts_are_program_output`: the text of frames is what `rcell` prints for the same maps;
+//!   `tile_frames_join_into_full_frames`: the frames of tiles, joined, are the frames of the full maps
 //! - private: `cells` writes the cells of a map, `wide_cells` a row in four bytes per cell, `coordinates` the map's
 //!   edges; `null_sink` counts bytes
 #![tactic(auto)]

@@ -13,8 +13,8 @@ use cell_core::block::OutputBlock;
 use cell_core::sink::Sink;
 use cell_patches::patch::Patch;
 
-// Returns the code of a connectivity: 4 or 8.
-fn joining_code(joining: Joining) -> u8
+/// Returns the code of a connectivity: 4 or 8.
+pub fn joining_code(joining: Joining) -> u8
     ensures { result ≡ joining_code joining }
 {
     match joining {
@@ -23,7 +23,8 @@ fn joining_code(joining: Joining) -> u8
     }
 }
 
-fn push_joining_code<W: Sink>(out: &mut W, block: &mut OutputBlock, joining: Joining)
+/// Writes the code of a connectivity as one byte.
+pub(crate) fn push_joining_code<W: Sink>(out: &mut W, block: &mut OutputBlock, joining: Joining)
     ensures { IsTextAppendedThroughBlock W.taken W.faults out.old block.old (joining_code joining
         ∷ [])
         out.new block.new }
