@@ -39,7 +39,7 @@ next_at questions i q h read =
     rw add-one (drop-cons questions i q h ∙ ap (λ x. x ∷ drop (suc i) questions) (sym read))
 
 -- if no first error is reported, neither this question nor a later one has an error
-none_of_both : (number : ℕ) (fault : Option QuestionErrorKind) (others : Option QuestionError)
+pub none_of_both : (number : ℕ) (fault : Option QuestionErrorKind) (others : Option QuestionError)
     → error_of_question_or_later_one number fault others ≡ None → (fault ≡ None) × (others ≡ None)
 none_of_both number None others h = (refl, h)
 none_of_both number (Some kind) others h = absurd (cc h)

@@ -23,7 +23,7 @@ module _ (p : TilePlaceValue) (place : Option TilePlaceValue) (at : place ≡ So
   in-tile = subst (λ (o : Option TilePlaceValue). IsShelfMapWithName (shelf_without_halo o outer) name inner) at without
 
   -- the map without its halo is a part of the map with this name
-  is-part : inner ≡ tile_map p wide
+  pub is-part : inner ≡ tile_map p wide
   is-part =
       let k = in-tile.place in
       let here : place_of_name name outer.names ≡ Some k = in-tile.named in

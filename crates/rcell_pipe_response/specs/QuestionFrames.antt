@@ -41,17 +41,17 @@ abbrev pub margins_in_tile_at_end : RunShelvesValue → List Statement → Optio
 margins_in_tile_at_end shelves statements =
     option_map (λ place. margins_of_maps place (length shelves.outer.names) statements) shelves.place
 
--- a question's map of zones is none of the maps with these names
+-- a question's zone map is not among the maps with these names
 abbrev pub question_has_unknown_zone_map : List (List ℕ) → Option (List ℕ) → Bool
 question_has_unknown_zone_map names None = false
 question_has_unknown_zone_map names (Some zones) = is_none (place_of_name zones names)
 
--- one of a question's maps is none of the maps with these names
+-- a question's map or zone map is not among the maps with these names
 abbrev pub question_has_unknown_map : List (List ℕ) → PatchQuestionValue → Bool
 question_has_unknown_map names question =
     is_none (place_of_name question.map names) || question_has_unknown_zone_map names question.zones
 
--- a map of a tile, if there is one, does not have the cells of the full map within `depth` rows and columns of the tile
+-- the halo of a tile's map, if there is such a map, is smaller than `depth` on some side
 abbrev pub map_lacks_halo : List HaloMargin → Option ℕ → ℕ → Bool
 map_lacks_halo margins None depth = false
 map_lacks_halo margins (Some place) depth = depth_exceeds_margin margins place depth
@@ -117,11 +117,29 @@ IsBorderOfMapIfWanted true joining map numbers (Some border) =
     TileHasBorder joining map.region.rows map.region.cols map numbers border
     × TileBorderHasSize map.region.rows map.region.cols border
 
+-- the first row in the full map of maps without halo: the tile's, or 0 for full maps
+abbrev pub first_row_in_full_map : Option TilePlaceValue → ℕ
+first_row_in_full_map None = 0
+first_row_in_full_map (Some p) = p.tile.top
+
+-- the first column in the full map
+abbrev pub first_col_in_full_map : Option TilePlaceValue → ℕ
+first_col_in_full_map None = 0
+first_col_in_full_map (Some p) = p.tile.left
+
 -- the frame of the border, if it is wanted
-abbrev pub border_frame_if_wanted : ℕ → RegionValue → Option TileBorderValue → List OutputFrame
-border_frame_if_wanted place region None = []
-border_frame_if_wanted place region (Some border) = Border
-    (record { question = place; rows = region.rows; cols = region.cols; border = border }) ∷ []
+abbrev pub border_frame_if_wanted : ℕ → Joining → (first_row first_col : ℕ) → RegionValue → Option TileBorderValue
+    → List OutputFrame
+border_frame_if_wanted place joining first_row first_col region None = []
+border_frame_if_wanted place joining first_row first_col region (Some border) = Border (record {
+  question = place;
+  joining = joining;
+  first_row = first_row;
+  first_col = first_col;
+  rows = region.rows;
+  cols = region.cols;
+  border = border;
+}) ∷ []
 
 -- the measures of a map's patches, and the patches' zones if a map of zones is named
 pub record PatchMeasuresValue : Type 0 where
@@ -137,22 +155,22 @@ position_of_tile p = record {
   first_col = p.tile.left;
 }
 
--- the measures of the patches of a full map; or the measures in the full map of a tile's patches, given the map with
--- this name that has the halo
-abbrev pub AreMeasuresInFullMap : Option TilePlaceValue → (outer : ShelfValue) → (name : List ℕ) → (map numbers : Grid)
+-- the measures of the patches of a full map; or of a tile's patches, given the tile's map of this name with its halo.
+-- TileQuestionLaw.antt states that the latter are the measures in the full map
+abbrev pub AreMeasuresWithHalo : Option TilePlaceValue → (outer : ShelfValue) → (name : List ℕ) → (map numbers : Grid)
     → (depth : ℕ) → List Patch → Type 0
-AreMeasuresInFullMap None outer name map numbers depth patches = AreMeasuresOfAllPatches map numbers depth patches
-AreMeasuresInFullMap (Some place) outer name map numbers depth patches =
+AreMeasuresWithHalo None outer name map numbers depth patches = AreMeasuresOfAllPatches map numbers depth patches
+AreMeasuresWithHalo (Some place) outer name map numbers depth patches =
     (wide : Grid) × (IsShelfMapWithName outer name wide
     × AreMeasuresOfAllPatchesInTile wide (position_of_tile place) numbers depth patches)
 
--- the measures in the full map and the zones of a map's patches, if they are wanted
+-- the measures and the zones of a map's patches, if they are wanted
 abbrev pub ArePatchMeasuresIfWanted : Bool → RunShelvesValue → PatchQuestionValue → Grid → Grid
     → Option PatchMeasuresValue → Type 0
 ArePatchMeasuresIfWanted false shelves question map numbers measures = measures ≡ None
 ArePatchMeasuresIfWanted true shelves question map numbers None = ⊥
 ArePatchMeasuresIfWanted true shelves question map numbers (Some measures) =
-    AreMeasuresInFullMap shelves.place shelves.outer question.map map numbers question.depth measures.patches
+    AreMeasuresWithHalo shelves.place shelves.outer question.map map numbers question.depth measures.patches
     × AreMainZonesOfPatchesIfNamed (inner_shelf shelves) numbers (length measures.patches) question.zones measures.zones
 
 -- the frame of the measures, if they are wanted
@@ -167,7 +185,7 @@ patches_frame_if_wanted place question (Some measures) = Patches (record {
 }) ∷ []
 
 -- the frames for the question at index `place`, if they are wanted: the numbers of the patches of the named map, which
--- has no halo, the map's border, and the measures of the patches in the full map, with their zones
+-- has no halo, the map's border, and the measures of the patches, with their zones
 pub record AreFramesForQuestion (shelves : RunShelvesValue) (place : ℕ) (question : PatchQuestionValue)
     (frames : List OutputFrame) : Type 0 where
   pub map : Grid
@@ -179,7 +197,8 @@ pub record AreFramesForQuestion (shelves : RunShelvesValue) (place : ℕ) (quest
   pub measures : Option PatchMeasuresValue
   pub measured : ArePatchMeasuresIfWanted question.wanted.patches shelves question map numbers measures
   pub is : frames ≡ patch_numbers_frame_if_wanted question.wanted.numbers place numbers
-      ++ (border_frame_if_wanted place map.region border ++ patches_frame_if_wanted place question measures)
+      ++ (border_frame_if_wanted place question.joining (first_row_in_full_map shelves.place)
+      (first_col_in_full_map shelves.place) map.region border ++ patches_frame_if_wanted place question measures)
 
 -- the frames for each question, in order; the first has the index `place`
 abbrev pub AreFramesForAllQuestions : RunShelvesValue → ℕ → List PatchQuestionValue → List OutputFrame → Type 0

@@ -10,11 +10,11 @@ ghost use Rattle.cell_join_tiles.specs.Values.{value_of_tile_border};
 ghost use Rattle.rcell_tile.specs.TileRuns.{inner_shelf};
 ghost use Rattle.rcell_pipe_frames.specs.FrameBytes.{frames_bytes};
 ghost use Rattle.rcell_pipe_request.specs.Questions.{question_as_value, questions_as_values};
-ghost use Rattle.rcell_pipe_response.specs.QuestionFrames.{AreMainZonesOfPatchesIfNamed, AreMeasuresInFullMap, ArePatchMeasuresIfWanted, IsBorderOfMapIfWanted, IsShelfMapWithName, question_has_unknown_map, question_has_unknown_zone_map, border_frame_if_wanted, patch_numbers_frame_if_wanted, patches_frame_if_wanted, position_of_tile};
+ghost use Rattle.rcell_pipe_response.specs.QuestionFrames.{AreMainZonesOfPatchesIfNamed, AreMeasuresWithHalo, ArePatchMeasuresIfWanted, IsBorderOfMapIfWanted, IsShelfMapWithName, question_has_unknown_map, question_has_unknown_zone_map, border_frame_if_wanted, first_col_in_full_map, first_row_in_full_map, patch_numbers_frame_if_wanted, patches_frame_if_wanted, position_of_tile};
 ghost use Rattle.rcell_pipe_response.specs.parts.Answering.{AreQuestionFramesAppended, AreAllQuestionFramesAppended, StopsAfterFirstQuestionFrames, patch_measures_as_value};
 
 use crate::frame_execution::maps_without_halo;
-use cell_clumps::clump::clump_with;
+use cell_clumps::clump::{Joining, clump_with};
 use cell_core::block::OutputBlock;
 use cell_core::map::CellMap;
 use cell_core::memory::Memory;
@@ -28,7 +28,7 @@ use cell_patches::measuring::{patch_measures, patch_measures_in_tile};
 use cell_patches::patch::Patch;
 use cell_patches::tile_position::TilePosition;
 use cell_patches::zones::zones_of_patches;
-use rcell_pipe_frames::border_frame::push_border_frame;
+use rcell_pipe_frames::border_frame::{FullMapPosition, push_border_frame};
 use rcell_pipe_frames::numbers_frame::push_patch_numbers_frame;
 use rcell_pipe_frames::patches_frame::push_patches_frame;
 use rcell_pipe_request::question::Question;
@@ -155,7 +155,7 @@ fn patch_measures_in_full_map(
         ≡ false }
     requires map { IsShelfMapWithName (inner_shelf shelves.now) question.now.map.items map.now }
     requires clumping { IsClumpMapOf question.now.joining map.now numbers.now }
-    ensures { IfOk result (λ patches. AreMeasuresInFullMap shelves.now.place shelves.now.outer
+    ensures { IfOk result (λ patches. AreMeasuresWithHalo shelves.now.place shelves.now.outer
         question.now.map.items map.now numbers.now question.now.depth patches.items) }
 {
     let joining = question.joining;
@@ -199,9 +199,28 @@ fn patch_measures_if_wanted(
     Ok(Some(PatchMeasures { patches, zones }))
 }
 
+// Returns the position in the full map of maps without halo.
+fn position_in_full_map(shelves: &RunShelves) -> FullMapPosition
+    ensures row { result.first_row ≡ first_row_in_full_map shelves.now.place }
+    ensures col { result.first_col ≡ first_col_in_full_map shelves.now.place }
+{
+    match shelves.place() {
+        None => FullMapPosition {
+            first_row: 0,
+            first_col: 0,
+        },
+        Some(place) => FullMapPosition {
+            first_row: place.tile_top() as u64,
+            first_col: place.tile_left() as u64,
+        },
+    }
+}
+
 // Writes the frame of the border of a map with this region, if it is wanted.
 fn push_border_if_wanted<W: Sink>(
     place: u64,
+    joining: Joining,
+    position: FullMapPosition,
     region: Region,
     border: &Option<TileBorder>,
     block: &mut OutputBlock,
@@ -209,11 +228,11 @@ fn push_border_if_wanted<W: Sink>(
 )
     requires { IfSome border.now (λ border. All (λ count. count < 2 ^ 32) border.begun.items) }
     ensures { IsTextAppendedThroughBlock W.taken W.faults out.old block.old
-        (frames_bytes (border_frame_if_wanted place region
+        (frames_bytes (border_frame_if_wanted place joining position.first_row position.first_col region
         (option_map value_of_tile_border border.now))) out.new block.new }
 {
     if let Some(border) = border {
-        push_border_frame(out, block, place, region, border);
+        push_border_frame(out, block, place, joining, position, region, border);
     }
 }
 
@@ -266,7 +285,16 @@ fn answer<W: Sink>(
     let measures = patch_measures_if_wanted(alloc, shelves, question, map, &numbers)?;
     // The numbers come first: only their frame needs memory, so a question that runs out of it has written nothing.
     push_patch_numbers_if_wanted(alloc, wanted.numbers, place, &numbers, block, out)?;
-    push_border_if_wanted(place, map.region(), &border, block, out);
+    let position = position_in_full_map(shelves);
+    push_border_if_wanted(
+        place,
+        question.joining,
+        position,
+        map.region(),
+        &border,
+        block,
+        out,
+    );
     push_patches_if_wanted(place, question, &measures, block, out);
     Ok(())
 }

@@ -28,7 +28,7 @@ pub struct QuestionError {
     pub number: u32,
 }
 
-// Returns whether a question's map of zones is none of the maps with these names.
+// Returns whether a question's zone map is not among the maps with these names.
 fn question_has_unknown_zone_map(names: &Names, zones: &Option<Name>) -> bool
     ensures { result ≡ question_has_unknown_zone_map names.now zones.now }
 {
@@ -38,7 +38,7 @@ fn question_has_unknown_zone_map(names: &Names, zones: &Option<Name>) -> bool
     }
 }
 
-// Returns whether a map of the tile has no halo of `depth` rows and columns. A map that is unknown is another error.
+// Returns whether the halo of a tile's map is smaller than `depth` on some side. An unknown map is a different error.
 fn map_lacks_halo(margins: &[HaloMargin], map: Option<usize>, depth: u32) -> bool
     ensures { result ≡ map_lacks_halo margins.now map depth }
 {

@@ -7,6 +7,9 @@ pub returns-in-Some : goal.returns-in-Some
 returns-in-Some g c =
     let frame = Border (record {
       question = c.args.place;
+      joining = c.args.joining;
+      first_row = c.args.position.first_row;
+      first_col = c.args.position.first_col;
       rows = c.args.region.rows;
       cols = c.args.region.cols;
       border = value_of_tile_border c.in-Some.border;
