@@ -5,23 +5,28 @@ use Rattle.std.proofs.Common.{append-nil, flat_map}
 use Rattle.std.specs.Prelude.{All, int_le}
 use Rattle.std.specs.Int.{w32, to_le_bytes}
 use Rattle.std.specs.Int.RustNames.{FitsSigned}
-use Rattle.std.proofs.lemmas.Bool.{eqb-true}
+use Rattle.std.proofs.lemmas.Bool.{eqb-true, eq-eqb}
 use Rattle.std.proofs.lemmas.Bool.Decides.{nat_tests}
 use Rattle.std.proofs.lemmas.Int.{ints}
 use Rattle.cell_core_devices.specs.Device.{ComingBytes}
 use Rattle.cell_core_values.specs.Cell.{IsNullOrCategory, cell_of_stored_number, stored_number_of_cell, is_category}
 use Rattle.cell_core.specs.Grid.{CellValue, CellsAreNullOrCategories}
+use Rattle.cell_clumps.specs.declared.clump.Joining.{Joining}
+use Rattle.cell_clumps.specs.declared.clump.Joining.TheVariants.{Edges, EdgesAndCorners}
 use Rattle.cell_join_tiles.specs.Values.{TileBorderValue, TileSideValue, TileSideHasLength}
 use Rattle.rcell_pipe_request.specs.Feeds.{after}
 use Rattle.rcell_pipe_request.specs.RequestFields.{reading_repeated_n_times}
-use Rattle.rcell_pipe_frames.specs.FrameBytes.{four_bytes_of_cell, tile_side_bytes, border_fields_bytes}
+use Rattle.rcell_pipe_frames.specs.FrameBytes.{four_bytes_of_cell, eight_bytes_of_number, joining_code}
+use Rattle.rcell_pipe_frames.specs.FrameBytes.{tile_side_bytes, border_fields_bytes, tile_position_bytes}
+use Rattle.rcell_pipe_frames.specs.FrameBytes.{tile_size_and_border_bytes}
 use Rattle.rcell_pipe_law.proofs.SentFieldLemmas.{after-append}
 use Rattle.rcell_pipe_law.proofs.SentMapLemmas.{head_of, tail_of}
-use Rattle.rcell_pipe_law.proofs.SentNumberLemmas.{reads_32, signed_32}
+use Rattle.rcell_pipe_law.proofs.SentNumberLemmas.{reads_8, reads_32, reads_64, signed_32}
 use Rattle.rcell_pipe_join.specs.BorderGrids.{cells_with_next_cell_reading, four_byte_cells_reading}
 use Rattle.rcell_pipe_join.specs.BorderGrids.{row_patch_counts_with_next_reading, row_patch_counts_reading}
 use Rattle.rcell_pipe_join.specs.BorderGrids.{tile_side_reading, border_fields_reading, tile_size_reading}
-use Rattle.rcell_pipe_join.specs.BorderGrids.{is_valid_tile_side_length}
+use Rattle.rcell_pipe_join.specs.BorderGrids.{is_valid_tile_side_length, tile_connectivity_reading}
+use Rattle.rcell_pipe_join.specs.BorderGrids.{tile_position_reading}
 use Rattle.rcell_pipe_join.specs.BorderFrameLaw.{BorderFramesAreTilesOfJoinRequests}
 
 both : (a b : Bool) → (a && b) ≡ true → (a ≡ true) × (b ≡ true)
@@ -110,9 +115,33 @@ two-lines a b more good =
       tail_of (All IsNullOrCategory) b more others,
     )
 
+-- the connectivity is read back
+connectivity-read : (joining : Joining) (rest : ComingBytes)
+    → tile_connectivity_reading joining (after (joining_code joining ∷ []) rest) ≡ Ok (tt, rest)
+unfolding tile_connectivity_reading
+connectivity-read Edges rest = rw (reads_8 4 rest (omega arith)) refl
+connectivity-read EdgesAndCorners rest = rw (reads_8 8 rest (omega arith)) refl
+
+-- the position is read back
+position-read : (row col : ℕ) (rest : ComingBytes) → row < 2 ^ 64 → col < 2 ^ 64
+    → tile_position_reading row col (after (tile_position_bytes row col) rest) ≡ Ok (tt, rest)
+unfolding tile_position_reading
+position-read row col rest row_fits col_fits = rw (
+  after-append (eight_bytes_of_number row) (eight_bytes_of_number col) rest,
+  reads_64 row (after (eight_bytes_of_number col) rest) row_fits,
+  reads_64 col rest col_fits,
+  eq-eqb row row refl,
+  eq-eqb col col refl,
+) refl
+
 pub tiles-read : BorderFramesAreTilesOfJoinRequests
 unfolding tile_size_reading border_fields_reading
-tiles-read rows cols border rest high wide sizes good =
+tiles-read b rest row_fits col_fits high wide sizes good =
+    let rows = b.rows in
+    let cols = b.cols in
+    let border = b.border in
+    let sized = tile_size_and_border_bytes rows cols border in
+    let position = tile_position_bytes b.first_row b.first_col in
     let of_right = border.right.cells ∷ border.right.numbers ∷ [] in
     let of_left = border.left.cells ∷ border.left.numbers ∷ of_right in
     let of_last = border.last.cells ∷ border.last.numbers ∷ of_left in
@@ -125,6 +154,10 @@ tiles-read rows cols border rest high wide sizes good =
     let left = tile_side_bytes border.left ++ right in
     let last = tile_side_bytes border.last ++ left in
     record {
+      connectivity = ap (tile_connectivity_reading b.joining) (after-append (joining_code b.joining ∷ [])
+          (position ++ sized) rest) ∙ connectivity-read b.joining (after (position ++ sized) rest);
+      position = ap (tile_position_reading b.first_row b.first_col) (after-append position sized rest)
+          ∙ position-read b.first_row b.first_col (after sized rest) row_fits col_fits;
       size = rw (
         after-append (to_le_bytes w32 rows) (to_le_bytes w32 cols ++ border_fields_bytes border) rest,
         reads_32 rows (after (to_le_bytes w32 cols ++ border_fields_bytes border) rest) (side-length-fits rows high),

@@ -12,3 +12,4 @@ pub mod TableLemmas
 pub mod EndLemmas
 pub mod PatchLemmas
 pub mod RunSumLemmas
+pub mod FrameSumLemmas

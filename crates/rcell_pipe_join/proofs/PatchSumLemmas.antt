@@ -1,15 +1,16 @@
 -- Tables whose first column is renumbered.
-use Rattle.std.proofs.Common.{◌≡◌, ◌∙◌, ℕ, zero, suc, pos, negsuc, ◌+◌, List, [], ◌∷◌, ◌++◌, All, map, flat_map}
-use Rattle.std.proofs.Common.{Bool, true, false, cond, Some, None, refl, ap, sym, subst, count_by, sum, get_or}
+use Rattle.std.proofs.Common.{◌≡◌, ◌∙◌, ℕ, zero, suc, pos, negsuc, ◌+◌, ◌<◌, List, [], ◌∷◌, ◌++◌, All, map, flat_map}
+use Rattle.std.proofs.Common.{Bool, true, false, cond, Option, Some, None, IsSome, refl, ap, sym, subst, count_by, sum}
+use Rattle.std.proofs.Common.{length, get_or}
 use Rattle.std.specs.List.{AllZip, range_with_len}
+use Rattle.std.specs.Option.{option_map, unwrap_or}
 use Rattle.std.specs.Ordering.{eq_by_cmp}
 use Rattle.std.proofs.lemmas.List.Elements.{All-cons, All-head, All-nil, All-tail}
 use Rattle.std.proofs.lemmas.List.Sums.{sum_by-cons}
 use Rattle.cell_core.specs.Grid.{Grid, CellValue}
 use Rattle.cell_clumps.specs.declared.clump.Joining.{Joining}
-use Rattle.cell_clumps.specs.Clumps.{Position, cell_at_position, HasClumpNumber, IsClumpMapOf}
+use Rattle.cell_clumps.specs.Clumps.{Position, cell_at_position}
 use Rattle.cell_clumps.specs.parts.CellPlaces.{position_at_row_and_column}
-use Rattle.cell_clumps.proofs.LawLemmas.{HasClumpNumber-one}
 use Rattle.cell_stats_combinations.specs.declared.skip.Skip.{Skip}
 use Rattle.cell_stats_combinations.specs.declared.skip.Skip.TheVariants.{Nothing, AnyNull, AllNull}
 use Rattle.cell_stats_combinations.specs.Combinations.{Combination, combination_cmp, cell_of_map_at_place}
@@ -23,11 +24,10 @@ use Rattle.cell_join_numbers.specs.ClumpParts.{position_in_full_map}
 use Rattle.cell_join_numbers.specs.TableParts.{TileOfMaps}
 use Rattle.cell_join_numbers.proofs.ClumpCellLemmas.{is-some}
 use Rattle.cell_join_numbers.specs.declared.stretch.ConsecutiveClumps.{ConsecutiveClumps}
-use Rattle.cell_join_tiles.specs.Beginnings.{MapIsCutIntoTiles}
-use Rattle.cell_join_tiles.specs.JoinedBorders.{TilesHaveBorders}
-use Rattle.cell_join_tiles.specs.JoinedTiles.{AreClumpNumbersOfTileGrid}
-use Rattle.cell_join_tiles.specs.Values.{TileBorderValue}
-use Rattle.rcell_pipe_join.specs.JoinLaw.{RunsNumberFullMapPatches, full_map_numbers_of_run}
+use Rattle.cell_join_tiles.proofs.GreatestLemmas.{some-numbered}
+use Rattle.cell_join_patches.specs.PatchNumbers.{number_in_full_map}
+use Rattle.cell_join_patches.specs.TileGridLaw.{IsNumberedTileGrid, RenumberedTilesAreFullClumpMap}
+use Rattle.cell_join_patches.specs.TileGridLaw.{cell_with_full_map_number, tile_number_in_grid}
 use Rattle.rcell_pipe_join.specs.SumLaw.{AreEntriesOfTileTable, TablesOfTilesAddUp}
 use Rattle.rcell_pipe_join.specs.PatchSumLaw.{TileInTileGrid, AreRenumberedTableEntries, IsTileInTileGrid}
 use Rattle.rcell_pipe_join.specs.PatchSumLaw.{RenumberedPatchTablesAddUp}
@@ -209,12 +209,28 @@ table-renumbered skip picks number place numbers others table has k =
 
 -- ---- tiles
 
-module _ (grid : List (List TileBorderValue)) (runs : List ConsecutiveClumps) (heights widths : List ℕ)
-    (numbers_of : ℕ → ℕ → Grid) where
+-- a cell of a tile's clump map, with the number that the runs give to it
+cell-renumbered : (runs : List ConsecutiveClumps) (tile : ℕ) (x y : CellValue)
+    → y ≡ cell_with_full_map_number runs tile x → (IsSome x → IsSome y)
+    → renumbered_cell (λ k. unwrap_or (number_in_full_map runs tile k) 0) x ≡ y
+cell-renumbered runs tile None y is some = sym is
+cell-renumbered runs tile (Some (negsuc k)) y is some = let no : false ≡ true = subst IsSome is (some refl) in cc
+cell-renumbered runs tile (Some (pos k)) y is some = by (number_in_full_map runs tile k) refl
+  where
+    by : (n : Option ℕ) → number_in_full_map runs tile k ≡ n
+        → Some (pos (unwrap_or (number_in_full_map runs tile k) 0)) ≡ y
+    by None none = let no : false ≡ true = subst IsSome (is ∙ ap (option_map pos) none) (some refl) in cc
+    by (Some n) number =
+        ap (λ (x : Option ℕ). Some (pos (unwrap_or x 0))) number ∙ sym (is ∙ ap (option_map pos) number)
+
+module _ (runs : List ConsecutiveClumps) (heights widths : List ℕ) (numbers_of : ℕ → ℕ → Grid) where
+  abbrev number_of : TileInTileGrid → ℕ → ℕ
+  number_of = full_map_patch_number_by_runs widths runs
+
   abbrev part_of : TileInTileGrid → TileOfMaps
   part_of t = record {
     place = tile_rectangle_in_grid heights widths t;
-    maps = renumbered_map (full_map_patch_number_by_runs grid runs t) (numbers_of t.row t.col) ∷ t.others;
+    maps = renumbered_map (number_of t) (numbers_of t.row t.col) ∷ t.others;
   }
 
   places-same : (tiles : List TileInTileGrid)
@@ -224,71 +240,72 @@ module _ (grid : List (List TileBorderValue)) (runs : List ConsecutiveClumps) (h
 
   tables-renumbered : (skip : Skip) (picks : List ℕ) (tiles : List TileInTileGrid) (tables : List CombinationCounts)
       → AllZip (λ t. AreRenumberedTableEntries skip (combinations_of_tile_with_patch heights widths numbers_of picks t)
-      (full_map_patch_number_by_runs grid runs t)) tiles tables
+      (number_of t)) tiles tables
       → AllZip (AreEntriesOfTileTable skip (columns picks)) (map part_of tiles) tables
   tables-renumbered skip picks [] [] all = tt
   tables-renumbered skip picks [] (table ∷ tables) all = absurd all
   tables-renumbered skip picks (t ∷ tiles) [] all = absurd all
   tables-renumbered skip picks (t ∷ tiles) (table ∷ tables) all = (
-    table-renumbered skip picks (full_map_patch_number_by_runs grid runs t) (tile_rectangle_in_grid heights widths t)
-        (numbers_of t.row t.col)
+    table-renumbered skip picks (number_of t) (tile_rectangle_in_grid heights widths t) (numbers_of t.row t.col)
         t.others table all.0,
     tables-renumbered skip picks tiles tables all.1,
   )
 
-  module _ (j : Joining) (m numbers : Grid) (clumping : IsClumpMapOf j m numbers) (others : List Grid) where
+  module _ (j : Joining) (m numbers : Grid) (map_of : ℕ → ℕ → Grid) (others : List Grid)
+      (grid : IsNumberedTileGrid j m numbers heights widths map_of numbers_of runs)
+      (renumber : RenumberedTilesAreFullClumpMap) where
     abbrev IsPartHere : TileOfMaps → Type 0
     IsPartHere part = MapsAreTileOfFullMaps part.place (numbers ∷ others) part.maps
 
-    -- a renumbered cell has its number in the full map
-    number-here : (number : ℕ → ℕ) (cells tile_numbers : Grid) → IsClumpMapOf j cells tile_numbers → (p q : Position)
-        → cell_at_position m q ≡ cell_at_position cells p
-        → ((k : ℕ) → cell_at_position tile_numbers p ≡ Some (pos k) → HasClumpNumber j m q (number k))
-        → renumbered_cell number (cell_at_position tile_numbers p) ≡ cell_at_position numbers q
-    number-here number cells tile_numbers is p q cell numbered = by (cell_at_position cells p) refl
-      where
-        by : (c : CellValue) → cell_at_position cells p ≡ c
-            → renumbered_cell number (cell_at_position tile_numbers p) ≡ cell_at_position numbers q
-        by None none = ap (renumbered_cell number) (is.nulls p none) ∙ sym (clumping.nulls q (cell ∙ none))
-        by (Some v) some =
-            let there = is.numbered p (is-some (cell_at_position cells p) v some) in
-            let here = clumping.numbered q (is-some (cell_at_position m q) v (cell ∙ some)) in
-            let same = HasClumpNumber-one j m q (number there.0) here.0 (numbered there.0 there.2) here.1 in
-            ap (renumbered_cell number) there.2 ∙ ap (λ (n : ℕ). Some (pos n)) same ∙ sym here.2
+    -- a cell with a number in its tile has a number in the full map
+    numbered : (t : TileInTileGrid) → IsTileInTileGrid heights widths others t → (p : Position)
+        → p.row < (tile_rectangle_in_grid heights widths t).rows
+        → p.col < (tile_rectangle_in_grid heights widths t).cols
+        → IsSome (cell_at_position (numbers_of t.row t.col) p)
+        → IsSome (cell_at_position numbers (position_in_full_map (tile_rectangle_in_grid heights widths t) p))
+    numbered t is p high wide some =
+        let q = position_in_full_map (tile_rectangle_in_grid heights widths t) p in
+        let nulls = (grid.tiles.tiles t.row t.col is.in_rows is.in_cols).clumping.nulls p in
+        let cell = some-numbered (cell_at_position (map_of t.row t.col) p) (cell_at_position (numbers_of t.row t.col) p)
+        nulls some in
+        let here = (grid.cut.tiles t.row t.col is.in_rows is.in_cols).cells p high wide in
+        let number = grid.clumping.numbered q (subst IsSome here cell) in
+        is-some (cell_at_position numbers q) (pos number.0) number.2
 
-    module _ (map_of : ℕ → ℕ → Grid) (cut : MapIsCutIntoTiles m heights widths map_of)
-        (borders : TilesHaveBorders j heights widths map_of numbers_of grid)
-        (join : AreClumpNumbersOfTileGrid j grid (flat_map full_map_numbers_of_run runs)) where
-      tile-part : (t : TileInTileGrid) → IsTileInTileGrid heights widths others t → IsPartHere (part_of t)
-      tile-part t is row col zero high wide =
-          let p : Position = position_at_row_and_column row col in
-          let tile = cut.tiles t.row t.col is.in_rows is.in_cols in
-          let border = borders.tiles t.row t.col is.in_rows is.in_cols in
-          cell-mapped (full_map_patch_number_by_runs grid runs t) (numbers_of t.row t.col) p
-          ∙ number-here (full_map_patch_number_by_runs grid runs t) (map_of t.row t.col)
-          (numbers_of t.row t.col) border.clumping p
-          (position_in_full_map (tile_rectangle_in_grid heights widths t) p) (sym (tile.cells p high wide))
-          (λ k here. join m heights widths map_of numbers_of cut borders t.row t.col is.in_rows is.in_cols p k here)
-      tile-part t is row col (suc place) high wide = is.part row col place high wide
+    tile-part : (t : TileInTileGrid) → IsTileInTileGrid heights widths others t → IsPartHere (part_of t)
+    tile-part t is row col zero high wide =
+        let p : Position = position_at_row_and_column row col in
+        cell-mapped (number_of t) (numbers_of t.row t.col) p
+        ∙ cell-renumbered runs (tile_number_in_grid (length widths) t.row t.col)
+        (cell_at_position (numbers_of t.row t.col) p)
+        (cell_at_position numbers (position_in_full_map (tile_rectangle_in_grid heights widths t) p))
+        (renumber j m numbers heights widths map_of numbers_of runs grid t.row t.col is.in_rows is.in_cols p high wide)
+        (numbered t is p high wide)
+    tile-part t is row col (suc place) high wide = is.part row col place high wide
 
-      tile-parts : (tiles : List TileInTileGrid) → All (IsTileInTileGrid heights widths others) tiles
-          → All IsPartHere (map part_of tiles)
-      tile-parts [] are = All-nil IsPartHere
-      tile-parts (t ∷ tiles) are =
-          All-cons IsPartHere (part_of t) (map part_of tiles)
-          (tile-part t (All-head (IsTileInTileGrid heights widths others) t tiles are))
-          (tile-parts tiles (All-tail (IsTileInTileGrid heights widths others) t tiles are))
+    tile-parts : (tiles : List TileInTileGrid) → All (IsTileInTileGrid heights widths others) tiles
+        → All IsPartHere (map part_of tiles)
+    tile-parts [] are = All-nil IsPartHere
+    tile-parts (t ∷ tiles) are =
+        All-cons IsPartHere (part_of t) (map part_of tiles)
+        (tile-part t (All-head (IsTileInTileGrid heights widths others) t tiles are))
+        (tile-parts tiles (All-tail (IsTileInTileGrid heights widths others) t tiles are))
 
-pub patch-tables-add-up : RunsNumberFullMapPatches → TablesOfTilesAddUp → RenumberedPatchTablesAddUp
-patch-tables-add-up number add j grid joined numbering m heights widths map_of numbers_of cut borders numbers clumping
-    others tiles are picks skip tables each =
+pub patch-tables-add-up : RenumberedTilesAreFullClumpMap → TablesOfTilesAddUp → RenumberedPatchTablesAddUp
+patch-tables-add-up renumber add j borders joined numbering m heights widths map_of numbers_of cut are_borders numbers
+    clumping others tiles are picks skip tables each =
     let runs : List ConsecutiveClumps = numbering.runs in
-    let join = (number j grid joined numbering).0 in
-    add (sum heights) (sum widths) (numbers ∷ others) (map (part_of grid runs heights widths numbers_of) tiles)
+    let grid : IsNumberedTileGrid j m numbers heights widths map_of numbers_of runs = record {
+      cut = cut;
+      clumping = clumping;
+      borders = borders;
+      tiles = are_borders;
+      numbering = numbering.numbers;
+    } in
+    add (sum heights) (sum widths) (numbers ∷ others) (map (part_of runs heights widths numbers_of) tiles)
     (record {
       tiling = subst (RectanglesCoverMap (sum heights) (sum widths))
-          (sym (places-same grid runs heights widths numbers_of tiles)) are.tiling;
-      cells = tile-parts grid runs heights widths numbers_of j m numbers clumping others map_of cut borders join tiles
-          are.each;
+          (sym (places-same runs heights widths numbers_of tiles)) are.tiling;
+      cells = tile-parts runs heights widths numbers_of j m numbers map_of others grid renumber tiles are.each;
     }) (columns picks) skip tables
-    (tables-renumbered grid runs heights widths numbers_of skip picks tiles tables each)
+    (tables-renumbered runs heights widths numbers_of skip picks tiles tables each)

@@ -13,11 +13,11 @@ use Rattle.rcell_pipe_request.specs.declared.error.ErrorKind.TheVariants as kind
 use Rattle.rcell_pipe_request.specs.declared.error.RequestError.{RequestError}
 use Rattle.rcell_pipe_request.specs.RequestFields.{RequestFieldReading, PositionedReading, result_with_error_position}
 use Rattle.rcell_pipe_request.specs.RequestFields.{unsigned_number_reading}
-use Rattle.rcell_pipe_request.specs.Heads.{reading_of_value_or_error_kind}
+use Rattle.rcell_pipe_request.specs.RequestFields.{reading_of_value_or_error_kind}
 use Rattle.rcell_pipe_join.specs.declared.join_request.JoinKind.{JoinKind}
 use Rattle.rcell_pipe_join.specs.declared.join_request.JoinKind.TheVariants.{Borders, Patches, Tables}
 use Rattle.rcell_pipe_join.specs.declared.join_request.JoinRequest.{JoinRequest}
-use Rattle.rcell_pipe_join.specs.declared.join_request.JoinRequest.TheVariants as request_examples_hold
+use Rattle.rcell_pipe_join.specs.declared.join_request.JoinRequest.TheVariants as join_requests
 use Rattle.rcell_pipe_join.specs.BorderGrids.{tile_grid_reading, borders_as_values}
 use Rattle.rcell_pipe_join.specs.PatchLists.{patches_to_join_reading}
 use Rattle.rcell_pipe_join.specs.TableEntries.{map_count_and_tables_reading, tables_as_values}
@@ -44,7 +44,7 @@ pub data JoinRequestValue : Type 0 where
 -- the request after its kind
 unfoldable pub join_request_of_kind_reading : JoinKind → ComingBytes → PositionedReading JoinRequestValue
 join_request_of_kind_reading (Borders joining) c = do
-  grid ← tile_grid_reading c
+  grid ← tile_grid_reading joining c
   Ok (BorderGrid joining grid.0, grid.1)
 join_request_of_kind_reading Tables c = do
   tables ← map_count_and_tables_reading c
@@ -64,6 +64,6 @@ join_request_or_error c = join_request_reading c >>= λ request. Ok request.0
 
 -- the request as a value
 abbrev pub join_request_as_value : JoinRequest → JoinRequestValue
-join_request_as_value (request_examples_hold.Borders joining grid) = BorderGrid joining (borders_as_values grid.items)
-join_request_as_value (request_examples_hold.Tables t) = TableList t.width (tables_as_values t.tables.items)
-join_request_as_value (request_examples_hold.Patches p) = PatchList p.numbering p.joiner
+join_request_as_value (join_requests.Borders joining grid) = BorderGrid joining (borders_as_values grid.items)
+join_request_as_value (join_requests.Tables t) = TableList t.width (tables_as_values t.tables.items)
+join_request_as_value (join_requests.Patches p) = PatchList p.numbering p.joiner

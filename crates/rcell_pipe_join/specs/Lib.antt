@@ -11,5 +11,6 @@ pub mod JoinEnds
 pub mod JoinLaw
 pub mod SumLaw
 pub mod RunSumLaw
+pub mod FrameSumLaw
 pub mod PatchSumLaw
 pub mod parts

@@ -15,7 +15,7 @@ use Rattle.cell_join_patches.specs.PatchNumbers.{number_in_full_map, run_can_be_
 use Rattle.cell_patches.specs.declared.patch.Patch.{Patch}
 use Rattle.rcell_pipe_request.specs.declared.error.ErrorKind.{ErrorKind}
 use Rattle.rcell_pipe_request.specs.declared.error.ErrorKind.TheVariants as kinds
-use Rattle.rcell_pipe_request.specs.Heads.{reading_of_value_or_error_kind}
+use Rattle.rcell_pipe_request.specs.RequestFields.{reading_of_value_or_error_kind}
 use Rattle.rcell_pipe_request.specs.RequestFields.{RequestFieldReading, PositionedReading, result_with_error_position}
 use Rattle.rcell_pipe_request.specs.RequestFields.{unsigned_number_reading, signed_number_reading}
 use Rattle.rcell_pipe_request.specs.RequestFields.{end_of_request_reading, reading_repeated_n_times}

@@ -1,6 +1,6 @@
 -- What the frame of sums says about tiles whose tables begin with the numbers of their patches.
-use Rattle.std.specs.Prelude.{ℕ, suc, pos, negsuc, ◌≡◌, ◌<◌, ◌+◌, ◌-◌, List, [], ◌∷◌, All, flat_map, length, map}
-use Rattle.std.specs.Prelude.{slice_index, sum, Some, None}
+use Rattle.std.specs.Prelude.{ℕ, suc, pos, negsuc, ◌≡◌, ◌<◌, List, [], ◌∷◌, All, length, map, sum, Some, None}
+use Rattle.std.specs.Prelude.{unwrap_or}
 use Rattle.std.specs.List.{AllZip}
 use Rattle.cell_core.specs.Grid.{Grid, CellValue}
 use Rattle.cell_clumps.specs.declared.clump.Joining.{Joining}
@@ -11,12 +11,12 @@ use Rattle.cell_stats_combinations.specs.Listed.{CombinationCounts, ListsHaveSam
 use Rattle.cell_stats.specs.CategoryTables.{table_of_cells}
 use Rattle.cell_join_numbers.specs.Parts.{Rectangle, RectanglesCoverMap, MapsAreTileOfFullMaps}
 use Rattle.cell_join_numbers.specs.declared.stretch.ConsecutiveClumps.{ConsecutiveClumps}
+use Rattle.cell_join_patches.specs.PatchNumbers.{number_in_full_map}
+use Rattle.cell_join_patches.specs.TileGridLaw.{tile_number_in_grid}
 use Rattle.cell_join_tiles.specs.Beginnings.{MapIsCutIntoTiles, rectangle_of_tile_in_grid}
-use Rattle.cell_join_tiles.specs.JoinedBorders.{TilesHaveBorders, begun_clump_counts_of_grid}
-use Rattle.cell_join_tiles.specs.TileNumbers.{clump_count_before_tile}
+use Rattle.cell_join_tiles.specs.JoinedBorders.{TilesHaveBorders}
 use Rattle.cell_join_tiles.specs.Values.{TileBorderValue}
 use Rattle.rcell_pipe_join.specs.JoinEnds.{IsTileNumberingResponse, IsTableSumsResponse}
-use Rattle.rcell_pipe_join.specs.JoinLaw.{full_map_numbers_of_run}
 use Rattle.rcell_pipe_join.specs.SumLaw.{AreTableEntriesOfCells}
 
 -- ---- tiles
@@ -57,11 +57,10 @@ combinations_of_tile_with_patch heights widths numbers_of picks t =
     (tile_rectangle_in_grid heights widths t).rows
     (tile_rectangle_in_grid heights widths t).cols
 
--- the number in the full map of patch k of a tile, according to the runs of a numbering
-abbrev pub full_map_patch_number_by_runs : List (List TileBorderValue) → List ConsecutiveClumps → TileInTileGrid → ℕ → ℕ
-full_map_patch_number_by_runs grid runs t k =
-    slice_index (flat_map full_map_numbers_of_run runs) (clump_count_before_tile
-    (begun_clump_counts_of_grid grid) t.row t.col + (k - 1))
+-- the number in the full map of patch k of a tile, according to the runs of a numbering; 0 if they lack the patch
+abbrev pub full_map_patch_number_by_runs : (widths : List ℕ) → List ConsecutiveClumps → TileInTileGrid → ℕ → ℕ
+full_map_patch_number_by_runs widths runs t k =
+    unwrap_or (number_in_full_map runs (tile_number_in_grid (length widths) t.row t.col) k) 0
 
 -- the entries with another number for each patch; cells outside patches stay null
 abbrev pub renumbered_cell : (ℕ → ℕ) → CellValue → CellValue
@@ -96,7 +95,7 @@ RenumberedPatchTablesAddUp = (j : Joining) (grid : List (List TileBorderValue)) 
     → (others : List Grid) (tiles : List TileInTileGrid) → AreAllTilesOfTileGrid heights widths others tiles
     → (picks : List ℕ) (skip : Skip) (tables : List CombinationCounts)
     → AllZip (λ t. AreRenumberedTableEntries skip (combinations_of_tile_with_patch heights widths numbers_of picks t)
-    (full_map_patch_number_by_runs grid numbering.runs t)) tiles tables
+    (full_map_patch_number_by_runs widths numbering.runs t)) tiles tables
     → (width : ℕ) (response : List ℕ) (frame : IsTableSumsResponse width tables response)
     → AreTableEntriesOfCells skip (combinations_with_patch_number numbers others picks (sum heights)
     (sum widths)) frame.sums

@@ -125,6 +125,7 @@ pub(crate) fn read_border_fields<R: Read>(
     ensures reads { ReadsRequestFieldAndStaysOpen value_of_tile_border feed.old result feed.new
         (border_fields_reading rows cols) }
     ensures rows { IfOk result (λ border. length border.begun.items ≡ rows) }
+    ensures cols { IfOk result (λ border. length border.first.cells.items ≡ cols) }
     ensures few { IfOk result (λ border. sum border.begun.items < 2 ^ 64) }
 {
     let first = read_tile_side(alloc, feed, cols)?;

@@ -74,7 +74,7 @@ fn read_join_request_of_kind<R: Read>(
     ensures can { IfOk result (λ request. JoinRequestCanBeJoined (join_request_as_value request)) }
 {
     match kind {
-        JoinKind::Borders(joining) => match read_tile_grid(alloc, feed) {
+        JoinKind::Borders(joining) => match read_tile_grid(alloc, feed, joining) {
             Ok(grid) => Ok(JoinRequest::Borders(joining, grid)),
             Err(stop) => Err(stop),
         },

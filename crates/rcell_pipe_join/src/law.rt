@@ -1,9 +1,12 @@
 //! The laws of join requests.
 
+ghost use Rattle.rcell_pipe_join.specs.FrameSumLaw.{TableFramesAddUp};
 ghost use Rattle.rcell_pipe_join.specs.JoinLaw.{RunsNumberFullMapPatches};
 ghost use Rattle.rcell_pipe_join.specs.PatchSumLaw.{RenumberedPatchTablesAddUp};
 ghost use Rattle.rcell_pipe_join.specs.RunSumLaw.{TablesOfRunsAddUp};
 ghost use Rattle.rcell_pipe_join.specs.SumLaw.{TablesOfTilesAddUp};
+
+use cell_join_patches::law::renumbered_tiles_are_full_clump_map;
 
 /// If a map is cut into tiles, and the request has their borders, the numbers in the response are the numbers that
 /// r.clump gives to the patches of the full map, and the number of patches is theirs.
@@ -22,7 +25,7 @@ pub fn tables_of_tiles_add_up()
 pub fn renumbered_patch_tables_add_up()
     ensures { RenumberedPatchTablesAddUp }
 {
-    runs_number_full_map_patches();
+    renumbered_tiles_are_full_clump_map();
     tables_of_tiles_add_up();
 }
 
@@ -33,3 +36,9 @@ pub fn tables_of_runs_add_up()
 {
     tables_of_tiles_add_up();
 }
+
+/// If a script runs over tiles that cover the full maps, and the request has the tables in the tiles' frames for one
+/// statement, the sums in the response are the table in the full maps' frame for this statement.
+pub fn table_frames_add_up()
+    ensures { TableFramesAddUp }
+{}

@@ -6,26 +6,72 @@ ghost use Rattle.cell_join_tiles.specs.JoinedBorders.{begun_clump_counts_of_grid
 ghost use Rattle.cell_join_tiles.specs.Values.{value_of_tile_border, values_of_tile_borders};
 ghost use Rattle.rcell_pipe_request.specs.RequestFields.{reading_repeated_n_times};
 ghost use Rattle.rcell_pipe_request.specs.Feeds.{ReadsRequestFieldAndStaysOpen, ReadsWithErrorPosition, ReadsToEndWithErrorPosition, ReadsRequestFieldToSourceEnd};
-ghost use Rattle.rcell_pipe_join.specs.BorderGrids.{borders_as_values, tile_above_has_column_count, left_tiles_have_row_count, is_valid_tile_side_length, end_of_tile_grid_reading, last_row_of_tiles, next_tile_size_reading, tiles_with_next_tile_reading, tile_rows_with_next_row_reading, tile_border_reading, tile_grid_size_reading, tile_grid_reading, tile_size_reading};
+ghost use Rattle.rcell_pipe_join.specs.BorderGrids.{borders_as_values, tile_above_has_column_count, left_tiles_have_row_count, is_valid_tile_side_length, end_of_tile_grid_reading, last_row_of_tiles, next_tile_size_reading, tiles_with_next_tile_reading, tile_rows_with_next_row_reading, tile_border_reading, tile_connectivity_reading, tile_grid_size_reading, tile_grid_reading, tile_position_reading, tile_size_reading, column_count_of_tiles, row_count_of_tiles, row_count_of_tile_rows};
 ghost use Rattle.rcell_pipe_join.specs.parts.Heights.{TilesHaveSameRowCount};
 
 use crate::border_checks::is_valid_border;
 use crate::border_fields::read_border_fields;
+use crate::table_reading::read_u64;
+use cell_clumps::clump::Joining;
 use cell_join_tiles::border::TileBorder;
 use cell_join_tiles::tile_rows::clump_count_plus_tile_row;
+use rcell_pipe_frames::patches_frame::joining_code;
 use rcell_pipe_request::error::{ErrorKind, FieldReadingStop, RequestStop};
-use rcell_pipe_request::feed::{Feed, check_request_ends, read_u32};
+use rcell_pipe_request::feed::{Feed, check_request_ends, read_u8, read_u32};
 use std::alloc::Global;
 use std::io::Read;
 
 // The largest number of rows or columns of a tile.
 const LONGEST_TILE_SIDE: u32 = 65535;
 
+// What the tiles of a row have in common: the connectivity of their patches, their first row in the full map, and the
+// number of tiles in the rows above.
+#[derive(Clone, Copy, Debug)]
+struct TileRowStart {
+    joining: Joining,
+    first_row: u64,
+    before: u32,
+}
+
 // Numbers of rows and columns: of the cells of a tile, or of the tiles of a grid.
 #[derive(Clone, Copy, Debug)]
 struct RowAndColumnCounts {
     rows: u32,
     cols: u32,
+}
+
+// Reads the connectivity of a tile's patches, which must be the connectivity of the request.
+#[tactic(auto, unfolding(crate::specs::BorderGrids::tile_connectivity_reading))]
+fn read_tile_connectivity<R: Read>(
+    feed: &mut Feed<R>,
+    joining: Joining,
+) -> Result<(), FieldReadingStop>
+    ensures { ReadsRequestFieldAndStaysOpen (λ done. done) feed.old result feed.new
+        (tile_connectivity_reading joining) }
+{
+    let code = read_u8(feed)?;
+    if code == joining_code(joining) {
+        return Ok(());
+    }
+    Err(FieldReadingStop::Error(ErrorKind::OtherConnectivity))
+}
+
+// Reads a tile's first row and column in the full map, which must be these.
+#[tactic(auto, unfolding(crate::specs::BorderGrids::tile_position_reading))]
+fn read_tile_position<R: Read>(
+    feed: &mut Feed<R>,
+    first_row: u64,
+    first_col: u64,
+) -> Result<(), FieldReadingStop>
+    ensures { ReadsRequestFieldAndStaysOpen (λ done. done) feed.old result feed.new
+        (tile_position_reading first_row first_col) }
+{
+    let row = read_u64(feed)?;
+    let col = read_u64(feed)?;
+    if row == first_row && col == first_col {
+        return Ok(());
+    }
+    Err(FieldReadingStop::Error(ErrorKind::OtherPlace))
 }
 
 fn is_valid_tile_side_length(count: u32) -> bool
@@ -41,6 +87,7 @@ fn read_tile_size<R: Read>(feed: &mut Feed<R>) -> Result<RowAndColumnCounts, Fie
         (λ size. (size.rows, size.cols)) feed.old result feed.new
         tile_size_reading }
     ensures few { IfOk result (λ size. size.rows ≤ 65535) }
+    ensures narrow { IfOk result (λ size. size.cols ≤ 65535) }
 {
     let rows = read_u32(feed)?;
     let cols = read_u32(feed)?;
@@ -82,6 +129,7 @@ fn read_next_tile_size<R: Read>(
         (next_tile_size_reading (values_of_tile_borders above.now)
         (values_of_tile_borders row.now)) }
     ensures few { IfOk result (λ size. size.rows ≤ 65535) }
+    ensures narrow { IfOk result (λ size. size.cols ≤ 65535) }
     ensures same { IfOk result (λ size. left_tiles_have_row_count
         (values_of_tile_borders row.now) size.rows
         ≡ true) }
@@ -95,21 +143,29 @@ fn read_next_tile_size<R: Read>(
     Err(FieldReadingStop::Error(ErrorKind::OtherSize))
 }
 
-// Reads the border of the next tile in a row of tiles.
+// Reads the border of the next tile in a row of tiles, which begins at this column of the full map.
 #[tactic(auto, unfolding(crate::specs::BorderGrids::tile_border_reading))]
 fn read_tile_border<R: Read>(
     alloc: Global,
     feed: &mut Feed<R>,
+    start: TileRowStart,
+    first_col: u64,
     above: &[TileBorder],
     row: &[TileBorder],
 ) -> Result<TileBorder, FieldReadingStop>
+    requires { first_col ≡ column_count_of_tiles (values_of_tile_borders row.now) }
     ensures reads { ReadsRequestFieldAndStaysOpen value_of_tile_border feed.old result feed.new
-        (tile_border_reading (values_of_tile_borders above.now) (values_of_tile_borders row.now)) }
+        (tile_border_reading start.joining start.first_row (values_of_tile_borders above.now)
+        (values_of_tile_borders row.now)) }
+    ensures few { IfOk result (λ border. length border.begun.items ≤ 65535) }
+    ensures narrow { IfOk result (λ border. length border.first.cells.items ≤ 65535) }
     ensures same { IfOk result
         (λ border. left_tiles_have_row_count (values_of_tile_borders row.now)
         (length border.begun.items)
         ≡ true) }
 {
+    read_tile_connectivity(feed, start.joining)?;
+    read_tile_position(feed, start.first_row, first_col)?;
     let size = read_next_tile_size(feed, above, row)?;
     let border = read_border_fields(alloc, feed, size.rows, size.cols)?;
     if is_valid_border(&border) {
@@ -118,54 +174,67 @@ fn read_tile_border<R: Read>(
     Err(FieldReadingStop::Error(ErrorKind::BadBorder))
 }
 
-// Reads one more tile of a row of tiles. There are `before` tiles in the rows above.
+// Reads one more tile of a row of tiles, which begins at this column of the full map. Returns the first column after the
+// tile.
 #[tactic(auto, unfolding(crate::specs::BorderGrids::tiles_with_next_tile_reading))]
 fn read_next_tile<R: Read>(
     alloc: Global,
     feed: &mut Feed<R>,
-    before: u32,
+    start: TileRowStart,
+    first_col: u64,
     above: &[TileBorder],
     row: &mut Vec<TileBorder>,
-) -> Result<(), RequestStop>
-    requires { before + length (values_of_tile_borders row.old.items) < 2 ^ 32 }
+) -> Result<u64, RequestStop>
+    requires count { start.before + length (values_of_tile_borders row.old.items) < 2 ^ 32 }
+    requires cols { first_col ≡ column_count_of_tiles (values_of_tile_borders row.old.items) }
+    requires few { first_col ≤ 65535 * 4294967295 }
     ensures reads { ReadsWithErrorPosition (λ _. values_of_tile_borders row.new.items) feed.old
         result
         feed.new
-        (tiles_with_next_tile_reading before (values_of_tile_borders above.now)
+        (tiles_with_next_tile_reading start.joining start.first_row start.before
+        (values_of_tile_borders above.now)
         (values_of_tile_borders row.old.items)) }
+    ensures cols { IfOk result
+        (λ next. next ≡ column_count_of_tiles (values_of_tile_borders row.new.items)) }
+    ensures narrow { IfOk result (λ next. next ≤ first_col + 65535) }
+    ensures few { OnOk result (row_count_of_tiles (values_of_tile_borders row.new.items) ≤ 65535) }
     ensures count { OnOk result (length (values_of_tile_borders row.new.items)
         ≡ length (values_of_tile_borders row.old.items) + 1) }
     ensures even { OnOk result (TilesHaveSameRowCount (values_of_tile_borders row.old.items)
         → TilesHaveSameRowCount (values_of_tile_borders row.new.items)) }
 {
-    let tiles = before + row.len() as u32;
-    let border = match read_tile_border(alloc, feed, above, row.as_slice()) {
+    let tiles = start.before + row.len() as u32;
+    let border = match read_tile_border(alloc, feed, start, first_col, above, row.as_slice()) {
         Ok(border) => border,
         Err(stop) => return Err(stop.at(tiles, 0)),
     };
+    let next = first_col + border.first.cells.len() as u64;
     row.push(border)?;
-    Ok(())
+    Ok(next)
 }
 
 // Reads a row of `cols` tiles.
 fn read_tile_row<R: Read>(
     alloc: Global,
     feed: &mut Feed<R>,
-    before: u32,
+    start: TileRowStart,
     above: &[TileBorder],
     cols: u32,
 ) -> Result<Vec<TileBorder>, RequestStop>
-    requires { before + cols < 2 ^ 32 }
+    requires { start.before + cols < 2 ^ 32 }
     ensures reads { ReadsWithErrorPosition (λ row. values_of_tile_borders row.items) feed.old result
         feed.new
-        (reading_repeated_n_times (tiles_with_next_tile_reading before
-        (values_of_tile_borders above.now)) [] cols) }
+        (reading_repeated_n_times (tiles_with_next_tile_reading start.joining start.first_row
+        start.before (values_of_tile_borders above.now)) [] cols) }
+    ensures few { IfOk result
+        (λ row. row_count_of_tiles (values_of_tile_borders row.items) ≤ 65535) }
     ensures even { IfOk result (λ row. TilesHaveSameRowCount (values_of_tile_borders row.items)) }
 {
     let mut row = Vec::new(alloc);
+    let mut first_col = 0;
     for i in 0..cols {
-        match read_next_tile(alloc, feed, before, above, &mut row) {
-            Ok(()) => {}
+        match read_next_tile(alloc, feed, start, first_col, above, &mut row) {
+            Ok(next) => first_col = next,
             Err(stop) => return Err(stop),
         }
     }
@@ -182,56 +251,73 @@ fn last_row_of_tiles(grid: &[Vec<TileBorder>]) -> &[TileBorder]
     }
 }
 
-// Reads one more row of `cols` tiles.
+// Returns the number of rows of a row of tiles.
+fn row_count_of_tiles(row: &[TileBorder]) -> u64
+    ensures { result ≡ row_count_of_tiles (values_of_tile_borders row.now) }
+{
+    match row.first() {
+        Some(tile) => tile.begun.len() as u64,
+        None => 0,
+    }
+}
+
+// Reads one more row of `cols` tiles. Returns the row of the full map after these tiles.
 #[tactic(auto, unfolding(crate::specs::BorderGrids::tile_rows_with_next_row_reading))]
 fn read_next_tile_row<R: Read>(
     alloc: Global,
     feed: &mut Feed<R>,
-    before: u32,
+    start: TileRowStart,
     cols: u32,
     grid: &mut Vec<Vec<TileBorder>>,
-) -> Result<(), RequestStop>
-    requires before { before ≡ length (borders_as_values grid.old.items) * cols }
-    requires few { before + cols < 2 ^ 32 }
+) -> Result<u64, RequestStop>
+    requires before { start.before ≡ length (borders_as_values grid.old.items) * cols }
+    requires count { start.before + cols < 2 ^ 32 }
+    requires rows { start.first_row ≡ row_count_of_tile_rows (borders_as_values grid.old.items) }
+    requires few { start.first_row ≤ 65535 * 4294967295 }
     ensures reads { ReadsWithErrorPosition (λ _. borders_as_values grid.new.items) feed.old result
         feed.new
-        (tile_rows_with_next_row_reading cols (borders_as_values grid.old.items)) }
+        (tile_rows_with_next_row_reading start.joining cols (borders_as_values grid.old.items)) }
+    ensures rows { IfOk result
+        (λ next. next ≡ row_count_of_tile_rows (borders_as_values grid.new.items)) }
+    ensures few { IfOk result (λ next. next ≤ start.first_row + 65535) }
     ensures count { OnOk result (length (borders_as_values grid.new.items)
         ≡ length (borders_as_values grid.old.items) + 1) }
     ensures even { OnOk result (All TilesHaveSameRowCount (borders_as_values grid.old.items)
         → All TilesHaveSameRowCount (borders_as_values grid.new.items)) }
 {
-    let row = match read_tile_row(
-        alloc,
-        feed,
-        before,
-        last_row_of_tiles(grid.as_slice()),
-        cols,
-    ) {
+    let row = match read_tile_row(alloc, feed, start, last_row_of_tiles(grid.as_slice()), cols) {
         Ok(row) => row,
         Err(stop) => return Err(stop),
     };
+    let next = start.first_row + row_count_of_tiles(row.as_slice());
     grid.push(row)?;
-    Ok(())
+    Ok(next)
 }
 
 // Reads the rows of tiles.
 fn read_tile_rows<R: Read>(
     alloc: Global,
     feed: &mut Feed<R>,
+    joining: Joining,
     rows: u32,
     cols: u32,
 ) -> Result<Vec<Vec<TileBorder>>, RequestStop>
     requires { rows * cols < 2 ^ 32 }
     ensures reads { ReadsWithErrorPosition (λ grid. borders_as_values grid.items) feed.old result
         feed.new
-        (reading_repeated_n_times (tile_rows_with_next_row_reading cols) [] rows) }
+        (reading_repeated_n_times (tile_rows_with_next_row_reading joining cols) [] rows) }
     ensures even { IfOk result (λ grid. All TilesHaveSameRowCount (borders_as_values grid.items)) }
 {
     let mut grid = Vec::new(alloc);
+    let mut first_row = 0;
     for i in 0..rows {
-        match read_next_tile_row(alloc, feed, i * cols, cols, &mut grid) {
-            Ok(()) => {}
+        let start = TileRowStart {
+            joining,
+            first_row,
+            before: i * cols,
+        };
+        match read_next_tile_row(alloc, feed, start, cols, &mut grid) {
+            Ok(next) => first_row = next,
             Err(stop) => return Err(stop),
         }
     }
@@ -291,15 +377,17 @@ fn check_end_of_tile_grid<R: Read>(
     }
 }
 
-/// Reads the borders of a grid of tiles, to the end of the source. Memory grows only with the bytes that have arrived.
+/// Reads the borders of a grid of tiles with this connectivity, to the end of the source. Memory grows only with the
+/// bytes that have arrived.
 #[tactic(auto, unfolding(crate::specs::BorderGrids::tile_grid_reading))]
 pub(crate) fn read_tile_grid<R: Read>(
     alloc: Global,
     feed: &mut Feed<R>,
+    joining: Joining,
 ) -> Result<Vec<Vec<TileBorder>>, RequestStop>
     ensures reads { ReadsToEndWithErrorPosition
         (λ grid. borders_as_values grid.items) feed.old result feed.new
-        tile_grid_reading }
+        (tile_grid_reading joining) }
     ensures even { IfOk result (λ grid. All TilesHaveSameRowCount (borders_as_values grid.items)) }
     ensures few { IfOk result
         (λ grid. clump_count_of_tile_grid (begun_clump_counts_of_grid
@@ -310,7 +398,7 @@ pub(crate) fn read_tile_grid<R: Read>(
         Ok(counts) => counts,
         Err(stop) => return Err(stop.at(0, 0)),
     };
-    let grid = match read_tile_rows(alloc, feed, counts.rows, counts.cols) {
+    let grid = match read_tile_rows(alloc, feed, joining, counts.rows, counts.cols) {
         Ok(grid) => grid,
         Err(stop) => return Err(stop),
     };

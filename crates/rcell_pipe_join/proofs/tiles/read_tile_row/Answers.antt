@@ -9,7 +9,8 @@ use Rattle.rcell_pipe_join.proofs.tiles.read_tile_row.Goals as goal
 pub returns-in-Err-clause-reads : goal.returns-in-Err-clause-reads
 returns-in-Err-clause-reads g c =
     let so_far = (values_of_tile_borders c.loop-i.row.items) in
-    let step = (tiles_with_next_tile_reading c.args.before (values_of_tile_borders c.args.above.now)) in (
+    let step = tiles_with_next_tile_reading c.args.start.joining c.args.start.first_row c.args.start.before
+    (values_of_tile_borders c.args.above.now) in (
       FailsWithErrorPosition-of c.in-Err.stop c.args.feed.now c.loop-i.feed c.read_next_tile.new.feed (step so_far)
           (reading_repeated_n_times step [] c.args.cols) (λ w is. (c.loop-i.invariant.0 w is).0)
           (λ w is error one. steps-end step so_far c.args.cols c.loop-i.i (left w c.loop-i.feed) error _ (omega arith)
@@ -24,7 +25,8 @@ loop-i-preserved g c = (
       let one = c.in-Ok.ensures.reads.0 w is in
       let before = c.loop-i.invariant.0 w one.0 in (
         before.0,
-        steps-on (tiles_with_next_tile_reading c.args.before (values_of_tile_borders c.args.above.now))
+        steps-on (tiles_with_next_tile_reading c.args.start.joining c.args.start.first_row c.args.start.before
+            (values_of_tile_borders c.args.above.now))
             (values_of_tile_borders c.loop-i.row.items) (values_of_tile_borders c.read_next_tile.new.row.items)
             c.args.cols c.loop-i.i
             (left w c.loop-i.feed) (left w c.read_next_tile.new.feed) _ (omega arith) one.1 before.1,
@@ -32,6 +34,9 @@ loop-i-preserved g c = (
   omega (arith, c.in-Ok.ensures.count, c.loop-i.invariant.1),
   c.in-Ok.ensures.even c.loop-i.invariant.2,
   λ going. c.in-Ok.ensures.reads.1 (c.loop-i.invariant.3 going),
+  c.in-Ok.ensures.cols,
+  omega (arith, c.in-Ok.ensures.narrow, c.loop-i.invariant.5),
+  c.in-Ok.ensures.few,
 )
 
 pub returns-clause-reads : goal.returns-clause-reads
@@ -39,7 +44,8 @@ returns-clause-reads g c = (
   λ w is.
       let before = c.loop-i.invariant.0 w is in (
         before.0,
-        steps-done (tiles_with_next_tile_reading c.args.before (values_of_tile_borders c.args.above.now))
+        steps-done (tiles_with_next_tile_reading c.args.start.joining c.args.start.first_row c.args.start.before
+            (values_of_tile_borders c.args.above.now))
             (values_of_tile_borders c.loop-i.row.items) c.args.cols c.loop-i.i (left w c.loop-i.feed)
             _ (omega arith) before.1,
       ),
