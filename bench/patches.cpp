@@ -207,9 +207,11 @@ uint32_t take_number() {
 } // namespace
 
 int main() {
-    take(12);
-    for (int texts = 0; texts < 5; texts++) take(take(1)[0]);
+    take(8);
+    for (int edges = 0; edges < 4; edges++) take(take(1)[0]);
     const uint32_t rows = take_number(), cols = take_number();
+    take(4);
+    take(take(1)[0]);
     take(14);
     Measuring measuring(cols);
     std::vector<uint8_t> cells(cols);

@@ -45,8 +45,8 @@ def cells_of_grid(path):
 def request(cells, side, script, questions):
     """Return a request for a map of bytes."""
     edges = b"%d" % side, b"0", b"%d" % side, b"0"
-    head = short(b"g") + b"".join(map(short, edges)) + struct.pack("<II", side, side)
-    data = b"RCELLQ1\n" + struct.pack("<I", 1) + head + struct.pack("<BBqI", 1, 1, NULL, 0) + cells
+    data = b"RCELLQ1\n" + b"".join(map(short, edges)) + struct.pack("<III", side, side, 1)
+    data += short(b"g") + struct.pack("<BBqI", 1, 1, NULL, 0) + cells
     asked = b"".join(it.data() for it in questions)
     return (
         data + struct.pack("<I", len(script)) + script + struct.pack("<I", len(questions)) + asked

@@ -13,7 +13,7 @@ from fuzz import damaged_bytes
 from joined_patches import Patches
 from pipe_model import Place, Question, Raster, request, tile_request
 from run_model import RUN, TEXT, TILE, wrong_run
-from test_join import BadRequest, JoinReader, Tables, Tiles
+from test_join import BadRequest, JoinReader, Tables, Tiles, in_place
 
 FLIPS = (0x01, 0x80, 0xFF)
 PLAN, JOIN = b"RCELLP1\n", test_join.MAGIC
@@ -121,6 +121,12 @@ def with_other_item(draw: random.Random, items: tuple, others: tuple) -> tuple:
 
 
 def with_other_tiles(draw: random.Random, one: Tiles, other: Tiles) -> Tiles:
+    """Return other tiles or another connectivity, half of the time with matching positions."""
+    spoiled = with_tiles_swapped(draw, one, other)
+    return in_place(spoiled) if draw.random() < 0.5 else spoiled
+
+
+def with_tiles_swapped(draw: random.Random, one: Tiles, other: Tiles) -> Tiles:
     if draw.random() < 0.25:
         return replace(one, connectivity=12 - one.connectivity)
     width = len(one.grid[0])

@@ -47,9 +47,9 @@ class Patches:
 
 
 def is_next_run(runs: Sequence[Run], run: Run) -> bool:
-    """Return whether a run has patches and numbers below 2^64, and comes after the runs before."""
+    """Return whether a run has patches, is counted from 1 to below 2^64, and comes after `runs`."""
     tile, first, last, number = run
-    is_run = first <= last and number + last - first <= MOST
+    is_run = 0 not in run and first <= last and number + last - first <= MOST
     return is_run and (not runs or (runs[-1][0], runs[-1][2]) < (tile, first))
 
 
@@ -166,6 +166,8 @@ def named_patch_errors() -> Iterator[tuple[str, bytes]]:
     runs, parts = TWO_PARTS.runs, TWO_PARTS.parts
     for bad in ((2, 2, 2, 1), (2, 1, 2, 1), (1, 3, 3, 1), (3, 2, 1, 1), (3, 1, 3, MOST - 1)):
         yield "bad run", Patches((*runs, bad), parts).data()
+    for first_run in ((0, 1, 1, 1), (1, 0, 1, 1), (1, 1, 1, 0)):
+        yield "bad run", Patches((first_run,), ()).data()
     for tile, number in ((1, 3), (2, 0), (2, 3), (3, 1), (MOST, MOST)):
         yield "unknown patch", Patches(runs, (Part(tile, number, PATCH),)).data()
     for order in ((0, 0), (1, 0), (2, 1), (2, 2)):

@@ -29,6 +29,7 @@ MOST_MAPS, MOST_SIDE, MOST_CELLS, MOST_SCRIPT = 65535, 65535, 2**31 - 1, 1048576
 
 Row = list[int]
 Edges = tuple[bytes, bytes, bytes, bytes]
+Extent = tuple[Edges, int, int]  # with the numbers of rows and columns
 
 
 @dataclass
@@ -117,15 +118,14 @@ def tile_request(
 
 
 def request(maps: list[Raster], script: bytes, questions: Sequence[Question] = ()) -> bytes:
-    """Return the bytes of a request."""
-    out = b"RCELLQ1\n" + struct.pack("<I", len(maps))
+    """Return the bytes of a request. The region is the first map's."""
+    first = maps[0]
+    size = len(first.rows), len(first.rows[0])
+    out = b"RCELLQ1\n" + b"".join(map(short, first.edges))
+    out += struct.pack("<III", *size, len(maps))
     for it in maps:
-        out += (
-            short(it.name)
-            + b"".join(map(short, it.edges))
-            + struct.pack("<II", len(it.rows), len(it.rows[0]))
-        )
         flags = (it.nodata is not None) + 2 * (it.mask is not None)
+        out += short(it.name)
         out += struct.pack("<BBqI", it.type, flags, it.nodata or 0, len(it.labels))
         for category, text in it.labels:
             out += struct.pack("<iH", category, len(text)) + text
@@ -136,14 +136,14 @@ def request(maps: list[Raster], script: bytes, questions: Sequence[Question] = (
     return out + struct.pack("<I", len(script)) + script + asked
 
 
-def border(cells: Cells, numbers: Cells) -> bytes:
-    """Return a tile of a join request: its size, its four sides, and the patches that begin in each
-    row."""
+def border(cells: Cells, numbers: Cells, connectivity: int, row: int, col: int) -> bytes:
+    """Return a tile of a join request: its connectivity, its first row and column in the full map,
+    its size, its four sides, and the patches that begin in each row."""
 
     def sides(of: Cells) -> list[list[Optional[int]]]:
         return [of[0], of[-1], [row[0] for row in of], [row[-1] for row in of]]
 
-    out = struct.pack("<II", len(cells), len(cells[0]))
+    out = struct.pack("<B2Q2I", connectivity, row, col, len(cells), len(cells[0]))
     for categories, patches in zip(sides(cells), sides(numbers)):
         values = [NULL if it is None else it for it in (*categories, *patches)]
         out += struct.pack(f"<{len(values)}i", *values)
@@ -179,7 +179,6 @@ class Reader:
     def __init__(self, data: bytes):
         self.data, self.at, self.maps, self.row = data, 0, 0, 0
         self.names: set[bytes] = set()
-        self.region: Optional[tuple[int, ...]] = None
 
     def need(self, is_so: Any, text: str) -> None:
         if not is_so:
@@ -202,19 +201,19 @@ class Reader:
         self.need(found is not None, "bad number")
         return text, found or 0
 
-    def head(self) -> tuple[bytes, Edges, tuple[int, ...]]:
-        name = self.take(self.number("B"))
-        self.need(NAME.fullmatch(name), "bad name")
-        self.need(name not in self.names, "name used twice")
+    def region(self) -> Extent:
         (n, north), (s, south), (e, east), (w, west) = (self.coordinate() for _ in range(4))
         rows, cols = self.number("I"), self.number("I")
         sides = 1 <= rows <= MOST_SIDE and 1 <= cols <= MOST_SIDE and rows * cols <= MOST_CELLS
         self.need(sides and south < north and west < east, "bad region")
-        region = (north, south, east, west, rows, cols)
-        self.need(self.region in (None, region), "other region")
+        return (n, s, e, w), rows, cols
+
+    def name(self) -> bytes:
+        name = self.take(self.number("B"))
+        self.need(NAME.fullmatch(name), "bad name")
+        self.need(name not in self.names, "name used twice")
         self.names.add(name)
-        self.region = region
-        return name, (n, s, e, w), region
+        return name
 
     def nodata(self, code: int, flags: int) -> Optional[int]:
         number, (_, smallest, largest) = self.number("q"), TYPES[code]
@@ -230,18 +229,17 @@ class Reader:
             found.append((category, text))
         return found
 
-    def raster(self) -> Raster:
-        name, edges, region = self.head()
-        code = self.number("B")
+    def raster(self, edges: Edges, rows: int, cols: int) -> Raster:
+        name, code = self.name(), self.number("B")
         self.need(code in TYPES, "bad type")
         flags = self.number("B")
         self.need(flags <= 3, "bad flags")
         nodata = self.nodata(code, flags)
         found = Raster(name, edges, code, [], nodata, [] if flags & 2 else None, self.labels())
-        for self.row in range(1, region[4] + 1):
-            found.rows.append(list(self.numbers(f"{region[5]}{TYPES[code][0]}")))
+        for self.row in range(1, rows + 1):
+            found.rows.append(list(self.numbers(f"{cols}{TYPES[code][0]}")))
             if found.mask is not None:
-                found.mask.append(list(self.take(region[5])))
+                found.mask.append(list(self.take(cols)))
                 self.need(max(found.mask[-1]) <= 1, "bad mask")
             row = Raster(
                 name, edges, code, found.rows[-1:], nodata, found.mask and found.mask[-1:]
@@ -267,22 +265,22 @@ class Reader:
     def run(self) -> tuple[list[Raster], bytes, list[Question]]:
         """Return the maps, the script and the questions, or raise the first error."""
         self.need(self.take(8) == b"RCELLQ1\n", "bad magic")
-        return (self.rasters(), *self.script_and_questions())
+        return (self.rasters(*self.region()), *self.script_and_questions())
 
     def run_in_tile(self) -> tuple[Place, list[Raster], bytes, list[Question]]:
         """Return the place, the maps, the script and the questions, or raise the first error."""
         self.need(self.take(8) == b"RCELLW1\n", "bad magic")
         place = Place(*self.numbers("8I"))
         self.need(place.is_possible(), "bad place")
-        maps = self.rasters()
-        self.need(place.is_valid(len(maps[0].rows), len(maps[0].rows[0])), "bad place")
-        return (place, maps, *self.script_and_questions())
+        edges, rows, cols = self.region()
+        self.need(place.is_valid(rows, cols), "bad place")
+        return (place, self.rasters(edges, rows, cols), *self.script_and_questions())
 
-    def rasters(self) -> list[Raster]:
+    def rasters(self, edges: Edges, rows: int, cols: int) -> list[Raster]:
         count, maps = self.number("I"), []
         self.need(1 <= count <= MOST_MAPS, "bad number of maps")
         for self.maps in range(count):
-            maps.append(self.raster())
+            maps.append(self.raster(edges, rows, cols))
         self.maps = count
         return maps
 
@@ -352,7 +350,9 @@ class Response:
         return {"question": self.numbers(1)[0], "rows": self.rows()}
 
     def border(self) -> Frame:
-        [question], begin, (rows, cols) = self.numbers(1), self.at, self.numbers(2, "I")
+        [question], begin = self.numbers(1), self.at
+        self.take(17)
+        rows, cols = self.numbers(2, "I")
         self.take(4 * (4 * cols + 4 * rows + rows))
         return {"question": question, "border": self.data[begin : self.at]}
 

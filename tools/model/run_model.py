@@ -175,7 +175,9 @@ class Run:
         zones = self.tile(question.zones).rows if question.zones else None
         rows = patch_numbers(cells, connectivity)
         numbers = {"kind": b"NUMB", "question": at, "rows": rows}
-        sides = {"kind": b"BORD", "question": at, "border": border(cells, rows)}
+        first = self.place.tile_top, self.place.tile_left
+        own_border = border(cells, rows, connectivity, *first)
+        sides = {"kind": b"BORD", "question": at, "border": own_border}
         measures = {
             "kind": b"PTCH",
             "question": at,

@@ -7,7 +7,7 @@
   tables
 - each error by name, and damaged borders
 - N random maps, cut at random: the numbers and the joined measures must equal the numbers and the
-  measures of the full map's patches
+  measures of the full map's patches, also if closed patches are not joined
 - N random lists of tables; some requests are damaged
 
 The last line is 'N passed, M failed'.
@@ -16,6 +16,7 @@ from __future__ import annotations
 
 import argparse
 import itertools
+import operator
 import os
 import random
 import struct
@@ -67,11 +68,14 @@ Entry = tuple[Line, int]  # a combination and its count
 
 @dataclass(frozen=True)
 class Border:
-    """The first row, last row, first column and last column of a tile, and the number of patches
-    that begin in each row."""
+    """The first row, last row, first column and last column of a tile, the number of patches that
+    begin in each row, the connectivity, and the tile's first row and column in the full map."""
 
     sides: tuple[Side, ...]
     begun: tuple[int, ...]
+    connectivity: int
+    row: int
+    col: int
 
     @property
     def rows(self) -> int:
@@ -86,7 +90,8 @@ class Border:
             NULL if cell is None else cell for side in self.sides for line in side for cell in line
         ]
         begun = struct.pack(f"<{self.rows}I", *self.begun)
-        return struct.pack(f"<II{len(cells)}i", self.rows, self.cols, *cells) + begun
+        head = self.connectivity, self.row, self.col, self.rows, self.cols
+        return struct.pack(f"<B2Q2I{len(cells)}i", *head, *cells) + begun
 
     def patches(self) -> Iterator[tuple[int, int]]:
         """Yield the row in which each patch begins, and its number."""
@@ -130,9 +135,10 @@ class Tables:
         return out
 
 
-def border_of(cells: Cells, connectivity: int) -> Border:
+def border_of(cells: Cells, connectivity: int, row: int, col: int) -> Border:
     own = list(map(list, cells))
-    return JoinReader(border(own, patch_numbers(own, connectivity))).tile(None, None)
+    data = border(own, patch_numbers(own, connectivity), connectivity, row, col)
+    return JoinReader(data).tile(connectivity, (row, col), (None, None))
 
 
 @dataclass(frozen=True)
@@ -153,11 +159,12 @@ class Cut:
     def request(self) -> Tiles:
         return Tiles(
             self.connectivity,
-            tuple(
-                tuple(border_of(part(self.cells, *place), self.connectivity) for place in row)
-                for row in self.rows()
-            ),
+            tuple(tuple(self.border_at(*place) for place in row) for row in self.rows()),
         )
+
+    def border_at(self, rows: slice, cols: slice) -> Border:
+        own = part(self.cells, rows, cols)
+        return border_of(own, self.connectivity, rows.start, cols.start)
 
     def numbering(self) -> Numbering:
         """Return the numbering, by numbering the patches of the full map and of each tile."""
@@ -176,9 +183,29 @@ class Cut:
             parts += parts_of_tile(self.cells, numbers, tile, place, depth)
         return Patches(tuple(self.numbering()[1]), tuple(parts))
 
+    def is_closed(self, one: Part) -> bool:
+        """Return whether a patch has no cell in the first or last row or column of its tile."""
+        rows, cols = list(itertools.chain(*self.rows()))[one.tile - 1]
+        patch = one.patch
+        is_inside_rows = rows.start < patch.first_row and patch.last_row + 1 < rows.stop
+        return is_inside_rows and cols.start < patch.first_col and patch.last_col + 1 < cols.stop
+
     def full_map_patches(self, depth: int) -> Joined:
         """Return the patches of the full map."""
         return list(enumerate(patch_model.patches(self.cells, self.connectivity, depth), 1))
+
+
+def in_place(tiles: Tiles) -> Tiles:
+    """Return tiles whose connectivity and positions are those that the request expects."""
+    rows = itertools.accumulate((line[0].rows for line in tiles.grid), initial=0)
+    grid = (
+        tuple(
+            replace(tile, connectivity=tiles.connectivity, row=row, col=col)
+            for tile, col in zip(line, itertools.accumulate((it.cols for it in line), initial=0))
+        )
+        for row, line in zip(rows, tiles.grid)
+    )
+    return replace(tiles, grid=tuple(grid))
 
 
 def part(cells: Cells, rows: slice, cols: slice) -> Cells:
@@ -283,14 +310,24 @@ class JoinReader(Reader):
         cells = struct.unpack(f"<{count}i", self.take(4 * count))
         return tuple(None if cell == NULL else cell for cell in cells)
 
-    def tile(self, rows: Optional[int], cols: Optional[int]) -> Border:
-        """Read a tile, whose size must equal the given rows and columns."""
+    def tile(
+        self,
+        connectivity: int,
+        place: tuple[int, int],
+        size: tuple[Optional[int], Optional[int]],
+    ) -> Border:
+        """Read a tile with this connectivity, first row and column, and numbers of rows and columns
+        if they are given."""
+        self.need(self.number("B") == connectivity, b"other connectivity")
+        self.need((self.number("Q"), self.number("Q")) == place, b"other place")
+        rows, cols = size
         own_rows, own_cols = self.number("I"), self.number("I")
         self.need(1 <= own_rows <= MOST_SIDE and 1 <= own_cols <= MOST_SIDE, b"bad size")
         self.need(rows in (None, own_rows) and cols in (None, own_cols), b"other size")
         lengths = own_cols, own_cols, own_rows, own_rows
         sides = tuple((self.line(length), self.line(length)) for length in lengths)
-        tile = Border(sides, struct.unpack(f"<{own_rows}I", self.take(4 * own_rows)))
+        begun = struct.unpack(f"<{own_rows}I", self.take(4 * own_rows))
+        tile = Border(sides, begun, connectivity, *place)
         self.need(is_border(tile), b"bad border")
         self.complete += 1
         return tile
@@ -355,12 +392,16 @@ class JoinReader(Reader):
         rows, cols = self.number("I"), self.number("I")
         self.need(1 <= rows * cols <= MOST_TILES, b"bad number of tiles")
         grid: list[tuple[Border, ...]] = []
+        top = 0
         for _ in range(rows):
             line: list[Border] = []
+            left = 0
             for col in range(cols):
-                above = grid[-1][col].cols if grid else None
-                line.append(self.tile(line[0].rows if line else None, above))
+                size = line[0].rows if line else None, grid[-1][col].cols if grid else None
+                line.append(self.tile(connectivity, (top, left), size))
+                left += line[-1].cols
             grid.append(tuple(line))
+            top += line[0].rows
         return Tiles(connectivity, tuple(grid))
 
 
@@ -476,18 +517,56 @@ def named_errors() -> Iterator[tuple[str, bytes]]:
     for sizes in ((0, 1), (1, 0), (0, 0), (2**16, 2**16), (2**32 - 1, 2**32 - 1)):
         yield "bad number of tiles", MAGIC + struct.pack("<BII", 4, *sizes) + data[17:]
     for sizes in ((0, 1), (1, 0), (MOST_SIDE + 1, 1), (1, 2**32 - 1)):
-        yield "bad size", MAGIC + struct.pack("<BIIII", 4, 1, 1, *sizes) + bytes(10**6)
+        yield "bad size", one_tile(4, 0, 0, *sizes)
+    yield from named_place_errors()
     wide, high = (cut_of(text, [0], [0]).request().grid[0][0] for text in ("111", "1 1"))
     one = cut_of("1", [0], [0]).request().grid[0][0]
-    yield "other size", Tiles(4, ((one, high),)).data()
-    yield "other size", Tiles(4, ((one,), (wide,))).data()
+    yield "other size", in_place(Tiles(4, ((one, high),))).data()
+    yield "other size", in_place(Tiles(4, ((one,), (wide,)))).data()
     yield "bytes after the request", data + b"\0"
     yield "bytes after the request", data + data
     yield "request too short", data[:-1]
     yield "request too short", MAGIC + struct.pack("<BII", 8, 1, MOST_TILES)
     for bad in spoiled(tile):
         yield "bad border", Tiles(8, ((bad,),)).data()
-        yield "bad border", Tiles(8, ((tile, bad),)).data()
+        yield "bad border", in_place(Tiles(8, ((tile, bad),))).data()
+
+
+def one_tile(*head: int) -> bytes:
+    """Return a request of connectivity 4 for one tile with this connectivity, first row and column,
+    and numbers of rows and columns."""
+    return MAGIC + struct.pack("<BII", 4, 1, 1) + struct.pack("<B2Q2I", *head) + bytes(10**6)
+
+
+def named_place_errors() -> Iterator[tuple[str, bytes]]:
+    """Yield requests of tiles with another connectivity or in another place."""
+    for connectivity in (0, 1, 5, 8, 12, 255):
+        yield "other connectivity", one_tile(connectivity, 7, 7, 0, 0)
+    for place in ((0, 1), (1, 0), (2**32, 0), (0, 2**63)):
+        yield "other place", one_tile(4, *place, 0, 0)
+    tiles = cut_of("1122 1122 3344 3344 5566", [0, 2, 4], [0, 2]).request()
+    by_corners = in_place(replace(tiles, connectivity=8))
+    yield "other connectivity", replace(tiles, connectivity=8).data()
+    yield "other connectivity", with_tile(tiles, 1, 1, by_corners.grid[1][1]).data()
+    top, middle, low = tiles.grid
+    # Rows of tiles, columns of tiles or two tiles of one size are swapped, or a tile is repeated.
+    yield "other place", replace(tiles, grid=(middle, top, low)).data()
+    yield "other place", replace(tiles, grid=tuple(line[::-1] for line in tiles.grid)).data()
+    yield "other place", replace(tiles, grid=tuple(zip(top, middle))).data()
+    yield "other place", with_tile(tiles, 1, 0, top[0]).data()
+    yield "other place", with_tile(tiles, 1, 1, middle[0]).data()
+    for row, tile in enumerate(line[1] for line in tiles.grid):
+        for by in (-1, 1):
+            yield "other place", with_tile(tiles, row, 1, replace(tile, col=tile.col + by)).data()
+            if row:
+                moved = replace(tile, row=tile.row + by)
+                yield "other place", with_tile(tiles, row, 1, moved).data()
+
+
+def with_tile(tiles: Tiles, row: int, col: int, tile: Border) -> Tiles:
+    line = tiles.grid[row]
+    line = (*line[:col], tile, *line[col + 1 :])
+    return replace(tiles, grid=(*tiles.grid[:row], line, *tiles.grid[row + 1 :]))
 
 
 def named_table_errors() -> Iterator[tuple[str, bytes]]:
@@ -520,15 +599,14 @@ def spoiled(tile: Border) -> Iterator[Border]:
 def randomly_changed(chance: random.Random, tiles: Tiles) -> Tiles:
     """Return tiles of which one has another cell, number or count."""
     row, col = chance.randrange(len(tiles.grid)), chance.randrange(len(tiles.grid[0]))
-    tile, line = tiles.grid[row][col], tiles.grid[row]
+    tile = tiles.grid[row][col]
     side, value = chance.randrange(len(tile.sides)), chance.choice([None, 1, 2, 3, 4])
     at = chance.randrange(len(tile.sides[side][0]))
     tile = changed(tile, side, chance.randrange(2), at, value)
     if chance.random() < 0.2:
         at = chance.randrange(tile.rows)
         tile = replace(tile, begun=(*tile.begun[:at], chance.randrange(4), *tile.begun[at + 1 :]))
-    line = (*line[:col], tile, *line[col + 1 :])
-    return replace(tiles, grid=(*tiles.grid[:row], line, *tiles.grid[row + 1 :]))
+    return with_tile(tiles, row, col, tile)
 
 
 def random_cut(chance: random.Random) -> Cut:
@@ -632,11 +710,20 @@ def check_random_tiles(tests: Tests, chance: random.Random, name: str) -> None:
 
 
 def check_random_patches(tests: Tests, chance: random.Random, name: str) -> None:
-    """Check joined patches. The patches of all tiles must give the patches of the full map."""
+    """Check joined patches. The patches of all tiles must give the patches of the full map, and
+    closed patches must be patches of the full map."""
     cut, depth = random_cut(chance), chance.randint(1, 3)
     request = cut.patches(depth)
-    found, wanted = joined_patches(request), cut.full_map_patches(depth)
-    tests.check(name, "" if found == wanted else f"the models say {found} and {wanted} of {cut}")
+    to_join = replace(request, parts=tuple(it for it in request.parts if not cut.is_closed(it)))
+    together = joined_patches(to_join)
+    for it in filter(cut.is_closed, request.parts):
+        together.append((full_map_number(request.runs, it.tile, it.number) or 0, it.patch))
+    together.sort(key=operator.itemgetter(0))
+    wanted = cut.full_map_patches(depth)
+    for found in (joined_patches(request), together):
+        says = f"the models say {found} and {wanted} of {cut}"
+        tests.check(name, "" if found == wanted else says)
+    tests.check(name, tests.wrong(to_join.data()))
     kind = chance.random()
     if kind < 0.2:
         request = replace(request, parts=tuple(it for it in request.parts if chance.random() < 0.5))

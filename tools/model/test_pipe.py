@@ -257,16 +257,22 @@ def named_errors() -> Iterator[tuple[str, bytes]]:
     good = request([land, zone], script)
     yield "bad magic", b"RCELLQ2" + good[7:]
     yield "bad magic", good.replace(b"\n", b"\r\n", 1)
-    yield "bad number of maps", good[:8] + struct.pack("<I", 0) + good[12:]
-    yield "bad number of maps", good[:8] + struct.pack("<I", 65536) + good[12:]
-    yield "bad name", request([land, replace(zone, name=b"1")], script)
-    yield "name used twice", request([land, land], script)
-    yield "bad number", request([land, replace(zone, edges=(b"2", b"0", b"3", b"1e1"))], script)
+    yield "bad number", request([replace(land, edges=(b"2", b"0", b"3", b"1e1"))], script)
     yield "bad number", request([replace(land, edges=(b"2", b"0.123456789", b"3", b"0"))], script)
     yield "bad region", request([replace(land, edges=(b"0", b"2", b"3", b"0"))], script)
-    yield "bad region", good.replace(struct.pack("<II", 2, 3), struct.pack("<II", 65536, 3), 1)
-    yield "bad region", good.replace(struct.pack("<II", 2, 3), struct.pack("<II", 65535, 32769), 1)
-    yield "other region", request([land, replace(zone, edges=(b"2", b"0", b"3", b"-1"))], script)
+    for rows, cols, maps, text in (
+        (65536, 3, 2, "bad region"),
+        (65535, 32769, 2, "bad region"),
+        (0, 3, 2, "bad region"),
+        (2, 0, 0, "bad region"),
+        (2, 3, 0, "bad number of maps"),
+        (2, 3, 65536, "bad number of maps"),
+    ):
+        yield text, good.replace(
+            struct.pack("<III", 2, 3, 2), struct.pack("<III", rows, cols, maps), 1
+        )
+    yield "bad name", request([land, replace(zone, name=b"1")], script)
+    yield "name used twice", request([land, land], script)
     yield "bad type", request([land], script).replace(
         struct.pack("<BB", 1, 1) + struct.pack("<q", 255), struct.pack("<BBq", 8, 1, 255), 1
     )
@@ -382,10 +388,10 @@ def wrong_announcement(programs: Programs, rows: int, cols: int, labels: int) ->
     """Return the error for a header that announces cells or labels but provides none, with little
     memory."""
     data = (
-        b"RCELLQ1\n"
-        + struct.pack("<I", 1)
-        + b"\4land\0011\0010\0011\0010"
-        + struct.pack("<IIBBqI", rows, cols, 6, 0, 0, labels)
+        b"RCELLQ1\n\0011\0010\0011\0010"
+        + struct.pack("<III", rows, cols, 1)
+        + b"\4land"
+        + struct.pack("<BBqI", 6, 0, 0, labels)
     )
     ran = subprocess.run(
         [programs.pipe],

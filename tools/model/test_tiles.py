@@ -195,6 +195,11 @@ def named_errors() -> Iterator[tuple[str, bytes]]:
         replace(good, tile_top=2**32 - 1, tile_rows=2**32 - 1),
     ):
         yield "bad place", tile_request(wrong, [land], script)
+    outside = replace(good, tile_rows=3)
+    yield "bad place", tile_request(outside, [replace(land, name=b"1")], script)
+    yield "bad region", tile_request(
+        outside, [replace(land, edges=(b"2", b"2", b"3", b"0"))], script
+    )
     yield "", tile_request(good, [land], script)
     yield "", tile_request(replace(good, full_rows=most, full_cols=most), [land], script)
     yield "", tile_request(replace(good, full_rows=6, full_cols=8), [land], script)
