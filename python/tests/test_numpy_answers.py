@@ -518,12 +518,10 @@ class Scripts(unittest.TestCase):
                     f"{left} = {random.choice([output, 1, 2])}{random.choice(['', f' label {at}'])}"
                 )
             script = "\n".join(["r.reclass input=lc output=k", *rules, "end"])
-            given = protocol.Map(
-                "lc", ("1", "0", "121", "0"), 1, 121, "i32", [protocol.Block(cells.data)]
-            )
-            [table] = protocol.run(
-                find_pipe(), [given], f"{script}\nr.stats -l -n input=k".encode()
-            )
+            land = protocol.Map("lc", "i32", [protocol.Block(cells.data)])
+            given = protocol.Maps(("1", "0", "121", "0"), 1, 121, [land])
+            words = f"{script}\nr.stats -l -n input=k".encode()
+            [table] = protocol.run(find_pipe(), given, words)
             assert isinstance(table, protocol.TableFrame) and table.labels is not None
             told = {
                 category: label.decode()

@@ -30,13 +30,15 @@ def cuts(random: np.random.Generator, total: int) -> list[slice]:
     return [slice(*part) for part in zip(ends, ends[1:])]
 
 
-def clumped(cells: Any, connectivity: int) -> tuple[Any, Any]:
-    """Return the clump numbers of a map, and its border."""
-    edges = Region.of_cells(*cells.shape).edges
+def clumped(cells: Any, connectivity: int, row: int = 0, col: int = 0) -> tuple[Any, Any]:
+    """Return the clump numbers and the border of a tile at this position of a large map."""
+    region = Region.of_cells(*cells.shape)
     block = protocol.Block(np.ascontiguousarray(cells).data)
-    sent = protocol.Map("a", edges, *cells.shape, "u8", [block], NULL_CELL)
+    land = protocol.Map("a", "u8", [block], NULL_CELL)
+    sent = protocol.Maps(region.edges, *region.shape, [land])
     question = protocol.Question("a", connectivity, kind=protocol.NUMBERS + protocol.BORDER)
-    numbers, border = protocol.run(programs.find_pipe(), [sent], b"", [question])
+    tile = (1000, 1000, *(row, col) * 2, *cells.shape)
+    numbers, border = protocol.run(programs.find_pipe(), sent, b"", [question], tile)
     return wide(values_of(numbers)), values_of(border)
 
 
@@ -52,7 +54,10 @@ class Tiles(unittest.TestCase):
         )
         rows, cols = (cuts(random, length) for length in cells.shape)
         places = [(row, col) for row in rows for col in cols]
-        numbers, borders = zip(*(clumped(cells[place], connectivity) for place in places))
+        tiles = (
+            clumped(cells[place], connectivity, place[0].start, place[1].start) for place in places
+        )
+        numbers, borders = zip(*tiles)
         joined = join(borders, len(cols), connectivity)
         expected, _ = clumped(cells, connectivity)
         found = np.zeros(cells.shape, np.int64)
@@ -62,14 +67,23 @@ class Tiles(unittest.TestCase):
         self.assertEqual(joined.clumps, max(expected.max(), 0))
 
     def test_borders_that_are_not_of_tiles(self) -> None:
-        (_, one), (_, wide_tile) = clumped(LAND, 4), clumped(LAND[:1], 4)
-        other_number, other_cell = one.copy(), one.copy()
-        other_number[4], other_cell[2] = 9, protocol.NULL
+        (_, one), (_, beside), (_, below) = (
+            clumped(LAND, 4, *at) for at in ((0, 0), (0, 2), (2, 0))
+        )
+        (_, by_corners), (_, low_tile) = clumped(LAND, 8, 0, 2), clumped(LAND[:1], 4, 0, 2)
+        other_number, other_cell = beside.copy(), one.copy()
+        other_number.data[33:37], other_cell.data[25:29] = (
+            struct.pack("<i", number) for number in (9, protocol.NULL)
+        )
         for borders, told in (
-            ([one, wide_tile], "tile 2: other size"),
+            ([one, low_tile], "tile 2: other size"),
             ([one[:-1]], "tile 1: request too short"),
             ([one, other_number], "tile 2: bad border"),
             ([other_cell], "tile 1: bad border"),
+            ([beside, one], "tile 1: other place"),
+            ([one, one], "tile 2: other place"),
+            ([one, below], "tile 2: other place"),
+            ([one, by_corners], "tile 2: other connectivity"),
         ):
             with self.subTest(told=told), self.assertRaisesRegex(rcell.WrongProgram, told):
                 join(borders, len(borders), 4)

@@ -26,14 +26,15 @@ MAGIC = b"RCELLA1\n"
 def a_map(**words: Any) -> protocol.Map:
     given: dict[str, Any] = {
         "name": "lc",
-        "edges": EDGES,
-        "rows": 2,
-        "cols": 3,
         "type": "u8",
         "blocks": [protocol.Block(LAND)],
         **words,
     }
     return protocol.Map(**given)
+
+
+def maps_of(*maps: protocol.Map, rows: int = 2, cols: int = 3) -> protocol.Maps:
+    return protocol.Maps(EDGES, rows, cols, maps)
 
 
 def text(given: bytes) -> bytes:
@@ -126,7 +127,7 @@ class Asked(unittest.TestCase):
 
     def asked(self, *maps: protocol.Map, script: bytes = b"") -> bytes:
         """Return the request of a run."""
-        protocol.run(self.answering(MAGIC + DONE), maps, script)
+        protocol.run(self.answering(MAGIC + DONE), maps_of(*maps), script)
         with open(f"{self.folder}/request", "rb") as file:
             return file.read()
 
@@ -137,13 +138,14 @@ class Requests(Asked):
             a_map(nodata=255, labels={1: "wood", -2: "ä"}), script=b"r.stats input=lc\n"
         )
         head = (
-            b"RCELLQ1\n\1\0\0\0"
-            + b"\2lc"
+            b"RCELLQ1\n"
             + b"\0012"
             + b"\0010"
             + b"\0033.5"
             + b"\3-.5"
-            + struct.pack("<IIBBqI", 2, 3, 1, 1, 255, 2)
+            + struct.pack("<III", 2, 3, 1)
+            + b"\2lc"
+            + struct.pack("<BBqI", 1, 1, 255, 2)
         )
         labels = struct.pack("<iH", 1, 4) + b"wood" + struct.pack("<iH", -2, 2) + "ä".encode()
         self.assertEqual(found, head + labels + LAND + b"\x11\0\0\0r.stats input=lc\n" + bytes(4))
@@ -151,10 +153,10 @@ class Requests(Asked):
     def test_a_question_about_a_tile(self) -> None:
         question = protocol.Question("lc", 8, 300, "z", protocol.PATCHES + protocol.BORDER)
         program, tile = self.answering(MAGIC + DONE), (9, 2**31 - 1, 3, 4, 3, 5, 2, 1)
-        protocol.run(program, [a_map()], b"", [question], tile)
+        protocol.run(program, maps_of(a_map()), b"", [question], tile)
         with open(f"{self.folder}/request", "rb") as file:
             found = file.read()
-        self.assertEqual(found[:44], b"RCELLW1\n" + struct.pack("<8I", *tile) + b"\1\0\0\0")
+        self.assertEqual(found[:42], b"RCELLW1\n" + struct.pack("<8I", *tile) + b"\0012")
         asked = b"\1\0\0\0\5\2lc\x08" + struct.pack("<I", 300) + b"\1z"
         self.assertTrue(found.endswith(LAND + bytes(4) + asked), found)
 
@@ -172,7 +174,7 @@ class Requests(Asked):
                 struct.pack("<3h", 1, -1, 300) + mask[:3] + struct.pack("<3h", 4, 5, 6) + mask[3:]
             )
             self.assertTrue(
-                found.endswith(struct.pack("<IIBBqI", 2, 3, 4, 2, 0, 0) + rows + bytes(8)), found
+                found.endswith(struct.pack("<BBqI", 4, 2, 0, 0) + rows + bytes(8)), found
             )
 
     def test_arrays_of_every_type(self) -> None:
@@ -193,7 +195,7 @@ class Requests(Asked):
             )
             [frame] = protocol.run(
                 find_pipe(),
-                [a_map(type=name, blocks=[protocol.Block(cells.data)])],
+                maps_of(a_map(type=name, blocks=[protocol.Block(cells.data)])),
                 b"r.out.ascii input=lc\n",
             )
             assert isinstance(frame, protocol.GridFrame)
@@ -201,7 +203,7 @@ class Requests(Asked):
 
     def test_questions(self) -> None:
         questions = [protocol.Question("lc", 4, 1), protocol.Question("k", 8, 300, "lc")]
-        found = b"".join(protocol.request([a_map()], b"", questions))
+        found = b"".join(protocol.request(maps_of(a_map()), b"", questions))
         first, second = b"\1\2lc\4\1\0\0\0\0", b"\1\1k\x08\x2c\1\0\0\2lc"
         self.assertTrue(found.endswith(b"\2\0\0\0" + first + second), found)
 
@@ -223,7 +225,7 @@ class Requests(Asked):
 class Answers(Asked):
     def test_each_frame(self) -> None:
         table, grid, cells = protocol.run(
-            self.answering(MAGIC + TABLE + GRID + CELLS + DONE), [a_map()], b""
+            self.answering(MAGIC + TABLE + GRID + CELLS + DONE), maps_of(a_map()), b""
         )
         assert (
             isinstance(table, protocol.TableFrame)
@@ -259,7 +261,7 @@ class Answers(Asked):
         for has_zones, zone in ((0, b""), (1, struct.pack("<i", protocol.NULL))):
             head = b"PTCH" + struct.pack("<QBIBQ", 7, 4, 1, has_zones, 1)
             program = self.answering(MAGIC + head + row + zone + DONE)
-            [frame] = protocol.run(program, [a_map()], b"")
+            [frame] = protocol.run(program, maps_of(a_map()), b"")
             assert isinstance(frame, protocol.PatchesFrame)
             self.assertEqual((frame.question, bytes(frame.rows)), (7, row + zone))
 
@@ -268,7 +270,7 @@ class Answers(Asked):
         wide = struct.pack("<3i", 1, protocol.NULL, 300)
         for code, kind, cells in ((1, "u8", bytes([1, 255, 2])), (6, "i32", wide)):
             program = self.answering(MAGIC + head + bytes([code]) + cells + DONE)
-            [frame] = protocol.run(program, [a_map()], b"")
+            [frame] = protocol.run(program, maps_of(a_map()), b"")
             assert isinstance(frame, protocol.NumbersFrame)
             self.assertEqual((frame.question, frame.rows, frame.cols, frame.type), (7, 1, 3, kind))
             self.assertEqual(bytes(frame.cells), cells)
@@ -324,23 +326,20 @@ class Answers(Asked):
             MAGIC + b"TEXT" + DONE,
         ]:
             with self.subTest(given=given), self.assertRaises(protocol.NoAnswer):
-                protocol.run(self.answering(given), [a_map()], b"")
+                protocol.run(self.answering(given), maps_of(a_map()), b"")
         with self.assertRaisesRegex(protocol.NoAnswer, "ended with status 4 and printed: nothing"):
-            protocol.run(self.answering(answer, "exit 4"), [a_map()], b"")
+            protocol.run(self.answering(answer, "exit 4"), maps_of(a_map()), b"")
 
     def test_a_program_that_stops_reading(self) -> None:
         end = b"DONE" + struct.pack("<5Q", 1, 1, 1, 9, 0) + text(b"cell out of range")
-        large = a_map(
-            rows=3_000,
-            cols=3_000,
-            blocks=iter([protocol.Block(bytes(9_000_000))] + [protocol.Block(b"x")] * 3),
-        )
+        blocks = iter([protocol.Block(bytes(9_000_000))] + [protocol.Block(b"x")] * 3)
+        large = maps_of(a_map(blocks=blocks), rows=3_000, cols=3_000)
         with open(f"{self.folder}/answer", "wb") as file:
             file.write(MAGIC + end)
         with self.assertRaises(protocol.Rejected) as caught:
             protocol.run(
                 self.program(f"head -c 100000 > /dev/null; cat {self.folder}/answer; exit 1"),
-                [large],
+                large,
                 b"",
             )
         found = caught.exception
@@ -351,14 +350,14 @@ class Answers(Asked):
 
     def test_endings(self) -> None:
         with self.assertRaises(protocol.Killed) as caught:
-            protocol.run(self.program("kill -15 $$"), [a_map()], b"")
+            protocol.run(self.program("kill -15 $$"), maps_of(a_map()), b"")
         self.assertEqual(caught.exception.args, (15,))
         with self.assertRaises(TimeoutError):
-            protocol.run(self.program("exec sleep 60"), [a_map()], b"", seconds=0.3)
+            protocol.run(self.program("exec sleep 60"), maps_of(a_map()), b"", seconds=0.3)
         with self.assertRaisesRegex(
             protocol.NotStarted, "No such file or directory: '/nowhere/rcell-pipe'"
         ):
-            protocol.run("/nowhere/rcell-pipe", [a_map()], b"")
+            protocol.run("/nowhere/rcell-pipe", maps_of(a_map()), b"")
 
     def test_who_waits_may_end_it(self) -> None:
         def raising() -> Iterator[protocol.Block]:
@@ -366,17 +365,17 @@ class Answers(Asked):
             raise KeyError("blocks")
 
         with self.assertRaises(KeyError):
-            protocol.run(self.answering(b""), [a_map(blocks=raising())], b"")
+            protocol.run(self.answering(b""), maps_of(a_map(blocks=raising())), b"")
         began = time.monotonic()
 
         def watch() -> None:
             if time.monotonic() > began + 0.5:
                 raise KeyError("watch")
 
-        large = a_map(rows=3_000, cols=3_000, blocks=[protocol.Block(bytes(9_000_000))])
-        for given in (a_map(), large):
+        large = maps_of(a_map(blocks=[protocol.Block(bytes(9_000_000))]), rows=3_000, cols=3_000)
+        for given in (maps_of(a_map()), large):
             with self.assertRaises(KeyError):
-                protocol.run(self.program("exec sleep 60"), [given], b"", watch=watch)
+                protocol.run(self.program("exec sleep 60"), given, b"", watch=watch)
         self.assertLess(time.monotonic(), began + 30)
 
     def test_a_caller_that_has_many_files_open(self) -> None:
@@ -384,10 +383,10 @@ class Answers(Asked):
         resource.setrlimit(resource.RLIMIT_NOFILE, (min(2_048, limits[1]), limits[1]))
         held = [os.open("/dev/null", os.O_RDONLY) for _ in range(1_100)]
         try:
-            large = a_map(rows=3_000, cols=3_000, blocks=[protocol.Block(bytes(9_000_000))])
-            [table] = protocol.run(
-                find_pipe(), [large], b"r.stats -c input=lc\n", watch=lambda: None
+            large = maps_of(
+                a_map(blocks=[protocol.Block(bytes(9_000_000))]), rows=3_000, cols=3_000
             )
+            [table] = protocol.run(find_pipe(), large, b"r.stats -c input=lc\n", watch=lambda: None)
         finally:
             for descriptor in held:
                 os.close(descriptor)
@@ -410,15 +409,9 @@ class Texts(Asked):
                     null,
                     chance.integers(low, high, (rows, cols)),
                 ).astype(dtype)
-                land = protocol.Map(
-                    "land",
-                    (f"{rows}.5", "0.50", f"{cols}", "-0"),
-                    rows,
-                    cols,
-                    kind,
-                    [protocol.Block(cells.data)],
-                    null,
-                )
+                land = protocol.Map("land", kind, [protocol.Block(cells.data)], null)
+                edges = f"{rows}.5", "0.50", f"{cols}", "-0"
+                maps = protocol.Maps(edges, rows, cols, [land])
                 wanted = (
                     f"north: {rows}.5\nsouth: 0.5\neast: {cols}\nwest: 0\nrows: {rows}\ncols: "
                     f"{cols}\n"
@@ -428,13 +421,15 @@ class Texts(Asked):
                     for row in cells.tolist()
                 )
                 self.assertEqual(
-                    b"".join(protocol.text(find_pipe(), [land], b"r.out.ascii input=land")),
+                    b"".join(protocol.text(find_pipe(), maps, b"r.out.ascii input=land")),
                     wanted.encode(),
                 )
 
     def test_text_is_all_that_comes(self) -> None:
         for given in (b"", b"RCELLA1\nDON", MAGIC + DONE + b"7\n", b"7\n" * 300_000 + MAGIC + DONE):
-            self.assertEqual(b"".join(protocol.text(self.answering(given), [a_map()], b"")), given)
+            self.assertEqual(
+                b"".join(protocol.text(self.answering(given), maps_of(a_map()), b"")), given
+            )
 
     def test_rejections(self) -> None:
         rejection = MAGIC + b"DONE" + struct.pack("<5Q", 1, 2, 0, 3, 0) + text(b"unknown map")
@@ -444,12 +439,12 @@ class Texts(Asked):
             (b"7\n", 3, (3, "", 0, "no memory")),
         ):
             with self.assertRaises(protocol.Rejected) as caught:
-                list(protocol.text(self.answering(given, f"exit {status}"), [a_map()], b""))
+                list(protocol.text(self.answering(given, f"exit {status}"), maps_of(a_map()), b""))
             found = caught.exception
             self.assertEqual((found.status, found.source, found.line, found.text), wanted)
         for given, status in ((b"7\n", 1), (rejection, 4), (rejection[:-1], 1)):
             with self.assertRaises(protocol.NoAnswer):
-                list(protocol.text(self.answering(given, f"exit {status}"), [a_map()], b""))
+                list(protocol.text(self.answering(given, f"exit {status}"), maps_of(a_map()), b""))
 
 
 class Runs(unittest.TestCase):
@@ -460,8 +455,6 @@ class Runs(unittest.TestCase):
             maps = [
                 a_map(
                     name=name,
-                    rows=3,
-                    cols=4,
                     type="i32",
                     nodata=protocol.NULL,
                     blocks=[protocol.Block(memoryview(array("i", part)))],
@@ -490,7 +483,8 @@ class Runs(unittest.TestCase):
                 wanted = subprocess.run(
                     [find_program(), f"{folder}/script", *words], capture_output=True, check=True
                 ).stdout
-            self.assertEqual(b"".join(protocol.text(find_pipe(), maps, script)), wanted)
+            found = protocol.text(find_pipe(), maps_of(*maps, rows=3, cols=4), script)
+            self.assertEqual(b"".join(found), wanted)
 
     def test_plans(self) -> None:
         script = (
@@ -540,7 +534,7 @@ class Runs(unittest.TestCase):
             ([a_map(), a_map()], b"", (1, "request", 1, 0, 0, "name used twice")),
         ):
             with self.subTest(told=told), self.assertRaises(protocol.Rejected) as caught:
-                protocol.run(find_pipe(), maps, script)
+                protocol.run(find_pipe(), maps_of(*maps), script)
             self.assertEqual(caught.exception.args, told)
         with self.assertRaises(protocol.Rejected) as caught:
             protocol.plan(find_pipe(), ["lc"], b"\nr.mapcalc x = lc * 0.5")

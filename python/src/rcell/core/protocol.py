@@ -26,6 +26,7 @@ from .requests import (
     Block,
     Buffer,
     Map,
+    Maps,
     Margin,
     Question,
     join_request,
@@ -67,6 +68,7 @@ __all__ = [
     "JoinedPatchesFrame",
     "Killed",
     "Map",
+    "Maps",
     "Margin",
     "NoAnswer",
     "NotStarted",
@@ -228,7 +230,7 @@ class NoAnswer(Exception):
 
 def run(
     program: str,
-    maps: Sequence[Map],
+    maps: Maps,
     script: bytes,
     questions: Sequence[Question] = (),
     tile: Sequence[int] = (),
@@ -244,7 +246,7 @@ def run(
     ----------
     program : str
         The path of rcell-pipe.
-    maps : sequence of Map
+    maps : Maps
     script : bytes
     questions : sequence of Question
     tile : sequence of int
@@ -280,7 +282,7 @@ _REJECTION = b"RCELLA1\nDONE"
 
 def text(
     program: str,
-    maps: Sequence[Map],
+    maps: Maps,
     script: bytes,
     *,
     seconds: Optional[float] = None,
@@ -320,7 +322,7 @@ _PROBE_RESPONSE = [
     struct.pack("<3i", 1, NULL, 2),
     b"\1\xff\2",
     b"\1\xff\2",
-    struct.pack("<19i", 1, 3, *_PROBE_ROWS, 7, 1, 12, 2, 2),
+    struct.pack("<B2Q19i", 8, 0, 1, 1, 3, *_PROBE_ROWS, 7, 1, 12, 2, 2),
     struct.pack("<i8Qi8Q", 7, 1, 2, 1, 0, 0, 0, 1, 1, 12, 1, 2, 2, 0, 0, 0, 3, 3),
 ]
 
@@ -333,10 +335,11 @@ def is_known(program: str, seconds: float) -> bool:
     NotStarted, TimeoutError
         As in `run`.
     """
-    probe = Map("probe", ("1", "0", "4", "0"), 1, 4, "u8", [Block(b"\7\7\xff\14")], nodata=255)
+    probe = Map("probe", "u8", [Block(b"\7\7\xff\14")], nodata=255)
+    maps = Maps(("1", "0", "4", "0"), 1, 4, [probe])
     words = _PROBE_SCRIPT, [_PROBE_QUESTION], _PROBE_TILE
     try:
-        frames = run(program, [probe], *words, seconds=seconds)
+        frames = run(program, maps, *words, seconds=seconds)
     except (Rejected, Killed, NoAnswer):
         return False
     return [bytes(_content(frame)) for frame in frames] == _PROBE_RESPONSE

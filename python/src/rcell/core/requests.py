@@ -15,6 +15,7 @@ __all__ = [
     "Block",
     "Buffer",
     "Map",
+    "Maps",
     "Margin",
     "Question",
     "join_request",
@@ -57,9 +58,6 @@ class Map:
     Attributes
     ----------
     name : str
-    edges : tuple of str
-        The north, south, east and west edges as decimal strings.
-    rows, cols : int
     type : {"u8", "i8", "u16", "i16", "u32", "i32", "i64"}
     blocks : iterable of Block
         All rows from north to south. Blocks are requested one by one while the program reads.
@@ -71,17 +69,14 @@ class Map:
     """
 
     name: str
-    edges: tuple[str, str, str, str]
-    rows: int
-    cols: int
     type: str
     blocks: Iterable[Block]
     nodata: Optional[int] = None
     is_masked: bool = False
     labels: Mapping[int, str] = field(default_factory=dict)
 
-    def pieces(self) -> Iterator[Buffer]:
-        """Yield the bytes that encode the map.
+    def pieces(self, rows: int, cols: int) -> Iterator[Buffer]:
+        """Yield the bytes that encode the map, which must have these numbers of rows and columns.
 
         Raises
         ------
@@ -89,38 +84,53 @@ class Map:
             The blocks do not contain the expected number of rows.
         """
         yield self._head()
-        row_bytes, rows = self.cols * CELL_BYTES[self.type], 0
+        row_bytes, sent = cols * CELL_BYTES[self.type], 0
         for block in self.blocks:
             cells = memoryview(block.cells).cast("B")
-            rows += len(cells) // row_bytes
+            sent += len(cells) // row_bytes
             if self.is_masked:
-                yield from _interleaved(
-                    cells, memoryview(block.mask or b"").cast("B"), row_bytes, self.cols
-                )
+                mask = memoryview(block.mask or b"").cast("B")
+                yield from _interleaved(cells, mask, row_bytes, cols)
             else:
                 yield cells
             if len(cells) % row_bytes:
                 break
-        if rows != self.rows:
-            raise ValueError(f"the map {self.name} must have {self.rows} rows; got {rows}")
+        if sent != rows:
+            raise ValueError(f"the map {self.name} must have {rows} rows; got {sent}")
 
     def _head(self) -> bytes:
         flags = (self.nodata is not None) + 2 * self.is_masked
-        texts = b"".join(_short(text) for text in (self.name, *self.edges))
-        numbers = struct.pack(
-            "<IIBBqI",
-            self.rows,
-            self.cols,
-            _CODES[self.type],
-            flags,
-            self.nodata or 0,
-            len(self.labels),
-        )
+        numbers = _CODES[self.type], flags, self.nodata or 0, len(self.labels)
         labels = b""
         for category, text in self.labels.items():
             label = text.encode("utf-8", "surrogateescape")
             labels += struct.pack("<iH", category, len(label)) + label
-        return texts + numbers + labels
+        return _short(self.name) + struct.pack("<BBqI", *numbers) + labels
+
+
+@dataclass(frozen=True)
+class Maps:
+    """The input maps of a request, which have the same region.
+
+    Attributes
+    ----------
+    edges : tuple of str
+        The north, south, east and west edges as decimal strings.
+    rows, cols : int
+    maps : sequence of Map
+    """
+
+    edges: tuple[str, str, str, str]
+    rows: int
+    cols: int
+    maps: Sequence[Map]
+
+    def pieces(self) -> Iterator[Buffer]:
+        """Yield the bytes that encode the region and the maps, with the errors of `Map.pieces`."""
+        sizes = struct.pack("<III", self.rows, self.cols, len(self.maps))
+        yield b"".join(map(_short, self.edges)) + sizes
+        for each in self.maps:
+            yield from each.pieces(self.rows, self.cols)
 
 
 def _short(text: str) -> bytes:
@@ -205,7 +215,7 @@ class Question(NamedTuple):
 
 
 def request(
-    maps: Sequence[Map],
+    maps: Maps,
     script: bytes,
     questions: Sequence[Question] = (),
     tile: Sequence[int] = (),
@@ -227,13 +237,12 @@ def request(
 
     Examples
     --------
-    >>> next(request([], b"", tile=(9, 9, 0, 0, 1, 1, 2, 3)))[:28]
-    b'RCELLW1\\n\\t\\x00\\x00\\x00\\t\\x00\\x00\\x00\\x00\\x00\\x00\\x00\\x00\\x00\\x00\\x00\\x01\\x00\\x00\\x00'
+    >>> maps = Maps(("3", "0", "2", "0"), 3, 2, [])
+    >>> b"".join(request(maps, b""))[:24]
+    b'RCELLQ1\\n\\x013\\x010\\x012\\x010\\x03\\x00\\x00\\x00\\x02\\x00\\x00\\x00'
     """
-    head = b"RCELLW1\n" + struct.pack("<8I", *tile) if tile else magic
-    yield head + struct.pack("<I", len(maps))
-    for each in maps:
-        yield from each.pieces()
+    yield b"RCELLW1\n" + struct.pack("<8I", *tile) if tile else magic
+    yield from maps.pieces()
     yield struct.pack("<I", len(script)) + script
     yield struct.pack("<I", len(questions)) + b"".join(each.bytes() for each in questions)
 

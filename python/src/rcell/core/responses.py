@@ -43,6 +43,7 @@ _SOURCES = {1: "request", 2: "script", 3: "question"}
 _OPTIONS = "cl1nN"
 _RUN_NUMBERS = 4  # of each run in a JoinFrame
 PATCH_BYTES, ZONE_BYTES = 68, 4
+BORDER_HEAD_BYTES = 17  # before the size of a border: the connectivity and the position
 # Arrays with fewer bytes are assembled from pieces. Larger arrays are read directly into memory.
 DIRECT_BYTES = 1 << 20
 MOST_CELL_BYTES = 1 << 33
@@ -176,9 +177,11 @@ class BorderFrame:
     question : int
         The index of the question, counted from 0.
     border : memoryview
-        32-bit integers: the rows and columns of the map; the cells and the patch numbers of its
-        first row, last row, first column and last column, with `NULL` for null; and, for each row,
-        the number of patches that begin in the row. `requests.join_request` joins such borders.
+        Bytes: the connectivity of the patches, and the first row and column of the map in the full
+        map (`BORDER_HEAD_BYTES`). Then 32-bit integers: the rows and columns of the map; the cells
+        and the patch numbers of its first row, last row, first column and last column, with `NULL`
+        for null; and, for each row, the number of patches that begin in the row.
+        `requests.join_request` joins such borders.
     """
 
     question: int
@@ -372,10 +375,10 @@ class _Response:
         return NumbersFrame(self.count(), *self.map_cells())
 
     def border(self) -> BorderFrame:
-        question, size = self.count(), self.take(8)
-        rows, cols = struct.unpack("<2I", size)
+        question, head = self.count(), self.take(BORDER_HEAD_BYTES + 8)
+        rows, cols = struct.unpack_from("<2I", head, BORDER_HEAD_BYTES)
         lines = self.take(4 * (4 * cols + 5 * rows))  # pairs of rows and columns, and the counts
-        return BorderFrame(question, memoryview(size + lines).cast("i"))
+        return BorderFrame(question, memoryview(head + lines))
 
     def patches(self) -> PatchesFrame:
         question = self.count()

@@ -262,14 +262,13 @@ def check_size(maps: Mapping[str, Source]) -> None:
         raise BadMap(source.name, f"{size}: cut the map first, for example with gdal_translate")
 
 
-def _sent(maps: Mapping[str, Source]) -> list[protocol.Map]:
+def _sent(maps: Mapping[str, Source]) -> protocol.Maps:
     """Convert maps to the program's input maps, whose blocks are sent one after another."""
-    progress = _Progress(sum(source.region.rows * source.region.cols for source in maps.values()))
-    return [
+    region = next(iter(maps.values())).region
+    progress = _Progress(region.rows * region.cols * len(maps))
+    sent = [
         protocol.Map(
             name,
-            source.region.edges,
-            *source.region.shape,
             source.dtype.kind + str(8 * source.dtype.itemsize),
             _pieces(name, source, progress),
             source.nodata,
@@ -277,6 +276,7 @@ def _sent(maps: Mapping[str, Source]) -> list[protocol.Map]:
         )
         for name, source in maps.items()
     ]
+    return protocol.Maps(region.edges, *region.shape, sent)
 
 
 def _pieces(name: str, source: Source, progress: _Progress) -> Iterator[protocol.Block]:

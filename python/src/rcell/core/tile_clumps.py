@@ -20,7 +20,7 @@ from .errors import OutOfMemory, WrongProgram
 from .host import host
 from .programs import find_pipe, program_errors
 from .protocol import NO_MEMORY, NULL
-from .responses import PATCH_BYTES, ZONE_BYTES
+from .responses import BORDER_HEAD_BYTES, PATCH_BYTES, ZONE_BYTES
 
 __all__ = [
     "PATCH",
@@ -89,13 +89,18 @@ class Joined:
 def open_clumps(border: Integers) -> Integers:
     """Return the clumps in the border of a tile, which may continue outside the tile.
 
+    By the law `closed_patches_are_full_map_patches`, the other clumps are clumps of the full map.
+
     Examples
     --------
-    >>> open_clumps(np.array([1, 2] + [8, NULL, 1, NULL] * 2 + [8, 1, NULL, NULL, 1])).tolist()
+    >>> head = np.zeros(BORDER_HEAD_BYTES, np.uint8)
+    >>> sides = np.array([1, 2] + [8, NULL, 1, NULL] * 2 + [8, 1, NULL, NULL, 1], np.int32)
+    >>> open_clumps(np.concatenate([head, sides.view(np.uint8)])).tolist()
     [1]
     """
-    rows, cols = border[:2]
-    lines = np.split(border[2:-rows], np.cumsum([cols] * 4 + [rows] * 3))
+    sides = border[BORDER_HEAD_BYTES:].view(np.int32)
+    rows, cols = sides[:2]
+    lines = np.split(sides[2:-rows], np.cumsum([cols] * 4 + [rows] * 3))
     clumps: Integers = np.setdiff1d(np.concatenate(lines[1::2]), NULL)
     return clumps
 
@@ -119,8 +124,10 @@ def join(borders: Sequence[Integers], columns: int, connectivity: int) -> Joined
 
     Examples
     --------
-    >>> border = np.array([1, 1] + [4, 1] * 4 + [1], np.int32)  # a tile with one cell of class 4
-    >>> joined = join([border, border], columns=1, connectivity=4)
+    >>> import struct
+    >>> sides = np.array([1, 1] + [4, 1] * 4 + [1], np.int32)  # a tile with one cell of class 4
+    >>> tiles = [struct.pack("<B2Q", 4, row, 0) + sides.tobytes() for row in (0, 1)]
+    >>> joined = join([np.frombuffer(tile, np.uint8) for tile in tiles], columns=1, connectivity=4)
     >>> joined.clumps, joined.numbers_of(1).tolist()
     (1, [-2147483648, 1])
     """
@@ -135,6 +142,12 @@ def join(borders: Sequence[Integers], columns: int, connectivity: int) -> Joined
 
 def join_patches(joined: Joined, patches: Sequence[tuple[Integers, Integers]]) -> Integers:
     """Join patches of tiles, and combine their measures.
+
+    By the law `joined_parts_are_full_map_patches`, these are patches of the full map if all open
+    clumps with their numbers are given.
+
+    By the law `joined_parts_are_full_map_patches`, these are patches of the full map if all open
+    clumps with their numbers are given.
 
     Parameters
     ----------

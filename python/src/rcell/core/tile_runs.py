@@ -242,8 +242,8 @@ class _Tiles:
     def measure(self, plan: Sequence[Statement], question: Question, fold: Fold) -> None:
         """Pass each tile's patch measures and tables to a fold.
 
-        By the law `halo_determines_measures`, the measures are the full map's. The first column of
-        each table is the patch number.
+        By the law `tile_questions_have_full_map_measures`, the measures are the full map's. The
+        first column of each table is the patch number.
         """
         question, borders = question._replace(zones="", kind=PATCHES + BORDER), {}
         found = self._run(self._script(plan, outputs_in(plan)), question)

@@ -104,10 +104,12 @@ def run_work(work: TileWork) -> TileDone:
 def _frames(work: TileWork, sent: Sequence[protocol.Map]) -> list[protocol.Frame]:
     """Run the program over the tile with its halo, and return the frames."""
     tile = (*work.shape, work.outer.top, work.outer.left, *work.place)
+    region = Region.of_cells(work.outer.rows, work.outer.cols)
+    maps = protocol.Maps(region.edges, *region.shape, sent)
     try:
         with program_errors(work.text, list(work.maps), path := find_pipe()):
             words = protocol.script_bytes(work.text)
-            return protocol.run(path, sent, words, work.questions, tile, watch=host().watch)
+            return protocol.run(path, maps, words, work.questions, tile, watch=host().watch)
     except OutOfMemory as error:
         problem = f"{error.text} for a tile of {work.outer.rows} x {work.outer.cols} cells"
         raise OutOfMemory(problem, "arguments", status=error.status) from None
@@ -126,9 +128,6 @@ def _sent(work: TileWork, name: str, source: Any, watches: Mapping[str, Watch]) 
     mask = None if block.null is None else block.null.view(np.uint8).data
     return protocol.Map(
         name,
-        edges=Region.of_cells(outer.rows, outer.cols).edges,
-        rows=outer.rows,
-        cols=outer.cols,
         type=piece.dtype.kind + str(8 * piece.dtype.itemsize),
         blocks=[protocol.Block(block.cells.data, mask)],
         nodata=piece.nodata,
