@@ -33,23 +33,24 @@ short_text <- function(text) {
   c(as.raw(length(bytes)), bytes)
 }
 
+region_bytes <- function(region) {
+  c(unlist(lapply(region$edges, short_text)), bytes_of(c(region$rows, region$cols)))
+}
+
 # Return the bytes that precede a map's cells, which are sent as 32-bit integers.
-map_head <- function(name, region) {
+map_head <- function(name) {
   # R stores NA as -2147483648. A nodata value has 64 bits; the upper half of this one is -1.
   nodata <- bytes_of(c(NA, -1L))
   count_of_labels <- bytes_of(0L) # labels are not sent, because they may contain any text
-  c(
-    short_text(name), unlist(lapply(region$edges, short_text)),
-    bytes_of(c(region$rows, region$cols)), as.raw(c(TYPE_I32, HAS_NODATA)), nodata, count_of_labels
-  )
+  c(short_text(name), as.raw(c(TYPE_I32, HAS_NODATA)), nodata, count_of_labels)
 }
 
 # Return a request: a function that writes its bytes with the function it is given. A source has
-# `cells`, or a raster that is read in blocks of rows.
+# `cells`, or a raster that is read in blocks of rows. All sources have the same region.
 run_request <- function(sources, script, questions = list()) function(write) {
-  write(c(REQUEST_MAGIC, bytes_of(length(sources))))
+  write(c(REQUEST_MAGIC, region_bytes(sources[[1]]$region), bytes_of(length(sources))))
   for (source in sources) {
-    write(map_head(source$name, source$region))
+    write(map_head(source$name))
     each_block(source, write)
   }
   bytes <- unlist(lapply(questions, question_bytes))
