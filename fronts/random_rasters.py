@@ -390,7 +390,7 @@ def answer_of_grass(asked: Asked) -> Answer:
     }
     inputs = [rcell.Input(name, f"{path}.cells") for name, path in zip(asked.names, asked.paths)]
     with handing_out():
-        maps = [rcell.source_of(it, {}, region, rcell.Progress(1)) for it in inputs]
+        maps = rcell.sources_of(inputs, {}, region, rcell.Progress(1))
         return (
             parsed(
                 asked,

@@ -166,21 +166,22 @@ def edge_texts(region):
     return tuple("0" if text == "-0" else text for text in texts)
 
 
-def source_of(raster, labels, region, progress):
-    """Return a raster map for rcell-pipe, whose rows r.out.bin exports as they are read."""
-    from rcell.core.protocol import Map
+def sources_of(rasters, labels, region, progress):
+    """Return raster maps for rcell-pipe, whose rows r.out.bin exports as they are read."""
+    from rcell.core.protocol import Map, Maps
 
     rows, cols = region["rows"], region["cols"]
-    return Map(
-        name=raster.name,
-        edges=edge_texts(region),
-        rows=rows,
-        cols=cols,
-        type="i32",
-        blocks=blocks_of(raster.map, rows, cols, progress),
-        nodata=NULL,
-        labels=labels,
-    )
+    maps = [
+        Map(
+            name=raster.name,
+            type="i32",
+            blocks=blocks_of(raster.map, rows, cols, progress),
+            nodata=NULL,
+            labels=labels.get(raster.name, {}),
+        )
+        for raster in rasters
+    ]
+    return Maps(edge_texts(region), rows, cols, maps)
 
 
 def blocks_of(raster, rows, cols, progress):
@@ -365,7 +366,7 @@ def tables_of(script, statements, sources):
     if all(statement.made for statement in statements):  # each makes a map, and none writes text
         return
     maps = sources()
-    with stopping_on_faults(script, [source.name for source in maps]):
+    with stopping_on_faults(script, [source.name for source in maps.maps]):
         yield from protocol.text(program(), maps, script.encode("utf-8", "surrogateescape"))
 
 
@@ -387,7 +388,7 @@ def maps_of(script, statements, sources, outputs, labels):
     lines += ["r.out.ascii input=%s" % output.name for output in outputs]
     lines += ["r.stats -l -n input=%s" % name for name in labelled]
     new_script = "\n".join(lines).encode("utf-8", "surrogateescape")
-    with stopping_on_faults(script, [source.name for source in maps]):
+    with stopping_on_faults(script, [source.name for source in maps.maps]):
         frames = protocol.run(program(), maps, new_script)
     cells, tables = frames[: len(outputs)], frames[len(outputs) :]
     return cells, dict(zip(labelled, tables))
@@ -580,9 +581,7 @@ def done(options, flags):
     progress = Progress(region["rows"] * (runs * len(inputs) + len(outputs)))
 
     def sources():
-        return [
-            source_of(raster, labels.get(raster.name, {}), region, progress) for raster in inputs
-        ]
+        return sources_of(inputs, labels, region, progress)
 
     with table_file(options["table"], options["script"]) as table:
         with open(table.path(), "wb") as file:

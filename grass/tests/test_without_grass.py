@@ -87,7 +87,7 @@ class Session(unittest.TestCase):
 
         def sources():
             raster = rcell.Input("a", f"{self.room}/a")
-            return [rcell.source_of(raster, labels, REGION, rcell.Progress(1))]
+            return rcell.sources_of([raster], {"a": labels}, REGION, rcell.Progress(1))
 
         text = b"".join(rcell.tables_of(script, statements, sources)).decode()
         return text, *rcell.maps_of(script, statements, sources, wanted, {"a": labels})
