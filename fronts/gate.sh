@@ -11,12 +11,28 @@ if command -v Rscript > /dev/null; then
     R CMD INSTALL --no-docs --no-byte-compile --no-test-load --library="$room/library" r/rcell > "$room/log" 2>&1 || tail -n 3 "$room/log"
     export R_LIBS="$room/library"
 fi
-add 'the table of cases' /usr/bin/python3 fronts/run.py "$@"
+# Each of them waits for one package after another, so they run side by side.
+begin() {
+    name=$1
+    shift
+    { "$@" > "$room/$name.lines"; echo $? > "$room/$name.status"; } &
+}
+ended() {
+    cat "$room/$1.lines"
+    return "$(cat "$room/$1.status")"
+}
+begin cases /usr/bin/python3 fronts/run.py "$@"
 if /usr/bin/python3 -c 'import numpy, osgeo, scipy' 2> /dev/null; then
-    add 'random calls' /usr/bin/python3 fronts/random_calls.py --count "${CALLS:-100}" "$@"
-    add 'old mistakes in random calls' /usr/bin/python3 fronts/random_calls.py --plants
-    add 'random rasters' /usr/bin/python3 fronts/random_rasters.py "$@"
+    begin calls /usr/bin/python3 fronts/random_calls.py --count "${CALLS:-100}" "$@"
+    begin plants /usr/bin/python3 fronts/random_calls.py --plants
+    begin rasters /usr/bin/python3 fronts/random_rasters.py "$@"
+    wait
+    add 'random calls' ended calls
+    add 'old mistakes in random calls' ended plants
+    add 'random rasters' ended rasters
 else
     skip fronts/rasters 'GDAL for Python, numpy or scipy is not installed' python3-gdal python3-numpy python3-scipy
 fi
+wait
+add 'the table of cases' ended cases
 closing

@@ -25,6 +25,7 @@ import subprocess
 import sys
 import tempfile
 import time
+from concurrent.futures import ThreadPoolExecutor
 from dataclasses import dataclass, field
 from typing import Any, Callable, NamedTuple
 
@@ -417,12 +418,13 @@ def answer_of_shell(asked: Asked) -> Answer:
 
 def answer_of_program(asked: Asked, text_of: Callable[[str], bytes]) -> Answer:
     """Return the output of rcell itself for grids."""
-    words = [os.environ["RCELL"], f"{asked.paths[0]}.script"]
-    for name, path in zip(["", *asked.names], [words[1], *asked.paths]):
-        pathlib.Path(path if not name else f"{path}.grid").write_bytes(
-            text_of(path) if name else asked.script.encode()
-        )
-        words += [f"{name}={path}.grid"] * bool(name)
+    script = f"{asked.paths[0]}.script"
+    pathlib.Path(script).write_text(asked.script, encoding="ascii")
+    grids = [f"{path}.grid" for path in asked.paths]
+    with ThreadPoolExecutor() as pool:
+        for grid, text in zip(grids, pool.map(text_of, asked.paths)):
+            pathlib.Path(grid).write_bytes(text)
+    words = [os.environ["RCELL"], script, *map("=".join, zip(asked.names, grids))]
     ran = subprocess.run(words, capture_output=True, check=False)
     if ran.returncode:
         raise ValueError(ran.stderr.decode())
