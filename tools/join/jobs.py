@@ -11,7 +11,7 @@ from made_cases import NAMES, ScriptMaker
 from model import Refused
 from model_expressions import FUNCTIONS, Call
 from patch_model import Cells
-from pipe_model import BORDER, NULL, NUMBERS, PATCHES, TYPES, Edges, Question, Raster
+from pipe_model import BORDER, NULL, NUMBERS, PATCHES, TEXT_GRID, TYPES, Edges, Question, Raster
 from test_pipe import random_edges
 from test_plan import Need, reads_of, within
 from test_tiles import statements_of
@@ -21,7 +21,11 @@ POSITIONS = [FUNCTIONS[name] for name in (b"row", b"col", b"nrows", b"ncols")]
 
 
 def raster_of(draw: random.Random, name: bytes, edges: Edges, cells: Cells) -> Raster:
-    """Return a map of a random type that has these cells. A mask or nodata marks null."""
+    """Return a map of a random type that has these cells, in one of six cases a text grid. In
+    other maps, a mask or nodata marks null."""
+    if draw.random() < 1 / 6:
+        numbers = [[NULL if cell is None else cell for cell in row] for row in cells]
+        return Raster(name, edges, TEXT_GRID, numbers, NULL)
     values = {it for row in cells for it in row if it is not None}
     code, (_, least, most) = draw.choice(
         [it for it in TYPES.items() if all(it[1][1] <= value <= it[1][2] for value in values)]

@@ -11,7 +11,7 @@ import test_join
 import test_plan
 from fuzz import damaged_bytes
 from joined_patches import Patches
-from pipe_model import Place, Question, Raster, request, tile_request
+from pipe_model import NULL, TEXT_GRID, Place, Question, Raster, request, tile_request
 from run_model import RUN, TEXT, TILE, wrong_run
 from test_join import BadRequest, JoinReader, Tables, Tiles, in_place
 
@@ -39,10 +39,12 @@ def small_requests() -> Iterator[tuple[str, bytes]]:
     zone = replace(land, name=b"z", type=4, mask=[[0, 0, 1], [0, 0, 0]], labels=[])
     script = b"r.mapcalc b=a[0,1]\nr.clump input=b output=k\nr.stats -cl input=k,z\n"
     script += b"r.out.ascii input=b\n"
+    town = replace(land, type=TEXT_GRID, rows=[[1, NULL, 2], [2, 7, 1]], nodata=NULL)
     asked = [Question(b"b", 8, 2, b"z", kind=7), Question(b"z", kind=6)]
     run = request([land, zone], script, asked)
     yield "run", run
     yield "text", TEXT + request([land], script.replace(b"k,z", b"k"))[8:]
+    yield "text grid", request([town], script.replace(b"k,z", b"k"))
     place = Place(9, 8, 4, 5, 4, 5, 2, 2)
     yield "tile", tile_request(place, [land, zone], script.replace(b"-cl", b"-c"), asked)
     yield "plan", test_plan.request([b"a", b"z"], script)

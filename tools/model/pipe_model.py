@@ -7,6 +7,7 @@ import struct
 from dataclasses import dataclass, field
 from typing import Any, Callable, Iterable, Optional, Sequence
 
+from model_grids import GridText, Region, Told
 from patch_model import Cells, Patch
 
 NULL = -(2**31)
@@ -20,6 +21,7 @@ TYPES = {
     6: ("i", NULL, 2**31 - 1),
     7: ("q", -(2**63), 2**63 - 1),
 }
+TEXT_GRID = 8  # the type of a map that is sent as a text
 PATCHES, NUMBERS, BORDER = 1, 2, 4  # the kind of a question is the sum of these
 NAME = re.compile(rb"[A-Za-z_][A-Za-z0-9_.]{0,63}")
 COORDINATE = re.compile(rb"([+-]?)(\d{0,10})(?:\.(\d{0,8}))?")
@@ -34,7 +36,8 @@ Extent = tuple[Edges, int, int]  # with the numbers of rows and columns
 
 @dataclass
 class Raster:
-    """A map of a request: its numbers and its mask, row by row."""
+    """A map of a request: its numbers and its mask, row by row. A text grid also has its text; if
+    this is None, the rows are written as rcell prints them."""
 
     name: bytes
     edges: Edges
@@ -43,6 +46,7 @@ class Raster:
     nodata: Optional[int] = None
     mask: Optional[list[Row]] = None
     labels: list[tuple[int, bytes]] = field(default_factory=list)
+    text: Optional[bytes] = None
 
     def cells(self) -> list[list[Optional[int]]]:
         """Return the rows as categories and None."""
@@ -123,17 +127,26 @@ def request(maps: list[Raster], script: bytes, questions: Sequence[Question] = (
     size = len(first.rows), len(first.rows[0])
     out = b"RCELLQ1\n" + b"".join(map(short, first.edges))
     out += struct.pack("<III", *size, len(maps))
-    for it in maps:
-        flags = (it.nodata is not None) + 2 * (it.mask is not None)
-        out += short(it.name)
-        out += struct.pack("<BBqI", it.type, flags, it.nodata or 0, len(it.labels))
-        for category, text in it.labels:
-            out += struct.pack("<iH", category, len(text)) + text
-        for place, row in enumerate(it.rows):
-            out += struct.pack(f"<{len(row)}{TYPES[it.type][0]}", *row)
-            out += bytes(it.mask[place]) if it.mask is not None else b""
+    out += b"".join(map(map_data, maps))
     asked = struct.pack("<I", len(questions)) + b"".join(it.data() for it in questions)
     return out + struct.pack("<I", len(script)) + script + asked
+
+
+def map_data(it: Raster) -> bytes:
+    """Return the bytes of a map in a request."""
+    flags, nodata = (it.nodata is not None) + 2 * (it.mask is not None), it.nodata or 0
+    if it.type == TEXT_GRID:
+        flags = nodata = 0
+    out = short(it.name) + struct.pack("<BBqI", it.type, flags, nodata, len(it.labels))
+    for category, text in it.labels:
+        out += struct.pack("<iH", category, len(text)) + text
+    if it.type == TEXT_GRID:
+        text = grid_text(it.edges, it.cells()) if it.text is None else it.text
+        return out + struct.pack("<Q", len(text)) + text
+    for place, row in enumerate(it.rows):
+        out += struct.pack(f"<{len(row)}{TYPES[it.type][0]}", *row)
+        out += bytes(it.mask[place]) if it.mask is not None else b""
+    return out
 
 
 def border(cells: Cells, numbers: Cells, connectivity: int, row: int, col: int) -> bytes:
@@ -156,8 +169,8 @@ def border(cells: Cells, numbers: Cells, connectivity: int, row: int, col: int) 
 
 
 class Rejected(Exception):
-    """The first error of a request: its text, the number of complete maps before it, and its row or
-    question, or 0 if it is in neither."""
+    """The first error of a request: its text, the number of complete maps before it, and its row,
+    its question or its line in a text grid, or 0 if it is in none of them."""
 
     def __init__(self, text: str, maps: int = 0, row: int = 0):
         super().__init__(text, maps, row)
@@ -231,7 +244,9 @@ class Reader:
 
     def raster(self, edges: Edges, rows: int, cols: int) -> Raster:
         name, code = self.name(), self.number("B")
-        self.need(code in TYPES, "bad type")
+        self.need(code in TYPES or code == TEXT_GRID, "bad type")
+        if code == TEXT_GRID:
+            return self.text_grid(name, edges, rows, cols)
         flags = self.number("B")
         self.need(flags <= 3, "bad flags")
         nodata = self.nodata(code, flags)
@@ -249,6 +264,18 @@ class Reader:
             )
         self.row = 0
         return found
+
+    def text_grid(self, name: bytes, edges: Edges, rows: int, cols: int) -> Raster:
+        self.need(self.number("B") == 0, "bad flags")
+        self.need(self.number("q") == 0, "bad nodata")
+        labels, text = self.labels(), self.take(self.number("Q"))
+        found = GridText(text).read()
+        if isinstance(found, Told):
+            raise Rejected(found.text, self.maps, found.line)
+        region = Region(*(units(edge) or 0 for edge in edges), rows, cols)
+        self.need(found.region == region, "other region")
+        numbers = [[NULL if cell is None else cell for cell in row] for row in found.rows]
+        return Raster(name, edges, TEXT_GRID, numbers, NULL, None, labels, text)
 
     def question(self) -> Question:
         kind = self.number("B")
@@ -414,21 +441,19 @@ def header(edges: Iterable[bytes], rows: int, cols: int) -> bytes:
     )
 
 
+def grid_text(edges: Iterable[bytes], rows: Cells, null: bytes = b"*") -> bytes:
+    """Return the text that `rcell` prints for a map."""
+    lines = (b" ".join(cell_text(cell, null) for cell in row) + b"\n" for row in rows)
+    other_null = b"" if null == b"*" else b"null: " + null + b"\n"
+    return header(edges, len(rows), len(rows[0])) + other_null + b"".join(lines)
+
+
 def printed(frame: Frame) -> bytes:
     """Return the text that `rcell` prints for a frame, or nothing for a question."""
     if frame["kind"] in (b"NUMB", b"BORD", b"PTCH"):
         return b""
     if frame["kind"] == b"GRID":
-        null = b"" if frame["null"] == b"*" else b"null: " + frame["null"] + b"\n"
-        rows = (
-            b" ".join(cell_text(cell, frame["null"]) for cell in row) + b"\n"
-            for row in frame["rows"]
-        )
-        return (
-            header(frame["edges"], len(frame["rows"]), len(frame["rows"][0]))
-            + null
-            + b"".join(rows)
-        )
+        return grid_text(frame["edges"], frame["rows"], frame["null"])
     out = b""
     for place, cells in enumerate(frame["cells"]):
         fields = []

@@ -6,6 +6,7 @@
 - N random requests of all types, with nodata, masks, labels and scripts of tools/model/fuzz.py: the
   printed frames must be the output of rcell, and errors of scripts the errors of rcell. As text,
   the response must be this output or error. With questions, the response must be the model's.
+- N random grid texts, many with errors: the response must be what rcell prints for such a file
 - the request of the crate rcell_pipe, and the response that the gate compares with the proved
   program's
 - each error of a request by name: the response must be the model's
@@ -31,12 +32,15 @@ from typing import Iterator, Optional
 
 import cases
 import run_model
-from made_cases import NAMES, ScriptMaker
+from made_cases import NAMES, GridMaker, ScriptMaker
 from model import Refused, ScriptReader
+from model_grids import GridText, Told, coordinate_text
 from pipe_model import (
     NULL,
     NUMBERS,
     PATCHES,
+    SIDES,
+    TEXT_GRID,
     TYPES,
     UNITS,
     Edges,
@@ -44,8 +48,7 @@ from pipe_model import (
     Question,
     Raster,
     Response,
-    cell_text,
-    header,
+    grid_text,
     printed,
     request,
 )
@@ -90,8 +93,7 @@ class Programs:
         script to set labels with r.reclass."""
         words, before = [b"script"], b""
         for place, it in enumerate(maps):
-            rows = (b" ".join(cell_text(cell, b"*") for cell in row) + b"\n" for row in it.cells())
-            self.put(f"{place}", header(it.edges, len(it.rows), len(it.rows[0])) + b"".join(rows))
+            self.put(f"{place}", grid_text(it.edges, it.cells()))
             words.append(b"q%d=%d" % (place, place))
             labels = b"".join(
                 b"%d = %d %s\n" % (category, category, text)
@@ -141,7 +143,22 @@ def random_raster(choice: random.Random, name: bytes, edges: Edges, rows: int, c
         (choice.randint(low, high), choice.choice(LABELS))
         for _ in range(choice.choice([0, 0, 1, 4]))
     ]
-    return Raster(name, edges, code, table, nodata, mask, labels)
+    found = Raster(name, edges, code, table, nodata, mask, labels)
+    return as_text_grid(choice, found) if choice.random() < 0.2 else found
+
+
+def as_text_grid(choice: random.Random, it: Raster) -> Raster:
+    """Return the same map as a text, in one of many spellings."""
+    maker, cells = GridMaker(choice), it.cells()
+    maker.badness, maker.cols = 0, len(cells[0])
+    null = choice.choice([b"*", b"*", b"NA", b"x" * 59])
+    sizes = (b"rows", b"%d" % len(cells)), (b"cols", b"%d" % len(cells[0])), (b"null", null)
+    lines = [*zip(SIDES, it.edges), *(sizes if null != b"*" else sizes[:2])]
+    choice.shuffle(lines)
+    words = [null if cell is None else maker.spelled(cell) for row in cells for cell in row]
+    text = maker.laid_out([maker.header_line(*line) for line in lines], words)
+    rows = [[NULL if cell is None else cell for cell in row] for row in cells]
+    return Raster(it.name, it.edges, TEXT_GRID, rows, NULL, None, it.labels, text)
 
 
 def random_edges(choice: random.Random) -> Edges:
@@ -274,8 +291,9 @@ def named_errors() -> Iterator[tuple[str, bytes]]:
     yield "bad name", request([land, replace(zone, name=b"1")], script)
     yield "name used twice", request([land, land], script)
     yield "bad type", request([land], script).replace(
-        struct.pack("<BB", 1, 1) + struct.pack("<q", 255), struct.pack("<BBq", 8, 1, 255), 1
+        struct.pack("<BB", 1, 1) + struct.pack("<q", 255), struct.pack("<BBq", 9, 1, 255), 1
     )
+    yield from named_errors_of_text_grids(land, script)
     yield "bad flags", request([land], script).replace(
         struct.pack("<BBq", 1, 1, 255), struct.pack("<BBq", 1, 4, 255), 1
     )
@@ -305,6 +323,36 @@ def named_errors() -> Iterator[tuple[str, bytes]]:
     yield "bytes after the request", good + b"\n"
     yield "bytes after the request", good + good
     yield "request too short", b""
+
+
+def named_errors_of_text_grids(land: Raster, script: bytes) -> Iterator[tuple[str, bytes]]:
+    """Yield a request for each error of a text grid."""
+    text, zone = grid_text(land.edges, land.cells()), replace(land, name=b"zone", type=TEXT_GRID)
+    good, maps = request([land, zone], script), [land, zone]
+    format_of_texts = struct.pack("<BBq", TEXT_GRID, 0, 0)
+    for flags, number, words in ((1, 0, "bad flags"), (4, 0, "bad flags"), (0, 255, "bad nodata")):
+        yield words, good.replace(format_of_texts, struct.pack("<BBq", TEXT_GRID, flags, number), 1)
+    yield "request too short", good[: good.index(text) + len(text) - 1]
+    yield "request too short", good.replace(struct.pack("<Q", len(text)), b"\xff" * 8, 1)
+    yield "bad label", request([replace(zone, labels=[(1, b"a\nb")], text=b"x")], script)
+    for old, new, words in (
+        (b"west: 0", b"west: 1", "other region"),
+        (b"rows: 2\ncols: 3", b"rows: 3\ncols: 2", "other region"),
+        (b"north: 2", b"north: 2 2", "bad header line"),
+        (b"south", b"north", "key given twice"),
+        (b"rows: 2\n", b"", "missing key"),
+        (b"cols: 3", b"cols: 3.5", "bad number"),
+        (b"cols: 3", b"cols: 3\ntype: float", "type not supported"),
+        (b"rows: 2", b"rows: 0", "bad region"),
+        (b" *", b" a", "bad cell"),
+        (b" *", b" 2147483648", "cell out of range"),
+        (b" *", b"", "too few cells"),
+        (b" *", b" * *", "too many cells"),
+        (b" *", b" *" + b" " * 1048577, "too many blanks"),
+        (b" *", b" " + b"1" * 65, "token too long"),
+    ):
+        yield words, request([*maps[:1], replace(zone, text=text.replace(old, new, 1))], script)
+    yield "missing key", request([replace(zone, text=b"")], script)
 
 
 def named_errors_of_questions(maps: list[Raster], script: bytes) -> Iterator[tuple[str, bytes]]:
@@ -352,6 +400,39 @@ def check_random(programs: Programs, count: cases.Count, choice: random.Random, 
         count.add(f"request {number}, by rcell", wrong_run(programs, maps, script))
         data = request(maps, script, questions)
         count.add(f"request {number}, by the model", wrong_response(programs, data))
+
+
+def wrong_text(programs: Programs, text: bytes) -> str:
+    """Return the error in the response to a map that is sent as a text, compared with rcell's
+    output for this text in a file. If it has an error, its region is unknown."""
+    found, script = GridText(text).read(), b"r.stats -cn input=g\n"
+    region, edges = None if isinstance(found, Told) else found.region, (b"2", b"0", b"3", b"0")
+    rows = [[0]] if region is None else [[0] * region.cols] * region.rows
+    if region is not None:
+        sides = region.north, region.south, region.east, region.west
+        edges = tuple(map(coordinate_text, sides))
+    data = request([Raster(b"g", edges, TEXT_GRID, rows, text=text)], script)
+    programs.put("text", text)
+    programs.put("script", script)
+    ran = subprocess.run(
+        [programs.rcell, b"script", b"g=text"],
+        cwd=programs.room,
+        stdin=subprocess.DEVNULL,
+        capture_output=True,
+        timeout=SECONDS,
+    )
+    *frames, end = programs.frames(data)
+    message = b"rcell: g:%d: %s\n" % (end["line"], end["text"]) if end["status"] else b""
+    same = b"".join(map(printed, frames)), message, end["status"], end["source"], end["maps"]
+    wanted = ran.stdout, ran.stderr, ran.returncode, int(ran.returncode != 0), 0
+    return "" if same == wanted else f"{text!r}: {same} is not {wanted}"
+
+
+def check_texts(programs: Programs, count: cases.Count, choice: random.Random, runs: int) -> None:
+    for number in range(runs):
+        maker = GridMaker(choice)
+        maker.badness = choice.choice([0, 0.005, 0.02, 0.1])
+        count.add(f"text {number}", wrong_text(programs, maker.grid()))
 
 
 # What the system does
@@ -583,6 +664,7 @@ def main() -> int:
         count.add("the request of the crate", wrong_crate(programs))
         check_errors(programs, count)
         check_random(programs, count, choice, given.runs)
+        check_texts(programs, count, choice, given.runs)
         check_system(programs, count, given.clang)
     print(f"{count.passed} passed, {count.failed} failed")
     return 1 if count.failed else 0

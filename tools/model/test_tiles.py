@@ -123,6 +123,7 @@ def cut_maps(maps: list[Raster], height: Span, width: Span) -> list[Raster]:
             it,
             rows=cut_rows(it.rows, height, width),
             mask=it.mask and cut_rows(it.mask, height, width),
+            text=None,
         )
         for it in maps
     ]

@@ -1,7 +1,7 @@
 -- Fields are read back from their bytes.
 use Rattle.std.proofs.Common.{◌≡◌, ℕ, ℤ, pos, ◌<◌, ◌≤◌, ◌^◌, Bool, true, false, List}
 use Rattle.std.proofs.Common.{◌++◌, length, Option, Some, None, IfSome, Ok, refl, ap, arith, append_assoc}
-use Rattle.std.specs.Prelude.{◌&&◌, nat_le, unwrap_or}
+use Rattle.std.specs.Prelude.{◌&&◌, ◌==◌, nat_le, unwrap_or}
 use Rattle.std.specs.Int.{w8, w16, w32, w64, to_le_bytes}
 use Rattle.std.specs.Int.RustNames.{FitsSigned}
 use Rattle.std.proofs.lemmas.Bool.Decides.{nat_tests}
@@ -9,20 +9,22 @@ use Rattle.cell_core_devices.specs.Device.{ComingBytes}
 use Rattle.cell_core_values.specs.Name.{is_name, starts_like_name, is_name_byte}
 use Rattle.std.specs.List.{list_all}
 use Rattle.rcell_pipe_request.specs.Feeds.{after}
-use Rattle.rcell_pipe_request.specs.Heads.{LabelValue, map_name_reading, format_flags_reading, cell_type_reading}
-use Rattle.rcell_pipe_request.specs.Heads.{raw_format_reading, label_reading, nodata_if_valid}
+use Rattle.rcell_pipe_request.specs.Heads.{LabelValue, map_name_reading, format_flags_reading, number_format_reading}
+use Rattle.rcell_pipe_request.specs.Heads.{raw_format_reading, label_reading, nodata_if_valid, map_format_reading}
+use Rattle.rcell_pipe_request.specs.Heads.{text_format_reading, text_flags_reading, text_nodata_reading}
 use Rattle.rcell_pipe_request.specs.RequestRegions.{coordinate_reading}
 use Rattle.rcell_pipe_request.specs.Numbers.{cell_type_of_code}
 use Rattle.rcell_pipe_request.specs.RequestFields.{sized_text_reading}
 use Rattle.rcell_pipe_request.specs.declared.head.RawFormat.{RawFormat}
+use Rattle.rcell_pipe_request.specs.declared.head.MapFormat.TheVariants as formats
 use Rattle.rcell_pipe_request.specs.declared.kind.CellType.{CellType}
 use Rattle.rcell_pipe_request.specs.declared.kind.CellType.TheVariants.{U8, I8, U16, I16, U32, I32, I64}
 use Rattle.rcell_pipe_request.proofs.FeedLemmas.{bytes_reading-all}
 use Rattle.rcell_pipe_law.specs.SentBytes.{text_with_length_bytes, twos_complement_bytes, code_of_cell_type}
-use Rattle.rcell_pipe_law.specs.SentBytes.{null_and_mask_flags}
+use Rattle.rcell_pipe_law.specs.SentBytes.{null_and_mask_flags, text_format_bytes}
 use Rattle.rcell_pipe_law.specs.SentBytes.{raw_format_bytes, label_bytes}
 use Rattle.rcell_pipe_law.specs.SentMaps.{IsNumberOfCellType, IsSendableLabel, IsSendableCoordinateText}
-use Rattle.rcell_pipe_law.proofs.SentNumberLemmas.{reads_8, reads_16, signed_32, signed_64}
+use Rattle.rcell_pipe_law.proofs.SentNumberLemmas.{reads_8, reads_16, reads_64, signed_32, signed_64}
 
 -- the bytes after two texts are the bytes after the first, then after the second
 pub after-append : (a b : List ℕ) (rest : ComingBytes) → after (a ++ b) rest ≡ after a (after b rest)
@@ -42,6 +44,13 @@ pub text_16 : (text : List ℕ) (rest : ComingBytes) → length text < 2 ^ 16
 unfolding sized_text_reading
 text_16 text rest short =
     rw (after-append (to_le_bytes w16 (length text)) text rest, reads_16 (length text) (after text rest) short)
+    (bytes_reading-all (length text) text (after text rest) rest refl refl)
+
+pub text_64 : (text : List ℕ) (rest : ComingBytes) → length text < 2 ^ 64
+    → sized_text_reading w64 (after (text_with_length_bytes w64 text) rest) ≡ Ok (text, rest)
+unfolding sized_text_reading
+text_64 text rest short =
+    rw (after-append (to_le_bytes w64 (length text)) text rest, reads_64 (length text) (after text rest) short)
     (bytes_reading-all (length text) text (after text rest) rest refl refl)
 
 pub coordinate_reads : (edge : ℤ) (text : List ℕ) (rest : ComingBytes) → IsSendableCoordinateText edge text
@@ -82,11 +91,15 @@ code_is U32 = refl
 code_is I32 = refl
 code_is I64 = refl
 
-type_reads : (kind : CellType) (rest : ComingBytes) → cell_type_reading
-    (after (to_le_bytes w8 (code_of_cell_type kind)) rest) ≡ Ok
-    (kind, rest)
-unfolding cell_type_reading
-type_reads kind rest = rw (reads_8 (code_of_cell_type kind) rest (code_small kind), code_is kind) refl
+-- no type of numbers has the code of a text grid
+code_is_not_8 : (kind : CellType) → (code_of_cell_type kind == 8) ≡ false
+code_is_not_8 U8 = refl
+code_is_not_8 I8 = refl
+code_is_not_8 U16 = refl
+code_is_not_8 I16 = refl
+code_is_not_8 U32 = refl
+code_is_not_8 I32 = refl
+code_is_not_8 I64 = refl
 
 flags_few : (nodata : Option ℤ) (masked : Bool) → null_and_mask_flags nodata masked ≤ 3
 flags_few None false = omega arith
@@ -129,8 +142,8 @@ nodata_fits kind None of = omega arith
 nodata_fits kind (Some n) of = of.fits
 
 pub format_reads : (format : RawFormat) (rest : ComingBytes) → IfSome format.nodata (IsNumberOfCellType format.kind)
-    → raw_format_reading (after (raw_format_bytes format) rest) ≡ Ok (format, rest)
-unfolding raw_format_reading
+    → map_format_reading (after (raw_format_bytes format) rest) ≡ Ok (formats.Numbers format, rest)
+unfolding map_format_reading number_format_reading raw_format_reading
 format_reads format rest of =
     let number = unwrap_or format.nodata (pos 0) in
     let flags = null_and_mask_flags format.nodata format.is_masked in
@@ -138,12 +151,28 @@ format_reads format rest of =
       after-append (to_le_bytes w8 (code_of_cell_type format.kind)) (to_le_bytes w8 flags
           ++ twos_complement_bytes w64 number)
           rest,
-      type_reads format.kind (after (to_le_bytes w8 flags ++ twos_complement_bytes w64 number) rest),
+      reads_8 (code_of_cell_type format.kind) (after (to_le_bytes w8 flags ++ twos_complement_bytes w64 number) rest)
+          (code_small format.kind),
+      code_is_not_8 format.kind,
+      code_is format.kind,
       after-append (to_le_bytes w8 flags) (twos_complement_bytes w64 number) rest,
       flags_reads format.nodata format.is_masked (after (twos_complement_bytes w64 number) rest),
       signed_64 number rest (nodata_fits format.kind format.nodata of),
       nodata_is format.kind format.nodata format.is_masked of,
       flags_masked format.nodata format.is_masked,
+    ) refl
+
+pub text_format_reads : (rest : ComingBytes)
+    → map_format_reading (after text_format_bytes rest) ≡ Ok (formats.Text, rest)
+unfolding map_format_reading text_format_reading text_flags_reading text_nodata_reading
+text_format_reads rest =
+    let number = twos_complement_bytes w64 (pos 0) in
+    rw (
+      after-append (to_le_bytes w8 8) (to_le_bytes w8 0 ++ number) rest,
+      reads_8 8 (after (to_le_bytes w8 0 ++ number) rest) (omega arith),
+      after-append (to_le_bytes w8 0) number rest,
+      reads_8 0 (after number rest) (omega arith),
+      signed_64 (pos 0) rest (omega arith),
     ) refl
 
 pub label_reads : (label : LabelValue) (rest : ComingBytes) → IsSendableLabel label

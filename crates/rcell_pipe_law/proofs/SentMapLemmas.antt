@@ -1,27 +1,37 @@
 -- Maps are read back from their bytes.
-use Rattle.std.proofs.Common.{◌≡◌, ℕ, suc, ◌<◌, ◌^◌, true, List, [], ◌∷◌, ◌++◌}
+use Rattle.std.proofs.Common.{◌≡◌, ℕ, suc, ◌<◌, ◌^◌, true, false, List, [], ◌∷◌, ◌++◌}
 use Rattle.std.proofs.Common.{length, Some, Ok, refl, ap, sym, ◌∙◌, subst, arith, append_assoc}
 use Rattle.std.proofs.Common.{append-nil}
 use Rattle.std.specs.Prelude.{flat_map, map, All, Result, slice_get}
-use Rattle.std.specs.Int.{w8, w32, to_le_bytes}
+use Rattle.std.specs.Int.{w8, w32, w64, to_le_bytes}
 use Rattle.std.specs.Option.{is_none}
 use Rattle.std.proofs.lemmas.Option.{slice_get_within, get_or_from_slice_get}
 use Rattle.cell_core_devices.specs.Device.{ComingBytes}
 use Rattle.cell_core_values.specs.Name.{place_of_name}
 use Rattle.cell_core_values.specs.Region.{RegionValue}
-use Rattle.cell_core.specs.Grid.{CellValue}
+use Rattle.cell_core_values.specs.SameRegion.{is_same_region-Decides}
+use Rattle.cell_core.specs.Grid.{CellValue, Grid, empty_category_labels}
 use Rattle.cell_core.specs.Shelf.{ShelfValue}
+use Rattle.cell_ascii_law.specs.GridLaw.{ReadingReturnsDenotedMap}
 use Rattle.rcell_pipe_request.specs.Feeds.{after}
 use Rattle.rcell_pipe_request.specs.Heads.{LabelValue, new_map_name_reading, next_label_reading, labels_reading}
-use Rattle.rcell_pipe_request.specs.Heads.{map_head_reading}
+use Rattle.rcell_pipe_request.specs.Heads.{map_format_reading, map_head_reading}
 use Rattle.rcell_pipe_request.specs.RequestFields.{reading_repeated_n_times}
 use Rattle.rcell_pipe_request.specs.RequestRegions.{edges_reading, region_reading}
-use Rattle.rcell_pipe_request.specs.Requests.{next_row_reading, map_reading}
-use Rattle.rcell_pipe_law.specs.SentBytes.{text_with_length_bytes, raw_format_bytes, label_bytes, sent_labels_bytes}
+use Rattle.rcell_pipe_request.specs.Requests.{next_row_reading, number_map_reading, map_cells_reading, map_reading}
+use Rattle.rcell_pipe_request.specs.TextMaps.{text_map_reading}
+use Rattle.rcell_pipe_request.specs.declared.head.MapFormat.{MapFormat}
+use Rattle.rcell_pipe_request.specs.declared.head.MapFormat.TheVariants as formats
+use Rattle.rcell_pipe_request.specs.declared.head.RawFormat.{RawFormat}
+use Rattle.rcell_pipe_law.specs.SentBytes.{text_with_length_bytes, sent_format_bytes, label_bytes, sent_labels_bytes}
+use Rattle.rcell_pipe_law.specs.SentBytes.{bytes_of_sent_cells}
 use Rattle.rcell_pipe_law.specs.SentBytes.{region_bytes, sent_map_head_bytes, bytes_of_sent_row, bytes_of_sent_map}
-use Rattle.rcell_pipe_law.specs.SentMaps.{SentCell, SentMap, SentRegion, IsSendableLabel, IsSendableMap}
+use Rattle.rcell_pipe_law.specs.SentMaps.{SentCell, SentCells, Numbers, Text, SentMap, SentRegion, SentRows}
+use Rattle.rcell_pipe_law.specs.SentMaps.{SentText, IsSendableLabel, IsSendableMap, AreSendableCells, AreSendableRows}
+use Rattle.rcell_pipe_law.specs.SentMaps.{IsSendableText, rows_of_sent_cells}
 use Rattle.rcell_pipe_law.specs.SentMaps.{IsSendableCell, IsSendableRegion, cell_of_sent_cell, grid_of_sent_map}
 use Rattle.rcell_pipe_law.proofs.SentFieldLemmas.{after-append, coordinate_reads, name_reads, format_reads}
+use Rattle.rcell_pipe_law.proofs.SentFieldLemmas.{text_format_reads, text_64}
 use Rattle.rcell_pipe_law.proofs.SentFieldLemmas.{label_reads}
 use Rattle.rcell_pipe_law.proofs.SentNumberLemmas.{reads_32}
 use Rattle.rcell_pipe_law.proofs.SentRowLemmas.{row_reads}
@@ -109,48 +119,94 @@ region_reads sent rest is =
       is.valid.accepted,
     ) refl
 
+format_of_sent_cells : SentCells → MapFormat
+format_of_sent_cells (Numbers sent) = formats.Numbers sent.format
+format_of_sent_cells (Text sent) = formats.Text
+
+sent_format_reads : (region : RegionValue) (cells : SentCells) (rest : ComingBytes) → AreSendableCells region cells
+    → map_format_reading (after (sent_format_bytes cells) rest) ≡ Ok (format_of_sent_cells cells, rest)
+sent_format_reads region (Numbers sent) rest is = format_reads sent.format rest is.nodata
+sent_format_reads region (Text sent) rest is = text_format_reads rest
+
 -- the head of a map is read back if its name is new
 pub head_reads : (region : RegionValue) (names : List (List ℕ)) (m : SentMap) (rest : ComingBytes)
     → IsSendableMap region m → is_none (place_of_name m.name names) ≡ true
     → map_head_reading names (after (sent_map_head_bytes m) rest)
-    ≡ Ok (record { name = m.name; format = m.format; labels = m.labels }, rest)
+    ≡ Ok (record { name = m.name; format = format_of_sent_cells m.cells; labels = m.labels }, rest)
 unfolding map_head_reading new_map_name_reading
 head_reads region names m rest is new =
-    let format = raw_format_bytes m.format ++ sent_labels_bytes m.labels in
+    let format = sent_format_bytes m.cells ++ sent_labels_bytes m.labels in
     rw (
       after-append (text_with_length_bytes w8 m.name) format rest,
       name_reads m.name (after format rest) is.name,
       new,
-      after-append (raw_format_bytes m.format) (sent_labels_bytes m.labels) rest,
-      format_reads m.format (after (sent_labels_bytes m.labels) rest) is.nodata,
+      after-append (sent_format_bytes m.cells) (sent_labels_bytes m.labels) rest,
+      sent_format_reads region m.cells (after (sent_labels_bytes m.labels) rest) is.cells,
       labels_read m.labels rest is.count is.labels,
     ) refl
 
--- a row that can be sent
-abbrev IsSentRow : RegionValue → SentMap → List SentCell → Type 0
-IsSentRow region m row = (length row ≡ region.cols) × All (IsSendableCell m.format) row
+-- the map without its labels
+abbrev map_of_sent_cells : RegionValue → SentCells → Grid
+map_of_sent_cells region cells = record {
+  region = region;
+  rows = rows_of_sent_cells cells;
+  labels = empty_category_labels;
+}
 
-one_row : (maps : ℕ) (region : RegionValue) (m : SentMap) (so_far : List (List CellValue)) (row : List SentCell)
-    (rest : ComingBytes) → IsSentRow region m row
-    → next_row_reading maps m.format region.cols so_far (after (bytes_of_sent_row m.format row) rest)
-    ≡ Ok (so_far ++ map (cell_of_sent_cell m.format) row ∷ [], rest)
+-- a row that can be sent
+abbrev IsSentRow : RegionValue → RawFormat → List SentCell → Type 0
+IsSentRow region format row = (length row ≡ region.cols) × All (IsSendableCell format) row
+
+one_row : (maps : ℕ) (region : RegionValue) (format : RawFormat) (so_far : List (List CellValue)) (row : List SentCell)
+    (rest : ComingBytes) → IsSentRow region format row
+    → next_row_reading maps format region.cols so_far (after (bytes_of_sent_row format row) rest)
+    ≡ Ok (so_far ++ map (cell_of_sent_cell format) row ∷ [], rest)
 unfolding next_row_reading
-one_row maps region m so_far row rest is =
-    rw (sym is.0, row_reads m.format row (of_each (IsSendableCell m.format) row is.1) rest) refl
+one_row maps region format so_far row rest is =
+    rw (sym is.0, row_reads format row (of_each (IsSendableCell format) row is.1) rest) refl
+
+rows_read : (region : RegionValue) (maps : ℕ) (sent : SentRows) (rest : ComingBytes) → AreSendableRows region sent
+    → number_map_reading region maps sent.format (after (flat_map (bytes_of_sent_row sent.format) sent.rows) rest)
+    ≡ Ok (map_of_sent_cells region (Numbers sent), rest)
+unfolding number_map_reading
+rows_read region maps sent rest is =
+    let all : All (IsSentRow region sent.format) sent.rows = λ k d within. (is.width k d within, is.cells k d within) in
+    rw (
+      sym is.height,
+      steps_all (IsSentRow region sent.format) (next_row_reading maps sent.format region.cols)
+          (bytes_of_sent_row sent.format) (map (cell_of_sent_cell sent.format)) sent.rows all
+          (one_row maps region sent.format) [] rest,
+    ) refl
+
+text_reads : (region : RegionValue) (maps : ℕ) (sent : SentText) (rest : ComingBytes) → ReadingReturnsDenotedMap
+    → IsSendableText region sent
+    → text_map_reading region maps (after (text_with_length_bytes w64 sent.text) rest)
+    ≡ Ok (map_of_sent_cells region (Text sent), rest)
+unfolding text_map_reading
+text_reads region maps sent rest law is =
+    rw (
+      text_64 sent.text rest is.short,
+      (law (record { bytes = sent.text; fails = false }) sent.map).1 is.denotes,
+      (is_same_region-Decides sent.map.region region).1 is.region,
+    )
+    (λ i. Ok (record { region = is.region i; rows = sent.map.rows; labels = is.denotes.labels i }, rest))
+
+cells_read : (region : RegionValue) (maps : ℕ) (cells : SentCells) (rest : ComingBytes) → ReadingReturnsDenotedMap
+    → AreSendableCells region cells
+    → map_cells_reading region maps (format_of_sent_cells cells) (after (bytes_of_sent_cells cells) rest)
+    ≡ Ok (map_of_sent_cells region cells, rest)
+cells_read region maps (Numbers sent) rest law is = rows_read region maps sent rest is
+cells_read region maps (Text sent) rest law is = text_reads region maps sent rest law is
 
 -- a map is read back
-pub map_reads : (shelf : ShelfValue) (m : SentMap) (rest : ComingBytes) → IsSendableMap shelf.region m
-    → is_none (place_of_name m.name shelf.names) ≡ true
+pub map_reads : (shelf : ShelfValue) (m : SentMap) (rest : ComingBytes) → ReadingReturnsDenotedMap
+    → IsSendableMap shelf.region m → is_none (place_of_name m.name shelf.names) ≡ true
     → map_reading shelf (after (bytes_of_sent_map m) rest)
     ≡ Ok (record { name = m.name; grid = grid_of_sent_map shelf.region m }, rest)
 unfolding map_reading
-map_reads shelf m rest is new =
-    let all : All (IsSentRow shelf.region m) m.rows = λ k d within. (is.width k d within, is.cells k d within) in
-    let step = next_row_reading (length shelf.names) m.format shelf.region.cols in
+map_reads shelf m rest law is new =
     rw (
-      after-append (sent_map_head_bytes m) (flat_map (bytes_of_sent_row m.format) m.rows) rest,
-      head_reads shelf.region shelf.names m (after (flat_map (bytes_of_sent_row m.format) m.rows) rest) is new,
-      sym is.height,
-      steps_all (IsSentRow shelf.region m) step (bytes_of_sent_row m.format) (map (cell_of_sent_cell m.format)) m.rows
-          all (one_row (length shelf.names) shelf.region m) [] rest,
+      after-append (sent_map_head_bytes m) (bytes_of_sent_cells m.cells) rest,
+      head_reads shelf.region shelf.names m (after (bytes_of_sent_cells m.cells) rest) is new,
+      cells_read shelf.region (length shelf.names) m.cells rest law is.cells,
     ) refl

@@ -12,6 +12,7 @@ use Rattle.cell_core_values.specs.Name.{AreDistinctNames, place_of_name}
 use Rattle.cell_core_values.specs.Region.{RegionValue}
 use Rattle.cell_core_values.proofs.NameLemmas.{bytes_eq-differ}
 use Rattle.cell_core.specs.Shelf.{ShelfValue}
+use Rattle.cell_ascii_law.specs.GridLaw.{ReadingReturnsDenotedMap}
 use Rattle.rcell_pipe_request.specs.Feeds.{after}
 use Rattle.rcell_pipe_request.specs.RequestFields.{reading_repeated_n_times}
 use Rattle.rcell_pipe_request.specs.Requests.{empty_shelf, map_count_reading, next_map_reading, maps_reading}
@@ -60,12 +61,13 @@ with_maps shelf ms = record {
   maps = shelf.maps ++ map (grid_of_sent_map shelf.region) ms;
 }
 
-more_maps : (shelf : ShelfValue) (ms : List SentMap) (rest : ComingBytes) → All (IsSendableMap shelf.region) ms
+more_maps : (shelf : ShelfValue) (ms : List SentMap) (rest : ComingBytes) → ReadingReturnsDenotedMap
+    → All (IsSendableMap shelf.region) ms
     → AreDistinctNames (shelf.names ++ map (λ m. m.name) ms)
     → reading_repeated_n_times next_map_reading shelf (length ms) (after (flat_map bytes_of_sent_map ms) rest)
     ≡ Ok (with_maps shelf ms, rest)
 unfolding reading_repeated_n_times next_map_reading
-more_maps shelf [] rest good distinct =
+more_maps shelf [] rest law good distinct =
     λ i. Ok (
       record {
         region = shelf.region;
@@ -75,7 +77,7 @@ more_maps shelf [] rest good distinct =
       },
       rest,
     )
-more_maps shelf (m ∷ ms) rest good distinct =
+more_maps shelf (m ∷ ms) rest law good distinct =
     let names = map (λ m. m.name) ms in
     let grid = grid_of_sent_map shelf.region in
     let next : ShelfValue = record {
@@ -87,10 +89,10 @@ more_maps shelf (m ∷ ms) rest good distinct =
     (sym (append_assoc shelf.names (m.name ∷ []) names)) distinct in
     rw (
       after-append (bytes_of_sent_map m) (flat_map bytes_of_sent_map ms) rest,
-      map_reads shelf m (after (flat_map bytes_of_sent_map ms) rest) (head_of (IsSendableMap shelf.region) m ms good)
+      map_reads shelf m (after (flat_map bytes_of_sent_map ms) rest) law (head_of (IsSendableMap shelf.region) m ms good)
           (new_name shelf.names m.name names distinct),
     )
-    (more_maps next ms rest (tail_of (IsSendableMap shelf.region) m ms good) others
+    (more_maps next ms rest law (tail_of (IsSendableMap shelf.region) m ms good) others
     ∙ (λ i. Ok (
       record {
         region = shelf.region;
@@ -122,14 +124,15 @@ script_reads script rest short =
     )
     (bytes_reading-all (length script) script (after script rest) rest refl refl)
 
-maps_read : (region : RegionValue) (ms : List SentMap) (rest : ComingBytes) → All (IsSendableMap region) ms
+maps_read : (region : RegionValue) (ms : List SentMap) (rest : ComingBytes) → ReadingReturnsDenotedMap
+    → All (IsSendableMap region) ms
     → AreDistinctNames (map (λ m. m.name) ms) → 1 ≤ length ms → length ms ≤ 65535
     → maps_reading region (after (bytes_of_sent_maps ms) rest) ≡ Ok (shelf_of_sent_maps region ms, rest)
 unfolding maps_reading
-maps_read region ms rest good distinct some few = rw (
+maps_read region ms rest law good distinct some few = rw (
   after-append (to_le_bytes w32 (length ms)) (flat_map bytes_of_sent_map ms) rest,
   count_reads (length ms) (after (flat_map bytes_of_sent_map ms) rest) some few,
-  more_maps (empty_shelf region) ms rest good distinct,
+  more_maps (empty_shelf region) ms rest law good distinct,
 ) refl
 
 -- the parts of a request follow one another
@@ -141,29 +144,29 @@ parts region maps script questions rest =
     ∙ ap (after region) (after-append maps (script ++ questions) rest
     ∙ ap (after maps) (after-append script questions rest))
 
-parts_read : (r : SentRequest) → IsSendableRequest r
+parts_read : (r : SentRequest) → ReadingReturnsDenotedMap → IsSendableRequest r
     → run_request_reading (after (region_bytes r.region) (after (bytes_of_sent_maps r.maps)
     (after (text_with_length_bytes w32 r.script) (after (questions_bytes r.questions) (source_of_bytes [])))))
     ≡ Ok (meaning_of_sent_request r, source_of_bytes [])
 unfolding run_request_reading run_over_shelves_reading
-parts_read r is =
+parts_read r law is =
     let asked = after (questions_bytes r.questions) (source_of_bytes []) in
     let next = after (text_with_length_bytes w32 r.script) asked in
     let shelf = shelf_of_sent_maps r.region.region r.maps in
     rw (
       region_reads r.region (after (bytes_of_sent_maps r.maps) next) is.region,
-      maps_read r.region.region r.maps next is.maps is.distinct is.some is.few,
+      maps_read r.region.region r.maps next law is.maps is.distinct is.some is.few,
       script_reads r.script asked is.short,
       last_questions_read (length shelf.names) r.questions is.questions is.count,
     ) refl
 
-pub sent_are_read : SentRequestsAreRead
-sent_are_read magic r eight is =
+pub sent_are_read : ReadingReturnsDenotedMap → SentRequestsAreRead
+sent_are_read law magic r eight is =
     let bytes = request_bytes r in
     record {
       form = bytes_reading-all 8 magic (source_of_bytes (magic ++ bytes)) (source_of_bytes bytes) refl eight;
       rest = ap (λ all. run_request_reading (source_of_bytes all)) (sym (append-nil bytes))
           ∙ ap run_request_reading (parts (region_bytes r.region) (bytes_of_sent_maps r.maps)
           (text_with_length_bytes w32 r.script) (questions_bytes r.questions) (source_of_bytes []))
-          ∙ parts_read r is;
+          ∙ parts_read r law is;
     }

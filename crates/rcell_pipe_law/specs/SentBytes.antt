@@ -8,7 +8,7 @@ use Rattle.rcell_pipe_request.specs.Numbers.{bit_width_of_cell_type}
 use Rattle.rcell_pipe_request.specs.declared.head.RawFormat.{RawFormat}
 use Rattle.rcell_pipe_request.specs.declared.kind.CellType.{CellType}
 use Rattle.rcell_pipe_request.specs.declared.kind.CellType.TheVariants.{U8, I8, U16, I16, U32, I32, I64}
-use Rattle.rcell_pipe_law.specs.SentMaps.{SentCell, SentMap, SentRegion}
+use Rattle.rcell_pipe_law.specs.SentMaps.{SentCell, SentCells, Numbers, Text, SentMap, SentRegion}
 
 -- a number in two's complement
 abbrev pub twos_complement_bytes : Width → ℤ → List ℕ
@@ -42,6 +42,14 @@ raw_format_bytes format =
     ++ (to_le_bytes w8 (null_and_mask_flags format.nodata format.is_masked)
     ++ twos_complement_bytes w64 (unwrap_or format.nodata (pos 0)))
 
+-- the type of a text grid, no flags, and the nodata value 0
+abbrev pub text_format_bytes : List ℕ
+text_format_bytes = to_le_bytes w8 8 ++ (to_le_bytes w8 0 ++ twos_complement_bytes w64 (pos 0))
+
+abbrev pub sent_format_bytes : SentCells → List ℕ
+sent_format_bytes (Numbers sent) = raw_format_bytes sent.format
+sent_format_bytes (Text sent) = text_format_bytes
+
 abbrev pub label_bytes : LabelValue → List ℕ
 label_bytes label = twos_complement_bytes w32 label.category ++ text_with_length_bytes w16 label.text
 
@@ -55,7 +63,7 @@ region_bytes sent = text_with_length_bytes w8 sent.north ++ (text_with_length_by
     ++ (to_le_bytes w32 sent.region.rows ++ to_le_bytes w32 sent.region.cols))))
 
 abbrev pub sent_map_head_bytes : SentMap → List ℕ
-sent_map_head_bytes m = text_with_length_bytes w8 m.name ++ (raw_format_bytes m.format ++ sent_labels_bytes m.labels)
+sent_map_head_bytes m = text_with_length_bytes w8 m.name ++ (sent_format_bytes m.cells ++ sent_labels_bytes m.labels)
 
 -- the numbers in a row
 abbrev pub bytes_of_row_numbers : CellType → List SentCell → List ℕ
@@ -68,8 +76,13 @@ bytes_of_row_mask is_masked row = if is_masked then map (λ cell. one_if_true ce
 abbrev pub bytes_of_sent_row : RawFormat → List SentCell → List ℕ
 bytes_of_sent_row format row = bytes_of_row_numbers format.kind row ++ bytes_of_row_mask format.is_masked row
 
+-- the rows, or the text after its length
+abbrev pub bytes_of_sent_cells : SentCells → List ℕ
+bytes_of_sent_cells (Numbers sent) = flat_map (bytes_of_sent_row sent.format) sent.rows
+bytes_of_sent_cells (Text sent) = text_with_length_bytes w64 sent.text
+
 abbrev pub bytes_of_sent_map : SentMap → List ℕ
-bytes_of_sent_map m = sent_map_head_bytes m ++ flat_map (bytes_of_sent_row m.format) m.rows
+bytes_of_sent_map m = sent_map_head_bytes m ++ bytes_of_sent_cells m.cells
 
 -- the number of maps, followed by the maps
 abbrev pub bytes_of_sent_maps : List SentMap → List ℕ

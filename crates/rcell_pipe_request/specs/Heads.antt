@@ -1,4 +1,4 @@
--- The head of a map in a request: everything before its rows (profile).
+-- The head of a map in a request: everything before its cells (profile).
 use Rattle.std.specs.Prelude.{◌≡◌, ℕ, ℤ, pos, negsuc, Bool, true, false, ◌||◌, nat_le, List, [], ◌∷◌, ◌++◌, map, Option, Some, None, Ok, Err, ◌==◌, if◌then◌else◌}
 use Rattle.std.specs.Ordering.{int_eq}
 use Rattle.std.specs.List.{list_any}
@@ -9,6 +9,8 @@ use Rattle.cell_core_values.specs.Name.{is_name, place_of_name}
 use Rattle.rcell_pipe_request.specs.declared.kind.CellType.{CellType}
 use Rattle.rcell_pipe_request.specs.Numbers.{cell_type_of_code, can_represent_number}
 use Rattle.rcell_pipe_request.specs.declared.head.RawFormat.{RawFormat}
+use Rattle.rcell_pipe_request.specs.declared.head.MapFormat.{MapFormat}
+use Rattle.rcell_pipe_request.specs.declared.head.MapFormat.TheVariants as formats
 use Rattle.rcell_pipe_request.specs.declared.head.CategoryLabel.{CategoryLabel}
 use Rattle.rcell_pipe_request.specs.declared.head.MapHead.{MapHead}
 use Rattle.rcell_pipe_request.specs.declared.error.ErrorKind.TheVariants as kinds
@@ -40,19 +42,45 @@ format_flags_reading c = do
   flags ← unsigned_number_reading w8 c
   if nat_le flags.0 3 then Ok flags else Err kinds.BadFlags
 
-unfoldable pub cell_type_reading : ComingBytes → RequestFieldReading CellType
-cell_type_reading c = do
-  code ← unsigned_number_reading w8 c
-  reading_of_value_or_error_kind kinds.BadType code.1 (cell_type_of_code code.0)
-
--- the cells' type, the number that denotes null, if any, and whether the map has a mask
-unfoldable pub raw_format_reading : ComingBytes → RequestFieldReading RawFormat
-raw_format_reading c = do
-  kind ← cell_type_reading c
-  flags ← format_flags_reading kind.1
+-- for numbers of this type: the number that denotes null, if any, and whether the map has a mask
+unfoldable pub raw_format_reading : CellType → ComingBytes → RequestFieldReading RawFormat
+raw_format_reading kind c = do
+  flags ← format_flags_reading c
   number ← signed_number_reading w64 flags.1
-  nodata ← reading_of_value_or_error_kind kinds.BadNodata number.1 (nodata_if_valid kind.0 flags.0 number.0)
-  Ok (record { kind = kind.0; nodata = nodata.0; is_masked = nat_le 2 flags.0 }, nodata.1)
+  nodata ← reading_of_value_or_error_kind kinds.BadNodata number.1 (nodata_if_valid kind flags.0 number.0)
+  Ok (record { kind = kind; nodata = nodata.0; is_masked = nat_le 2 flags.0 }, nodata.1)
+
+-- the format of rows of numbers after the code of their type
+unfoldable pub number_format_reading : ℕ → ComingBytes → RequestFieldReading MapFormat
+number_format_reading code c = do
+  kind ← reading_of_value_or_error_kind kinds.BadType c (cell_type_of_code code)
+  format ← raw_format_reading kind.0 kind.1
+  Ok (formats.Numbers format.0, format.1)
+
+-- the flags of a text grid, which must be 0
+unfoldable pub text_flags_reading : ComingBytes → RequestFieldReading ℕ
+text_flags_reading c = do
+  flags ← unsigned_number_reading w8 c
+  if flags.0 == 0 then Ok flags else Err kinds.BadFlags
+
+-- the nodata value of a text grid, which must be 0
+unfoldable pub text_nodata_reading : ComingBytes → RequestFieldReading ℤ
+text_nodata_reading c = do
+  number ← signed_number_reading w64 c
+  if int_eq number.0 (pos 0) then Ok number else Err kinds.BadNodata
+
+-- what follows the type of a text grid
+unfoldable pub text_format_reading : ComingBytes → RequestFieldReading MapFormat
+text_format_reading c = do
+  flags ← text_flags_reading c
+  number ← text_nodata_reading flags.1
+  Ok (formats.Text, number.1)
+
+-- a text grid has the type 8; all other types are types of numbers
+unfoldable pub map_format_reading : ComingBytes → RequestFieldReading MapFormat
+map_format_reading c = do
+  code ← unsigned_number_reading w8 c
+  if code.0 == 8 then text_format_reading code.1 else number_format_reading code.0 code.1
 
 -- a category and its label
 pub record LabelValue : Type 0 where
@@ -88,14 +116,14 @@ labels_reading c = do
 
 pub record MapHeadValue : Type 0 where
   pub name : List ℕ
-  pub format : RawFormat
+  pub format : MapFormat
   pub labels : List LabelValue
 
 -- the head of a map after maps with these names; an error in a field is reported before the next field is read
 unfoldable pub map_head_reading : List (List ℕ) → ComingBytes → RequestFieldReading MapHeadValue
 map_head_reading names c = do
   name ← new_map_name_reading names c
-  format ← raw_format_reading name.1
+  format ← map_format_reading name.1
   labels ← labels_reading format.1
   Ok (record { name = name.0; format = format.0; labels = labels.0 }, labels.1)
 

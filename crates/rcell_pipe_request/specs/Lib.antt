@@ -7,6 +7,7 @@ pub mod RequestFields
 pub mod RequestRegions
 pub mod Heads
 pub mod Rows
+pub mod TextMaps
 pub mod Questions
 pub mod RequestPlaces
 pub mod Requests

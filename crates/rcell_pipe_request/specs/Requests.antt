@@ -26,7 +26,10 @@ use Rattle.rcell_pipe_request.specs.Heads.{LabelValue, map_head_reading}
 use Rattle.rcell_pipe_request.specs.RequestPlaces.{place_and_region_reading}
 use Rattle.rcell_pipe_request.specs.RequestRegions.{region_reading}
 use Rattle.rcell_pipe_request.specs.Rows.{row_cells_reading}
+use Rattle.rcell_pipe_request.specs.TextMaps.{text_map_reading}
 use Rattle.rcell_pipe_request.specs.declared.head.RawFormat.{RawFormat}
+use Rattle.rcell_pipe_request.specs.declared.head.MapFormat.{MapFormat}
+use Rattle.rcell_pipe_request.specs.declared.head.MapFormat.TheVariants as formats
 
 -- the error of a field, with its position
 abbrev pub request_stop_at_position : ℕ → ℕ → FieldReadingStop → RequestStop
@@ -53,13 +56,23 @@ pub record NamedMapValue : Type 0 where
   pub name : List ℕ
   pub grid : Grid
 
--- the head of one more map of the shelf's region, then its rows
+-- the rows of a map of this region
+unfoldable pub number_map_reading : RegionValue → ℕ → RawFormat → ComingBytes → PositionedReading Grid
+number_map_reading region maps format c = do
+  rows ← reading_repeated_n_times (next_row_reading maps format region.cols) [] region.rows c
+  Ok (record { region = region; rows = rows.0; labels = empty_category_labels }, rows.1)
+
+-- the cells of a map of this region
+abbrev pub map_cells_reading : RegionValue → ℕ → MapFormat → ComingBytes → PositionedReading Grid
+map_cells_reading region maps (formats.Numbers format) c = number_map_reading region maps format c
+map_cells_reading region maps formats.Text c = text_map_reading region maps c
+
+-- the head of one more map of the shelf's region, then its cells
 unfoldable pub map_reading : ShelfValue → ComingBytes → PositionedReading NamedMapValue
 map_reading shelf c = do
   head ← result_with_error_position (length shelf.names) 0 (map_head_reading shelf.names c)
-  rows ← reading_repeated_n_times (next_row_reading (length shelf.names) head.0.format shelf.region.cols) []
-      shelf.region.rows head.1
-  Ok (record { name = head.0.name; grid = record { region = shelf.region; rows = rows.0; labels = label_map_with_added_labels empty_category_labels head.0.labels } }, rows.1)
+  map ← map_cells_reading shelf.region (length shelf.names) head.0.format head.1
+  Ok (record { name = head.0.name; grid = record map.0 { labels = label_map_with_added_labels map.0.labels head.0.labels } }, map.1)
 
 abbrev pub shelf_with_named_map : ShelfValue → NamedMapValue → ShelfValue
 shelf_with_named_map shelf named = record shelf {

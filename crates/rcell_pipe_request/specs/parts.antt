@@ -2,3 +2,4 @@
 pub mod PackedBytes
 pub mod Edges
 pub mod NarrowNumbers
+pub mod TextStops

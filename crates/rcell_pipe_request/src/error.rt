@@ -5,6 +5,7 @@ ghost use Rattle.rcell_pipe_request.specs.declared.error.FieldReadingStop.TheVar
 ghost use Rattle.rcell_pipe_request.specs.declared.error.RequestStop.TheVariants as request_stops;
 ghost use Rattle.rcell_pipe_request.specs.Requests.{request_stop_at_position};
 
+use cell_ascii::grid_fault::GridKind;
 use std::alloc::{AllocError, AllocFailed};
 
 /// What is wrong with a request.
@@ -40,6 +41,10 @@ pub enum ErrorKind {
     BadMask,
     /// A number is neither null nor a category.
     CellRange,
+    /// The text of a grid contains an error.
+    Grid(GridKind),
+    /// The region of a text grid is not the region of the request.
+    OtherRegion,
     /// The script has more than 1048576 bytes.
     ScriptSize,
     /// A question has an unknown kind.
@@ -88,13 +93,13 @@ pub enum ErrorKind {
     Trailing,
 }
 
-/// An error and its position: the number of maps before it, and the number of the row or question, or 0 if it is in
-/// neither.
+/// An error and its position: the number of maps before it, and the number of the row, the question or the line of a
+/// text grid, or 0 if it is in none of them.
 #[derive(Clone, Copy, Debug, PartialEq, Eq)]
 pub struct RequestError {
     pub kind: ErrorKind,
     pub maps: u32,
-    pub row: u32,
+    pub row: u64,
 }
 
 /// Why a field could not be read.
@@ -149,7 +154,7 @@ impl<T: Drop> From<AllocFailed<T>> for RequestStop {
 
 impl FieldReadingStop {
     /// Adds the position to an error.
-    pub fn at(self, maps: u32, row: u32) -> RequestStop
+    pub fn at(self, maps: u32, row: u64) -> RequestStop
         ensures { result ≡ request_stop_at_position maps row self }
     {
         match self {

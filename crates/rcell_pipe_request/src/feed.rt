@@ -206,6 +206,17 @@ pub fn read_u32<R: Read>(feed: &mut Feed<R>) -> Result<u32, FieldReadingStop>
     Ok(u32::from_le_bytes(bytes))
 }
 
+/// Reads an unsigned 64-bit number.
+#[tactic(auto, unfolding(crate::specs::RequestFields::unsigned_number_reading))]
+pub fn read_u64<R: Read>(feed: &mut Feed<R>) -> Result<u64, FieldReadingStop>
+    ensures { ReadsRequestFieldAndStaysOpen (λ n. n) feed.old result feed.new
+        (unsigned_number_reading w64) }
+{
+    let mut bytes = [0u8; 8];
+    read_bytes_into(feed, &mut bytes)?;
+    Ok(u64::from_le_bytes(bytes))
+}
+
 /// Reads a signed 32-bit number.
 #[tactic(auto, unfolding(crate::specs::RequestFields::unsigned_number_reading, crate::specs::RequestFields::signed_number_reading))]
 pub fn read_i32<R: Read>(feed: &mut Feed<R>) -> Result<i32, FieldReadingStop>
@@ -251,6 +262,19 @@ pub fn read_text_with_u16_length<R: Read>(
         (sized_text_reading w16) }
 {
     let len = read_u16(feed)?;
+    read_bytes(alloc, feed, len as usize)
+}
+
+/// Reads a text that follows its 64-bit length.
+#[tactic(auto, unfolding(crate::specs::RequestFields::sized_text_reading))]
+pub fn read_text_with_u64_length<R: Read>(
+    alloc: Global,
+    feed: &mut Feed<R>,
+) -> Result<Vec<u8>, FieldReadingStop>
+    ensures { ReadsRequestFieldAndStaysOpen (λ text. text.items) feed.old result feed.new
+        (sized_text_reading w64) }
+{
+    let len = read_u64(feed)?;
     read_bytes(alloc, feed, len as usize)
 }
 

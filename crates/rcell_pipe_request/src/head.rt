@@ -1,9 +1,9 @@
-//! Reads the head of a map in a request: everything before its rows.
+//! Reads the head of a map in a request: everything before its cells.
 
 ghost use Rattle.std.specs.Prelude.{ℕ, ◌≡◌, List, [], length, ◌≤◌, IfOk, All, false};
 ghost use Rattle.rcell_pipe_request.specs.RequestFields.{reading_repeated_n_times};
 ghost use Rattle.rcell_pipe_request.specs.Feeds.{left, ReadsRequestFieldAndStaysOpen};
-ghost use Rattle.rcell_pipe_request.specs.Heads.{map_name_reading, new_map_name_reading, nodata_if_valid, format_flags_reading, cell_type_reading, raw_format_reading, has_line_feed, is_bad_label, IsGoodLabel, next_label_reading, label_reading, labels_reading, map_head_reading, label_as_value, labels_as_values, map_head_as_value};
+ghost use Rattle.rcell_pipe_request.specs.Heads.{map_name_reading, new_map_name_reading, nodata_if_valid, format_flags_reading, raw_format_reading, number_format_reading, text_flags_reading, text_nodata_reading, text_format_reading, map_format_reading, has_line_feed, is_bad_label, IsGoodLabel, next_label_reading, label_reading, labels_reading, map_head_reading, label_as_value, labels_as_values, map_head_as_value};
 
 use crate::error::{ErrorKind, FieldReadingStop};
 use crate::feed::{
@@ -16,12 +16,24 @@ use cell_core::shelf::Shelf;
 use std::alloc::Global;
 use std::io::Read;
 
+// The code of the type of a text grid.
+const TEXT_GRID_CODE: u8 = 8;
+
 /// The format of a map's rows: the type of the numbers, the number that denotes null, and whether each row has a mask.
 #[derive(Clone, Copy, Debug)]
 pub struct RawFormat {
     pub kind: CellType,
     pub nodata: Option<i64>,
     pub is_masked: bool,
+}
+
+/// How the cells of a map are sent.
+#[derive(Clone, Copy, Debug)]
+pub enum MapFormat {
+    /// As rows of numbers.
+    Numbers(RawFormat),
+    /// As the text of a grid.
+    Text,
 }
 
 /// A category and its label.
@@ -35,7 +47,7 @@ pub struct CategoryLabel {
 #[derive(Debug, Drop)]
 pub struct MapHead {
     pub name: Name,
-    pub format: RawFormat,
+    pub format: MapFormat,
     pub labels: Vec<CategoryLabel>,
 }
 
@@ -85,18 +97,6 @@ fn nodata_if_valid(kind: CellType, flags: u8, number: i64) -> Option<Option<i64>
     if number == 0 { Some(None) } else { None }
 }
 
-#[tactic(auto, unfolding(crate::specs::Heads::cell_type_reading))]
-fn read_cell_type<R: Read>(feed: &mut Feed<R>) -> Result<CellType, FieldReadingStop>
-    ensures { ReadsRequestFieldAndStaysOpen (λ kind. kind) feed.old result feed.new
-        cell_type_reading }
-{
-    let code = read_u8(feed)?;
-    match CellType::of_code(code) {
-        Some(kind) => Ok(kind),
-        None => Err(FieldReadingStop::Error(ErrorKind::BadType)),
-    }
-}
-
 #[tactic(auto, unfolding(crate::specs::Heads::format_flags_reading))]
 fn read_format_flags<R: Read>(feed: &mut Feed<R>) -> Result<u8, FieldReadingStop>
     ensures { ReadsRequestFieldAndStaysOpen (λ flags. flags) feed.old result feed.new
@@ -109,12 +109,15 @@ fn read_format_flags<R: Read>(feed: &mut Feed<R>) -> Result<u8, FieldReadingStop
     Ok(flags)
 }
 
+// Reads the format of rows whose numbers have this type.
 #[tactic(auto, unfolding(crate::specs::Heads::raw_format_reading))]
-fn read_raw_format<R: Read>(feed: &mut Feed<R>) -> Result<RawFormat, FieldReadingStop>
+fn read_raw_format<R: Read>(
+    feed: &mut Feed<R>,
+    kind: CellType,
+) -> Result<RawFormat, FieldReadingStop>
     ensures { ReadsRequestFieldAndStaysOpen (λ format. format) feed.old result feed.new
-        raw_format_reading }
+        (raw_format_reading kind) }
 {
-    let kind = read_cell_type(feed)?;
     let flags = read_format_flags(feed)?;
     let number = read_i64(feed)?;
     match nodata_if_valid(kind, flags, number) {
@@ -124,6 +127,71 @@ fn read_raw_format<R: Read>(feed: &mut Feed<R>) -> Result<RawFormat, FieldReadin
             is_masked: 2 <= flags,
         }),
         None => Err(FieldReadingStop::Error(ErrorKind::BadNodata)),
+    }
+}
+
+// Reads the format of rows of numbers after the code of their type.
+#[tactic(auto, unfolding(crate::specs::Heads::number_format_reading))]
+fn read_number_format<R: Read>(feed: &mut Feed<R>, code: u8) -> Result<MapFormat, FieldReadingStop>
+    ensures { ReadsRequestFieldAndStaysOpen (λ format. format) feed.old result feed.new
+        (number_format_reading code) }
+{
+    match CellType::of_code(code) {
+        Some(kind) => {
+            let format = read_raw_format(feed, kind)?;
+            Ok(MapFormat::Numbers(format))
+        }
+        None => Err(FieldReadingStop::Error(ErrorKind::BadType)),
+    }
+}
+
+// Reads the flags of a text grid, which must be 0.
+#[tactic(auto, unfolding(crate::specs::Heads::text_flags_reading))]
+fn read_text_flags<R: Read>(feed: &mut Feed<R>) -> Result<u8, FieldReadingStop>
+    ensures { ReadsRequestFieldAndStaysOpen (λ flags. flags) feed.old result feed.new
+        text_flags_reading }
+{
+    let flags = read_u8(feed)?;
+    if flags != 0 {
+        return Err(FieldReadingStop::Error(ErrorKind::BadFlags));
+    }
+    Ok(flags)
+}
+
+// Reads the nodata value of a text grid, which must be 0.
+#[tactic(auto, unfolding(crate::specs::Heads::text_nodata_reading))]
+fn read_text_nodata<R: Read>(feed: &mut Feed<R>) -> Result<i64, FieldReadingStop>
+    ensures { ReadsRequestFieldAndStaysOpen (λ number. number) feed.old result feed.new
+        text_nodata_reading }
+{
+    let number = read_i64(feed)?;
+    if number != 0 {
+        return Err(FieldReadingStop::Error(ErrorKind::BadNodata));
+    }
+    Ok(number)
+}
+
+// Reads what follows the type of a text grid.
+#[tactic(auto, unfolding(crate::specs::Heads::text_format_reading))]
+fn read_text_format<R: Read>(feed: &mut Feed<R>) -> Result<MapFormat, FieldReadingStop>
+    ensures { ReadsRequestFieldAndStaysOpen (λ format. format) feed.old result feed.new
+        text_format_reading }
+{
+    let _flags = read_text_flags(feed)?;
+    let _number = read_text_nodata(feed)?;
+    Ok(MapFormat::Text)
+}
+
+#[tactic(auto, unfolding(crate::specs::Heads::map_format_reading))]
+fn read_map_format<R: Read>(feed: &mut Feed<R>) -> Result<MapFormat, FieldReadingStop>
+    ensures { ReadsRequestFieldAndStaysOpen (λ format. format) feed.old result feed.new
+        map_format_reading }
+{
+    let code = read_u8(feed)?;
+    if code == TEXT_GRID_CODE {
+        read_text_format(feed)
+    } else {
+        read_number_format(feed, code)
     }
 }
 
@@ -207,7 +275,7 @@ fn read_label_count_and_labels<R: Read>(
     read_given_number_of_labels(alloc, feed, count)
 }
 
-/// Reads everything before the rows of a map. The shelf contains the previous maps.
+/// Reads everything before the cells of a map. The shelf contains the previous maps.
 #[tactic(auto, unfolding(crate::specs::Heads::map_head_reading))]
 pub fn read_map_head<R: Read>(
     alloc: Global,
@@ -219,7 +287,7 @@ pub fn read_map_head<R: Read>(
     ensures good { IfOk result (λ head. All IsGoodLabel head.labels.items) }
 {
     let name = read_new_map_name(alloc, feed, shelf)?;
-    let format = read_raw_format(feed)?;
+    let format = read_map_format(feed)?;
     let labels = read_label_count_and_labels(alloc, feed)?;
     Ok(MapHead {
         name,

@@ -17,7 +17,7 @@ pub enum CellType {
 }
 
 impl CellType {
-    /// Returns the type with this code, from 1 to 7.
+    /// Returns the type of numbers with this code, from 1 to 7.
     pub fn of_code(code: u8) -> Option<CellType>
         ensures { result ≡ cell_type_of_code code }
     {

@@ -6,7 +6,8 @@
 //! - `question`: `Question`, about the patches of a map; private `questions` reads them
 //! - `error`: `RequestError`, the first error, with the number of maps before it and its row
 //! - `feed`: `Feed` reads a source in blocks: numbers with their lowest byte first, and texts
-//! - `head`: `read_map_head` reads everything before the rows of a map; private `named_map` reads the map
+//! - `head`: `read_map_head` reads everything before the cells of a map; private `named_map` reads the map, and
+//!   `text_map` the cells of a text grid
 //! - `place`: `StatedPlace`, where the maps of a tile are in a full map; private `request_region` reads the region
 //! - `kind`: `CellType`, the seven types of numbers
 //! - `raw_row`: `read_row` converts a row of bytes to cells; `packed_row` does so in place for `u8`
@@ -30,3 +31,4 @@ mod questions;
 pub mod raw_row;
 pub mod request;
 mod request_region;
+mod text_map;

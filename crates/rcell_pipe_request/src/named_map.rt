@@ -1,4 +1,4 @@
-//! Reads a map of a request: its head and its rows.
+//! Reads a map of a request: its head and its cells.
 
 ghost use Rattle.std.specs.Prelude.{◌≡◌, ◌+◌, ◌*◌, ◌<◌, ◌≤◌, List, [], ◌∷◌, ◌++◌, length, map, true, Ok, OnOk, IfOk, All};
 ghost use Rattle.std.specs.FinMap.{insert};
@@ -10,13 +10,14 @@ ghost use Rattle.rcell_pipe_request.specs.RequestFields.{reading_repeated_n_time
 ghost use Rattle.rcell_pipe_request.specs.Feeds.{left, ReadsRequestFieldAndStaysOpen, ReadsWithErrorPosition};
 ghost use Rattle.rcell_pipe_request.specs.Heads.{IsGoodLabel, map_head_as_value, labels_as_values};
 ghost use Rattle.rcell_pipe_request.specs.Rows.{mask_size_of_row, row_cells_reading, error_kind_of_row_error};
-ghost use Rattle.rcell_pipe_request.specs.Requests.{next_row_reading, label_map_with_added_labels, map_reading, named_map_as_value};
+ghost use Rattle.rcell_pipe_request.specs.Requests.{next_row_reading, label_map_with_added_labels, number_map_reading, map_cells_reading, map_reading, named_map_as_value};
 
 use crate::error::{ErrorKind, FieldReadingStop, RequestStop};
 use crate::feed::{Feed, read_bytes_into};
-use crate::head::{CategoryLabel, MapHead, RawFormat, read_map_head};
+use crate::head::{CategoryLabel, MapFormat, MapHead, RawFormat, read_map_head};
 use crate::packed_row::pack_row_or_write_cells;
 use crate::raw_row::RowError;
+use crate::text_map::read_text_map;
 use cell_core::cell::Cell;
 use cell_core::map::{CellMap, MapBuilder};
 use cell_core::memory::Memory;
@@ -98,7 +99,7 @@ fn push_row<R: Read>(
     let pushed = match read_row_into_bytes_or_cells(feed, format, bytes, mask, cells) {
         Ok(true) => builder.push_row_of_bytes(bytes),
         Ok(false) => builder.push_row(cells),
-        Err(stop) => return Err(stop.at(maps, row)),
+        Err(stop) => return Err(stop.at(maps, u64::from(row))),
     };
     match pushed {
         Ok(()) => Ok(()),
@@ -137,6 +138,7 @@ fn read_all_rows<R: Read>(
 }
 
 // Reads the rows into a map without labels.
+#[tactic(auto, unfolding(crate::specs::Requests::number_map_reading))]
 fn read_rows_into_map<R: Read>(
     alloc: Global,
     feed: &mut Feed<R>,
@@ -144,10 +146,8 @@ fn read_rows_into_map<R: Read>(
     format: RawFormat,
     region: Region,
 ) -> Result<CellMap, RequestStop>
-    ensures reads { ReadsWithErrorPosition (λ map. map.rows) feed.old result feed.new
-        (reading_repeated_n_times (next_row_reading maps format region.cols) [] region.rows) }
-    ensures rest { IfOk result (λ map. (map.region ≡ region)
-        × (map.labels ≡ empty_category_labels)) }
+    ensures { ReadsWithErrorPosition (λ map. map) feed.old result feed.new
+        (number_map_reading region maps format) }
 {
     let cols = region.cols() as usize;
     let mut bytes = vec![in alloc; 0u8; cols * format.kind.size()]?;
@@ -166,6 +166,23 @@ fn read_rows_into_map<R: Read>(
     ) {
         Ok(()) => Ok(builder.finish()),
         Err(stop) => Err(stop),
+    }
+}
+
+// Reads the cells into a map without labels.
+fn read_cells_into_map<R: Read>(
+    alloc: Global,
+    feed: &mut Feed<R>,
+    maps: u32,
+    format: MapFormat,
+    region: Region,
+) -> Result<CellMap, RequestStop>
+    ensures { ReadsWithErrorPosition (λ map. map) feed.old result feed.new
+        (map_cells_reading region maps format) }
+{
+    match format {
+        MapFormat::Numbers(numbers) => read_rows_into_map(alloc, feed, maps, numbers, region),
+        MapFormat::Text => read_text_map(alloc, feed, maps, region),
     }
 }
 
@@ -216,7 +233,7 @@ pub fn read_named_map<R: Read>(
         format,
         labels,
     } = head;
-    let mut map = match read_rows_into_map(alloc, feed, maps, format, shelf.region()) {
+    let mut map = match read_cells_into_map(alloc, feed, maps, format, shelf.region()) {
         Ok(map) => map,
         Err(stop) => return Err(stop),
     };

@@ -122,7 +122,7 @@ fn read_next_question<R: Read>(
 {
     let question = match read_question(alloc, feed, number) {
         Ok(question) => question,
-        Err(stop) => return Err(stop.at(maps, number)),
+        Err(stop) => return Err(stop.at(maps, u64::from(number))),
     };
     questions.push(question)?;
     Ok(())

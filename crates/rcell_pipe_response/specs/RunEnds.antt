@@ -4,6 +4,8 @@ use Rattle.std.specs.Prelude.{Result, Ok, Err, if◌then◌else◌}
 use Rattle.std.specs.Option.{option_and_then}
 use Rattle.cell_core_devices.specs.Device.{SinkFaults, append_if_known, faults_after_put, faults_after_flush}
 use Rattle.cell_core_devices.specs.Blocks.{capped_byte_count}
+use Rattle.cell_ascii_meaning.specs.declared.grid_fault.GridKind.{GridKind}
+use Rattle.cell_ascii_meaning.specs.declared.grid_fault.GridKind.TheVariants as grid_kinds
 use Rattle.rcell_script.specs.Scripts.{IsScript}
 use Rattle.rcell_script.specs.ReadScripts.{IsScriptFault}
 use Rattle.rcell_script.specs.declared.statement.Statement.{Statement}
@@ -38,6 +40,24 @@ use Rattle.rcell_pipe_response.specs.QuestionFrames.{question_error_after_statem
 abbrev pub end_frame_as_value : End → RunEndValue
 end_frame_as_value end = record { status = end.status; source = end.source; maps = end.maps; line = end.line; column = end.column; text = end.text.now }
 
+-- the text that rcell prints for an error in the text of a grid
+abbrev pub grid_error_text : GridKind → List ℕ
+grid_error_text grid_kinds.BadHeader = codes "bad header line"
+grid_error_text grid_kinds.TwiceKey = codes "key given twice"
+grid_error_text grid_kinds.MissingKey = codes "missing key"
+grid_error_text grid_kinds.BadNumber = codes "bad number"
+grid_error_text grid_kinds.BadType = codes "type not supported"
+grid_error_text (grid_kinds.Region fault) = codes "bad region"
+grid_error_text grid_kinds.BadCell = codes "bad cell"
+grid_error_text grid_kinds.CellRange = codes "cell out of range"
+grid_error_text grid_kinds.TooFew = codes "too few cells"
+grid_error_text grid_kinds.TooMany = codes "too many cells"
+grid_error_text grid_kinds.Read = codes "read failed"
+grid_error_text grid_kinds.Memory = codes "no memory"
+grid_error_text grid_kinds.Failed = codes "reader failed"
+grid_error_text grid_kinds.ReaderStuck = codes "too many blanks"
+grid_error_text grid_kinds.LongToken = codes "token too long"
+
 -- the text for an error in a request's bytes
 abbrev pub request_error_text : ErrorKind → List ℕ
 request_error_text kinds.BadMagic = codes "bad magic"
@@ -55,6 +75,8 @@ request_error_text kinds.BadNodata = codes "bad nodata"
 request_error_text kinds.BadLabel = codes "bad label"
 request_error_text kinds.BadMask = codes "bad mask"
 request_error_text kinds.CellRange = codes "cell out of range"
+request_error_text (kinds.Grid kind) = grid_error_text kind
+request_error_text kinds.OtherRegion = codes "other region"
 request_error_text kinds.ScriptSize = codes "script too long"
 request_error_text kinds.BadQuestion = codes "bad question"
 request_error_text kinds.BadConnectivity = codes "bad connectivity"

@@ -3,11 +3,12 @@
 ghost use Rattle.std.specs.Prelude.{◌≡◌};
 ghost use Rattle.cell_core_devices.specs.Blocks.{IsTextAppendedThroughBlock};
 ghost use Rattle.rcell_pipe_frames.specs.FrameBytes.{run_end_frame_bytes};
-ghost use Rattle.rcell_pipe_response.specs.RunEnds.{request_error_text, exit_status_of_request_error, column_of_script_error, end_frame_of_successful_run, request_end, end_frame_of_rejected_script, halo_error_text, end_frame_of_rejected_halo, question_error_text, end_frame_of_rejected_question, memory_end, exit_status_of_pipe_error, exit_status_of_pipe_run, end_frame_as_value};
+ghost use Rattle.rcell_pipe_response.specs.RunEnds.{grid_error_text, request_error_text, exit_status_of_request_error, column_of_script_error, end_frame_of_successful_run, request_end, end_frame_of_rejected_script, halo_error_text, end_frame_of_rejected_halo, question_error_text, end_frame_of_rejected_question, memory_end, exit_status_of_pipe_error, exit_status_of_pipe_run, end_frame_as_value};
 ghost use Rattle.rcell_pipe_response.specs.parts.ScriptKinds.{is_memory_error};
 ghost use Rattle.rcell_script.specs.ScriptTexts.{script_error_text};
 
 use crate::question_error::{QuestionError, QuestionErrorKind};
+use cell_ascii_meaning::grid_fault::GridKind;
 use cell_core::block::OutputBlock;
 use cell_core::sink::Sink;
 use rcell_pipe_frames::bytes::{push_eight_byte_number, push_length_and_text};
@@ -47,6 +48,29 @@ pub struct End<'a> {
     pub text: &'a [u8],
 }
 
+// Returns the text that `rcell` prints for an error in the text of a grid.
+fn grid_error_text(kind: GridKind) -> &'static [u8]
+    ensures { result.now ≡ grid_error_text kind }
+{
+    match kind {
+        GridKind::BadHeader => b"bad header line",
+        GridKind::TwiceKey => b"key given twice",
+        GridKind::MissingKey => b"missing key",
+        GridKind::BadNumber => b"bad number",
+        GridKind::BadType => b"type not supported",
+        GridKind::Region(_) => b"bad region",
+        GridKind::BadCell => b"bad cell",
+        GridKind::CellRange => b"cell out of range",
+        GridKind::TooFew => b"too few cells",
+        GridKind::TooMany => b"too many cells",
+        GridKind::Read => b"read failed",
+        GridKind::Memory => b"no memory",
+        GridKind::Failed => b"reader failed",
+        GridKind::ReaderStuck => b"too many blanks",
+        GridKind::LongToken => b"token too long",
+    }
+}
+
 fn request_error_text(kind: ErrorKind) -> &'static [u8]
     ensures { result.now ≡ request_error_text kind }
 {
@@ -66,6 +90,8 @@ fn request_error_text(kind: ErrorKind) -> &'static [u8]
         ErrorKind::BadLabel => b"bad label",
         ErrorKind::BadMask => b"bad mask",
         ErrorKind::CellRange => b"cell out of range",
+        ErrorKind::Grid(kind) => grid_error_text(kind),
+        ErrorKind::OtherRegion => b"other region",
         ErrorKind::ScriptSize => b"script too long",
         ErrorKind::BadQuestion => b"bad question",
         ErrorKind::BadConnectivity => b"bad connectivity",
@@ -123,7 +149,7 @@ pub fn request_end(error: RequestError) -> End<'static>
         status: exit_status_of_request_error(error.kind),
         source: 1,
         maps: error.maps,
-        line: error.row as u64,
+        line: error.row,
         column: 0,
         text: request_error_text(error.kind),
     }

@@ -13,9 +13,9 @@ use Rattle.rcell_pipe_request.specs.RequestFields.{bytes_reading, unsigned_numbe
 use Rattle.rcell_pipe_request.specs.RequestFields.{sized_text_reading, end_of_request_reading, reading_repeated_n_times}
 use Rattle.rcell_pipe_request.specs.RequestRegions.{coordinate_reading, edges_reading, region_reading}
 use Rattle.rcell_pipe_request.specs.Heads.{map_name_reading, new_map_name_reading}
-use Rattle.rcell_pipe_request.specs.Heads.{format_flags_reading, cell_type_reading, raw_format_reading, label_reading}
-use Rattle.rcell_pipe_request.specs.Heads.{next_label_reading, labels_reading, map_head_reading}
-use Rattle.rcell_pipe_request.specs.Requests.{next_row_reading, label_map_with_added_labels, map_reading}
+use Rattle.rcell_pipe_request.specs.Heads.{format_flags_reading, raw_format_reading, number_format_reading, label_reading}
+use Rattle.rcell_pipe_request.specs.Heads.{map_format_reading, next_label_reading, labels_reading, map_head_reading}
+use Rattle.rcell_pipe_request.specs.Requests.{next_row_reading, number_map_reading, label_map_with_added_labels, map_reading}
 use Rattle.rcell_pipe_request.specs.Requests.{next_map_reading}
 use Rattle.rcell_pipe_request.specs.Requests.{map_count_reading, script_bytes_reading}
 use Rattle.rcell_pipe_request.specs.Requests.{maps_reading, run_over_shelves_reading}
@@ -37,8 +37,8 @@ small_cells = combinations_at_all_cells small_shelf (0 ∷ [])
 pub returns : goal.returns
 unfolding line_len lines_from bytes_reading unsigned_number_reading signed_number_reading sized_text_reading
     reading_repeated_n_times coordinate_reading edges_reading region_reading map_name_reading new_map_name_reading
-    format_flags_reading cell_type_reading raw_format_reading label_reading next_label_reading
-    labels_reading map_head_reading next_row_reading label_map_with_added_labels map_reading next_map_reading
+    format_flags_reading raw_format_reading number_format_reading map_format_reading label_reading next_label_reading
+    labels_reading map_head_reading next_row_reading number_map_reading label_map_with_added_labels map_reading next_map_reading
     map_count_reading
     script_bytes_reading end_of_request_reading questions_reading questions_to_request_end_reading maps_reading
     run_over_shelves_reading run_request_reading row_cells_reading request_form_reading
