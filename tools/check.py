@@ -92,6 +92,7 @@ EDITED = (
     "rcell_pipe_law",
     "rcell_pipe_request",
     "rcell_pipe_response",
+    "rcell_pipe_rows",
     "rcell_plan",
     "rcell_plan_response",
     "rcell_worked",

@@ -13,12 +13,12 @@ use Rattle.rcell_pipe_request.specs.Heads.{LabelValue, map_name_reading, format_
 use Rattle.rcell_pipe_request.specs.Heads.{raw_format_reading, label_reading, nodata_if_valid, map_format_reading}
 use Rattle.rcell_pipe_request.specs.Heads.{text_format_reading, text_flags_reading, text_nodata_reading}
 use Rattle.rcell_pipe_request.specs.RequestRegions.{coordinate_reading}
-use Rattle.rcell_pipe_request.specs.Numbers.{cell_type_of_code}
+use Rattle.rcell_pipe_rows.specs.Numbers.{cell_type_of_code}
 use Rattle.rcell_pipe_request.specs.RequestFields.{sized_text_reading}
 use Rattle.rcell_pipe_request.specs.declared.head.RawFormat.{RawFormat}
 use Rattle.rcell_pipe_request.specs.declared.head.MapFormat.TheVariants as formats
-use Rattle.rcell_pipe_request.specs.declared.kind.CellType.{CellType}
-use Rattle.rcell_pipe_request.specs.declared.kind.CellType.TheVariants.{U8, I8, U16, I16, U32, I32, I64}
+use Rattle.rcell_pipe_rows.specs.declared.kind.CellType.{CellType}
+use Rattle.rcell_pipe_rows.specs.declared.kind.CellType.TheVariants.{U8, I8, U16, I16, U32, I32, I64}
 use Rattle.rcell_pipe_request.proofs.FeedLemmas.{bytes_reading-all}
 use Rattle.rcell_pipe_law.specs.SentBytes.{text_with_length_bytes, twos_complement_bytes, code_of_cell_type}
 use Rattle.rcell_pipe_law.specs.SentBytes.{null_and_mask_flags, text_format_bytes}

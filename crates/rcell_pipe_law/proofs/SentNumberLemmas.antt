@@ -9,10 +9,10 @@ use Rattle.std.proofs.lemmas.Nat.{from_le_bytes-to_le_bytes_2, from_le_bytes-to_
 use Rattle.std.proofs.lemmas.Nat.{from_le_bytes-to_le_bytes_8}
 use Rattle.cell_core_devices.specs.Device.{ComingBytes}
 use Rattle.rcell_pipe_request.specs.Feeds.{after}
-use Rattle.rcell_pipe_request.specs.Numbers.{number_from_bytes, bit_width_of_cell_type}
+use Rattle.rcell_pipe_rows.specs.Numbers.{number_from_bytes, bit_width_of_cell_type}
 use Rattle.rcell_pipe_request.specs.RequestFields.{unsigned_number_reading, signed_number_reading}
-use Rattle.rcell_pipe_request.specs.declared.kind.CellType.{CellType}
-use Rattle.rcell_pipe_request.specs.declared.kind.CellType.TheVariants.{U8, I8, U16, I16, U32, I32, I64}
+use Rattle.rcell_pipe_rows.specs.declared.kind.CellType.{CellType}
+use Rattle.rcell_pipe_rows.specs.declared.kind.CellType.TheVariants.{U8, I8, U16, I16, U32, I32, I64}
 use Rattle.rcell_pipe_request.proofs.FeedLemmas.{bytes_reading-all}
 use Rattle.rcell_pipe_law.specs.SentBytes.{twos_complement_bytes}
 use Rattle.rcell_pipe_law.specs.SentMaps.{IsNumberOfCellType}

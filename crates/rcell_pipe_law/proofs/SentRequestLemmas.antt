@@ -89,8 +89,8 @@ more_maps shelf (m ∷ ms) rest law good distinct =
     (sym (append_assoc shelf.names (m.name ∷ []) names)) distinct in
     rw (
       after-append (bytes_of_sent_map m) (flat_map bytes_of_sent_map ms) rest,
-      map_reads shelf m (after (flat_map bytes_of_sent_map ms) rest) law (head_of (IsSendableMap shelf.region) m ms good)
-          (new_name shelf.names m.name names distinct),
+      map_reads shelf m (after (flat_map bytes_of_sent_map ms) rest) law
+          (head_of (IsSendableMap shelf.region) m ms good) (new_name shelf.names m.name names distinct),
     )
     (more_maps next ms rest law (tail_of (IsSendableMap shelf.region) m ms good) others
     ∙ (λ i. Ok (

@@ -10,12 +10,12 @@ use Rattle.std.proofs.Math.Seq.{drop-append-add}
 use Rattle.cell_core_devices.specs.Device.{ComingBytes}
 use Rattle.cell_core_values.specs.Cell.{is_category}
 use Rattle.rcell_pipe_request.specs.Feeds.{after}
-use Rattle.rcell_pipe_request.specs.Numbers.{byte_size_of_cell_type, raw_number_at_place, bit_width_of_cell_type}
-use Rattle.rcell_pipe_request.specs.Numbers.{number_from_bytes}
-use Rattle.rcell_pipe_request.specs.RawRows.{is_hiding_mask_byte, is_nodata, raw_cell_at_place}
-use Rattle.rcell_pipe_request.specs.RawRows.{is_invalid_raw_number_at_place, raw_cells}
-use Rattle.rcell_pipe_request.specs.RawRows.{has_invalid_raw_number}
-use Rattle.rcell_pipe_request.specs.RawRows.{is_bad_mask, first_error_of_raw_row}
+use Rattle.rcell_pipe_rows.specs.Numbers.{byte_size_of_cell_type, raw_number_at_place, bit_width_of_cell_type}
+use Rattle.rcell_pipe_rows.specs.Numbers.{number_from_bytes}
+use Rattle.rcell_pipe_rows.specs.RawRows.{is_hiding_mask_byte, is_nodata, raw_cell_at_place}
+use Rattle.rcell_pipe_rows.specs.RawRows.{is_invalid_raw_number_at_place, raw_cells}
+use Rattle.rcell_pipe_rows.specs.RawRows.{has_invalid_raw_number}
+use Rattle.rcell_pipe_rows.specs.RawRows.{is_bad_mask, first_error_of_raw_row}
 use Rattle.rcell_pipe_request.specs.Rows.{row_cells_reading, mask_size_of_row}
 use Rattle.rcell_pipe_request.specs.declared.head.RawFormat.{RawFormat}
 use Rattle.rcell_pipe_request.proofs.FeedLemmas.{bytes_reading-all}

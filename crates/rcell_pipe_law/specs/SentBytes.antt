@@ -4,10 +4,10 @@ use Rattle.std.specs.Prelude.{ℕ, ℤ, pos, ◌+◌, ◌*◌, Bool, true, false
 use Rattle.std.specs.Prelude.{Option, is_some, unwrap_or, if◌then◌else◌}
 use Rattle.std.specs.Int.{Width, w8, w16, w32, w64, to_le_bytes, cast_unsigned}
 use Rattle.rcell_pipe_request.specs.Heads.{LabelValue}
-use Rattle.rcell_pipe_request.specs.Numbers.{bit_width_of_cell_type}
+use Rattle.rcell_pipe_rows.specs.Numbers.{bit_width_of_cell_type}
 use Rattle.rcell_pipe_request.specs.declared.head.RawFormat.{RawFormat}
-use Rattle.rcell_pipe_request.specs.declared.kind.CellType.{CellType}
-use Rattle.rcell_pipe_request.specs.declared.kind.CellType.TheVariants.{U8, I8, U16, I16, U32, I32, I64}
+use Rattle.rcell_pipe_rows.specs.declared.kind.CellType.{CellType}
+use Rattle.rcell_pipe_rows.specs.declared.kind.CellType.TheVariants.{U8, I8, U16, I16, U32, I32, I64}
 use Rattle.rcell_pipe_law.specs.SentMaps.{SentCell, SentCells, Numbers, Text, SentMap, SentRegion}
 
 -- a number in two's complement

@@ -3,7 +3,7 @@
 use Rattle.std.specs.Prelude.{ℕ, pos, negsuc, ◌≡◌, true, false, List, [], ◌∷◌, ◌++◌, Some, None, codes}
 use Rattle.cell_core.specs.Grid.{CellValue, empty_category_labels}
 use Rattle.cell_clumps.specs.declared.clump.Joining.TheVariants.{EdgesAndCorners}
-use Rattle.rcell_pipe_request.specs.declared.kind.CellType.TheVariants.{U8, I16}
+use Rattle.rcell_pipe_rows.specs.declared.kind.CellType.TheVariants.{U8, I16}
 use Rattle.rcell_pipe_law.specs.RequestLaw.{IsSendableRequest, SentRequest, request_bytes}
 use Rattle.rcell_pipe_law.specs.SentMaps.{SentCell, SentMap, SentRegion, SentRows, SentText, Numbers, Text}
 use Rattle.rcell_pipe_law.specs.SentMaps.{grid_of_sent_map}
@@ -55,8 +55,8 @@ abbrev pub example_grid_text : List ℕ
 example_grid_text = codes "north: 2\nsouth: 0\neast: 3\nwest: 0\nrows: 2\ncols: 3\n5 5 *\n-1 5 5\n"
 
 abbrev pub example_text_map_cells : List (List CellValue)
-example_text_map_cells = (Some (pos 5) ∷ Some (pos 5) ∷ None ∷ []) ∷ (Some (negsuc 0) ∷ Some (pos 5) ∷ Some (pos 5) ∷ [])
-    ∷ []
+example_text_map_cells = (Some (pos 5) ∷ Some (pos 5) ∷ None ∷ [])
+    ∷ (Some (negsuc 0) ∷ Some (pos 5) ∷ Some (pos 5) ∷ []) ∷ []
 
 abbrev pub example_text : SentText
 example_text = record {
@@ -116,7 +116,8 @@ example_heat_request_bytes =
     ++ (1 ∷ 0 ∷ 0 ∷ 0 ∷ 254 ∷ 255 ∷ 255 ∷ 255 ∷ 4 ∷ 0 ∷ []) ++ codes "cold"
     ++ (254 ∷ 255 ∷ 7 ∷ 0 ∷ 3 ∷ 0 ∷ 0 ∷ 1 ∷ 0 ∷ []) ++ (3 ∷ 0 ∷ 3 ∷ 0 ∷ 212 ∷ 254 ∷ 0 ∷ 0 ∷ 0 ∷ [])
     ++ (4 ∷ []) ++ codes "town" ++ (8 ∷ 0 ∷ 0 ∷ 0 ∷ 0 ∷ 0 ∷ 0 ∷ 0 ∷ 0 ∷ 0 ∷ 0 ∷ 0 ∷ 0 ∷ 0 ∷ [])
-    ++ (63 ∷ 0 ∷ 0 ∷ 0 ∷ 0 ∷ 0 ∷ 0 ∷ 0 ∷ []) ++ codes "north: 2\nsouth: 0\neast: 3\nwest: 0\nrows: 2\ncols: 3\n5 5 *\n-1 5 5\n"
+    ++ (63 ∷ 0 ∷ 0 ∷ 0 ∷ 0 ∷ 0 ∷ 0 ∷ 0 ∷ [])
+    ++ codes "north: 2\nsouth: 0\neast: 3\nwest: 0\nrows: 2\ncols: 3\n5 5 *\n-1 5 5\n"
     ++ (22 ∷ 0 ∷ 0 ∷ 0 ∷ []) ++ codes "r.stats -c input=land\n"
     ++ (1 ∷ 0 ∷ 0 ∷ 0 ∷ 3 ∷ 4 ∷ []) ++ codes "heat" ++ (8 ∷ 2 ∷ 0 ∷ 0 ∷ 0 ∷ 4 ∷ []) ++ codes "land"
 

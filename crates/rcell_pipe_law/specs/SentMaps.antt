@@ -11,11 +11,11 @@ use Rattle.cell_core.specs.Shelf.{ShelfValue}
 use Rattle.cell_ascii_meaning.specs.EdgeNumbers.{coordinate_of_text}
 use Rattle.cell_ascii_meaning.specs.GridText.{SourceDenotesMap}
 use Rattle.rcell_pipe_request.specs.Heads.{LabelValue, is_bad_label}
-use Rattle.rcell_pipe_request.specs.Numbers.{can_represent_number}
-use Rattle.rcell_pipe_request.specs.RawRows.{is_nodata}
+use Rattle.rcell_pipe_rows.specs.Numbers.{can_represent_number}
+use Rattle.rcell_pipe_rows.specs.RawRows.{is_nodata}
 use Rattle.rcell_pipe_request.specs.Requests.{label_map_with_added_labels}
 use Rattle.rcell_pipe_request.specs.declared.head.RawFormat.{RawFormat}
-use Rattle.rcell_pipe_request.specs.declared.kind.CellType.{CellType}
+use Rattle.rcell_pipe_rows.specs.declared.kind.CellType.{CellType}
 
 -- a number, and whether the mask hides it
 pub record SentCell : Type 0 where

@@ -1,4 +1,3 @@
 pub mod FeedLemmas
 pub mod GivenLemmas
 pub mod StepLemmas
-pub mod RowLemmas

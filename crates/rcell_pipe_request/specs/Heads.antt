@@ -6,8 +6,8 @@ use Rattle.std.specs.Option.{is_none}
 use Rattle.std.specs.Int.{w8, w16, w32, w64}
 use Rattle.cell_core_devices.specs.Device.{ComingBytes}
 use Rattle.cell_core_values.specs.Name.{is_name, place_of_name}
-use Rattle.rcell_pipe_request.specs.declared.kind.CellType.{CellType}
-use Rattle.rcell_pipe_request.specs.Numbers.{cell_type_of_code, can_represent_number}
+use Rattle.rcell_pipe_rows.specs.declared.kind.CellType.{CellType}
+use Rattle.rcell_pipe_rows.specs.Numbers.{cell_type_of_code, can_represent_number}
 use Rattle.rcell_pipe_request.specs.declared.head.RawFormat.{RawFormat}
 use Rattle.rcell_pipe_request.specs.declared.head.MapFormat.{MapFormat}
 use Rattle.rcell_pipe_request.specs.declared.head.MapFormat.TheVariants as formats

@@ -1,8 +1,4 @@
--- Rows of cells as bytes.
 -- The meaning of a request's bytes, and their first error.
-pub mod Numbers
-pub mod RawRows
-pub mod PackedRows
 pub mod RequestFields
 pub mod RequestRegions
 pub mod Heads

@@ -51,6 +51,9 @@ label_map_with_added_labels labels [] = labels
 label_map_with_added_labels labels (label ∷ more) = label_map_with_added_labels
     (finmap.insert labels label.category label.text) more
 
+abbrev pub map_with_added_labels : Grid → List LabelValue → Grid
+map_with_added_labels map labels = record map { labels = label_map_with_added_labels map.labels labels }
+
 -- a map and its name
 pub record NamedMapValue : Type 0 where
   pub name : List ℕ
@@ -72,7 +75,7 @@ unfoldable pub map_reading : ShelfValue → ComingBytes → PositionedReading Na
 map_reading shelf c = do
   head ← result_with_error_position (length shelf.names) 0 (map_head_reading shelf.names c)
   map ← map_cells_reading shelf.region (length shelf.names) head.0.format head.1
-  Ok (record { name = head.0.name; grid = record map.0 { labels = label_map_with_added_labels map.0.labels head.0.labels } }, map.1)
+  Ok (record { name = head.0.name; grid = map_with_added_labels map.0 head.0.labels }, map.1)
 
 abbrev pub shelf_with_named_map : ShelfValue → NamedMapValue → ShelfValue
 shelf_with_named_map shelf named = record shelf {

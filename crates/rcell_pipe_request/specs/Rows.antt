@@ -2,10 +2,10 @@
 use Rattle.std.specs.Prelude.{ℕ, ◌*◌, List, Option, Some, None, Ok, Err, if◌then◌else◌}
 use Rattle.cell_core_devices.specs.Device.{ComingBytes}
 use Rattle.cell_core.specs.Grid.{CellValue}
-use Rattle.rcell_pipe_request.specs.Numbers.{byte_size_of_cell_type}
-use Rattle.rcell_pipe_request.specs.RawRows.{raw_cells, first_error_of_raw_row}
-use Rattle.rcell_pipe_request.specs.declared.raw_row.RowError.{RowError}
-use Rattle.rcell_pipe_request.specs.declared.raw_row.RowError.TheVariants as row_errors
+use Rattle.rcell_pipe_rows.specs.Numbers.{byte_size_of_cell_type}
+use Rattle.rcell_pipe_rows.specs.RawRows.{raw_cells, first_error_of_raw_row}
+use Rattle.rcell_pipe_rows.specs.declared.raw_row.RowError.{RowError}
+use Rattle.rcell_pipe_rows.specs.declared.raw_row.RowError.TheVariants as row_errors
 use Rattle.rcell_pipe_request.specs.declared.head.RawFormat.{RawFormat}
 use Rattle.rcell_pipe_request.specs.declared.error.ErrorKind.{ErrorKind}
 use Rattle.rcell_pipe_request.specs.declared.error.ErrorKind.TheVariants as kinds

@@ -13,8 +13,11 @@ use Rattle.rcell_pipe_request.specs.RequestFields.{PositionedReading, result_wit
 
 -- the map if it has this region; otherwise an error, with the line of an error in the text
 abbrev pub text_map_or_error : RegionValue → ℕ → ComingBytes → Result Grid GridFault → PositionedReading Grid
-text_map_or_error region maps rest (Ok map) = if is_same_region map.region region then Ok (map, rest) else Err (record { kind = kinds.OtherRegion; maps = maps; row = 0 })
-text_map_or_error region maps rest (Err fault) = Err (record { kind = kinds.Grid fault.kind; maps = maps; row = fault.line })
+text_map_or_error region maps rest (Ok map) =
+    if is_same_region map.region region then Ok (map, rest)
+    else Err (record { kind = kinds.OtherRegion; maps = maps; row = 0 })
+text_map_or_error region maps rest (Err fault) =
+    Err (record { kind = kinds.Grid fault.kind; maps = maps; row = fault.line })
 
 -- the length of a text, the text, and the map that it denotes, which must have this region
 unfoldable pub text_map_reading : RegionValue → ℕ → ComingBytes → PositionedReading Grid

@@ -1,5 +1,3 @@
 -- Definitions that only private functions and proofs use.
-pub mod PackedBytes
 pub mod Edges
-pub mod NarrowNumbers
 pub mod TextStops

@@ -10,9 +10,9 @@ use crate::feed::{
     Feed, read_i32, read_i64, read_text_with_u8_length, read_text_with_u16_length, read_u8,
     read_u32,
 };
-use crate::kind::CellType;
 use cell_core::name::{Name, NameFault};
 use cell_core::shelf::Shelf;
+use rcell_pipe_rows::kind::CellType;
 use std::alloc::Global;
 use std::io::Read;
 

@@ -9,8 +9,6 @@
 //! - `head`: `read_map_head` reads everything before the cells of a map; private `named_map` reads the map, and
 //!   `text_map` the cells of a text grid
 //! - `place`: `StatedPlace`, where the maps of a tile are in a full map; private `request_region` reads the region
-//! - `kind`: `CellType`, the seven types of numbers
-//! - `raw_row`: `read_row` converts a row of bytes to cells; `packed_row` does so in place for `u8`
 //!
 //! From tools/test_pipe.py: edges, type 1 (`u8`), rows, and 255 for null:
 //!
@@ -22,13 +20,10 @@
 pub mod error;
 pub mod feed;
 pub mod head;
-pub mod kind;
 mod named_map;
-pub mod packed_row;
 pub mod place;
 pub mod question;
 mod questions;
-pub mod raw_row;
 pub mod request;
 mod request_region;
 mod text_map;

@@ -4,8 +4,8 @@ ghost use Rattle.std.specs.Prelude.{◌≡◌, ◌+◌, ◌*◌, ◌<◌, ◌≤
 ghost use Rattle.std.specs.FinMap.{insert};
 ghost use Rattle.cell_core_values.specs.Region.{RegionValue};
 ghost use Rattle.cell_core.specs.Grid.{Grid, UnfinishedMap, empty_category_labels};
-ghost use Rattle.rcell_pipe_request.specs.Numbers.{byte_size_of_cell_type};
-ghost use Rattle.rcell_pipe_request.specs.PackedRows.{cells_of_maybe_packed_row};
+ghost use Rattle.rcell_pipe_rows.specs.Numbers.{byte_size_of_cell_type};
+ghost use Rattle.rcell_pipe_rows.specs.PackedRows.{cells_of_maybe_packed_row};
 ghost use Rattle.rcell_pipe_request.specs.RequestFields.{reading_repeated_n_times};
 ghost use Rattle.rcell_pipe_request.specs.Feeds.{left, ReadsRequestFieldAndStaysOpen, ReadsWithErrorPosition};
 ghost use Rattle.rcell_pipe_request.specs.Heads.{IsGoodLabel, map_head_as_value, labels_as_values};
@@ -15,8 +15,6 @@ ghost use Rattle.rcell_pipe_request.specs.Requests.{next_row_reading, label_map_
 use crate::error::{ErrorKind, FieldReadingStop, RequestStop};
 use crate::feed::{Feed, read_bytes_into};
 use crate::head::{CategoryLabel, MapFormat, MapHead, RawFormat, read_map_head};
-use crate::packed_row::pack_row_or_write_cells;
-use crate::raw_row::RowError;
 use crate::text_map::read_text_map;
 use cell_core::cell::Cell;
 use cell_core::map::{CellMap, MapBuilder};
@@ -24,6 +22,8 @@ use cell_core::memory::Memory;
 use cell_core::name::Name;
 use cell_core::region::Region;
 use cell_core::shelf::Shelf;
+use rcell_pipe_rows::packed_row::pack_row_or_write_cells;
+use rcell_pipe_rows::raw_row::RowError;
 use std::alloc::Global;
 use std::io::Read;
 

@@ -10,7 +10,8 @@ use Rattle.rcell_pipe_request.specs.declared.error.RequestStop.TheVariants as re
 -- memory ran out, or the error, with its line in the text
 abbrev pub request_stop_of_grid_kind : ℕ → ℕ → GridKind → RequestStop
 request_stop_of_grid_kind maps line Memory = request_stops.Memory
-request_stop_of_grid_kind maps line kind = request_stops.Error (record { kind = kinds.Grid kind; maps = maps; row = line })
+request_stop_of_grid_kind maps line kind =
+    request_stops.Error (record { kind = kinds.Grid kind; maps = maps; row = line })
 
 abbrev pub request_stop_of_grid_fault : ℕ → GridFault → RequestStop
 request_stop_of_grid_fault maps fault = request_stop_of_grid_kind maps fault.line fault.kind

@@ -13,9 +13,11 @@ use Rattle.rcell_pipe_request.specs.RequestFields.{bytes_reading, unsigned_numbe
 use Rattle.rcell_pipe_request.specs.RequestFields.{sized_text_reading, end_of_request_reading, reading_repeated_n_times}
 use Rattle.rcell_pipe_request.specs.RequestRegions.{coordinate_reading, edges_reading, region_reading}
 use Rattle.rcell_pipe_request.specs.Heads.{map_name_reading, new_map_name_reading}
-use Rattle.rcell_pipe_request.specs.Heads.{format_flags_reading, raw_format_reading, number_format_reading, label_reading}
-use Rattle.rcell_pipe_request.specs.Heads.{map_format_reading, next_label_reading, labels_reading, map_head_reading}
-use Rattle.rcell_pipe_request.specs.Requests.{next_row_reading, number_map_reading, label_map_with_added_labels, map_reading}
+use Rattle.rcell_pipe_request.specs.Heads.{format_flags_reading, raw_format_reading, number_format_reading}
+use Rattle.rcell_pipe_request.specs.Heads.{map_format_reading, label_reading, next_label_reading, labels_reading}
+use Rattle.rcell_pipe_request.specs.Heads.{map_head_reading}
+use Rattle.rcell_pipe_request.specs.Requests.{next_row_reading, number_map_reading, map_reading}
+use Rattle.rcell_pipe_request.specs.Requests.{label_map_with_added_labels}
 use Rattle.rcell_pipe_request.specs.Requests.{next_map_reading}
 use Rattle.rcell_pipe_request.specs.Requests.{map_count_reading, script_bytes_reading}
 use Rattle.rcell_pipe_request.specs.Requests.{maps_reading, run_over_shelves_reading}
@@ -38,9 +40,9 @@ pub returns : goal.returns
 unfolding line_len lines_from bytes_reading unsigned_number_reading signed_number_reading sized_text_reading
     reading_repeated_n_times coordinate_reading edges_reading region_reading map_name_reading new_map_name_reading
     format_flags_reading raw_format_reading number_format_reading map_format_reading label_reading next_label_reading
-    labels_reading map_head_reading next_row_reading number_map_reading label_map_with_added_labels map_reading next_map_reading
-    map_count_reading
-    script_bytes_reading end_of_request_reading questions_reading questions_to_request_end_reading maps_reading
+    labels_reading map_head_reading next_row_reading number_map_reading label_map_with_added_labels map_reading
+    next_map_reading map_count_reading script_bytes_reading end_of_request_reading questions_reading
+    questions_to_request_end_reading maps_reading
     run_over_shelves_reading run_request_reading row_cells_reading request_form_reading
     first_question_error
 returns c = record {

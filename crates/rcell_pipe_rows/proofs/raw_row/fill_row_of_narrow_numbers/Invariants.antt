@@ -1,6 +1,6 @@
 use Rattle.std.proofs.Common.{◌≡◌, ◌&&◌, not, negsuc, take}
-use Rattle.rcell_pipe_request.specs.RawRows.{is_nodata, raw_cells, has_invalid_raw_number}
-use Rattle.rcell_pipe_request.proofs.raw_row.fill_row_of_narrow_numbers.Given as goal
+use Rattle.rcell_pipe_rows.specs.RawRows.{is_nodata, raw_cells, has_invalid_raw_number}
+use Rattle.rcell_pipe_rows.proofs.raw_row.fill_row_of_narrow_numbers.Given as goal
 
 abbrev pub invariant-loop-i : goal.invariant-loop-i
 invariant-loop-i l = record {

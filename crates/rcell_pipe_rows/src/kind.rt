@@ -1,8 +1,8 @@
 //! The types of the numbers in a request.
 
 ghost use Rattle.std.specs.Prelude.{◌≡◌, ◌+◌, ◌*◌, ◌<◌, ◌≤◌, length, take, drop, true};
-ghost use Rattle.rcell_pipe_request.specs.Numbers.{cell_type_of_code, byte_size_of_cell_type, raw_number_at_place, can_represent_number};
-ghost use Rattle.rcell_pipe_request.specs.parts.NarrowNumbers.{is_cell_type_within_i32};
+ghost use Rattle.rcell_pipe_rows.specs.Numbers.{cell_type_of_code, byte_size_of_cell_type, raw_number_at_place, can_represent_number};
+ghost use Rattle.rcell_pipe_rows.specs.parts.NarrowNumbers.{is_cell_type_within_i32};
 
 /// A number's size in bits, and whether it is signed.
 #[derive(Clone, Copy, Debug, PartialEq, Eq)]

@@ -1,6 +1,6 @@
 use Rattle.std.proofs.Common.{arith}
-use Rattle.rcell_pipe_request.proofs.RowLemmas.{cells_more, outside_more}
-use Rattle.rcell_pipe_request.proofs.raw_row.fill_row_and_report_invalid.Goals as goal
+use Rattle.rcell_pipe_rows.proofs.RowLemmas.{cells_more, outside_more}
+use Rattle.rcell_pipe_rows.proofs.raw_row.fill_row_and_report_invalid.Goals as goal
 
 pub loop-i-preserved : goal.loop-i-preserved
 loop-i-preserved c = (

@@ -3,10 +3,10 @@ use Rattle.std.specs.Prelude.{ℕ, ℤ, Bool, false, ◌&&◌, not, nat_lt, List
 use Rattle.std.specs.Ordering.{int_eq}
 use Rattle.std.specs.List.{list_any, range_with_len}
 use Rattle.cell_core_values.specs.Cell.{is_category}
-use Rattle.rcell_pipe_request.specs.declared.kind.CellType.{CellType}
-use Rattle.rcell_pipe_request.specs.declared.raw_row.RowError.{RowError}
-use Rattle.rcell_pipe_request.specs.declared.raw_row.RowError.TheVariants.{BadMask, OutOfRange}
-use Rattle.rcell_pipe_request.specs.Numbers.{raw_number_at_place}
+use Rattle.rcell_pipe_rows.specs.declared.kind.CellType.{CellType}
+use Rattle.rcell_pipe_rows.specs.declared.raw_row.RowError.{RowError}
+use Rattle.rcell_pipe_rows.specs.declared.raw_row.RowError.TheVariants.{BadMask, OutOfRange}
+use Rattle.rcell_pipe_rows.specs.Numbers.{raw_number_at_place}
 
 -- a byte of the mask, if there is a mask, hides a cell unless it is 0
 abbrev pub is_hiding_mask_byte : Option ℕ → Bool

@@ -1,6 +1,6 @@
 use Rattle.std.proofs.Common.{◌≡◌, ◌<◌, ◌≤◌, ℕ, length, get_or}
-use Rattle.rcell_pipe_request.specs.parts.PackedBytes.{packed_byte_at_place}
-use Rattle.rcell_pipe_request.proofs.packed_row.pack_all_numbers.Given as goal
+use Rattle.rcell_pipe_rows.specs.parts.PackedBytes.{packed_byte_at_place}
+use Rattle.rcell_pipe_rows.proofs.packed_row.pack_all_numbers.Given as goal
 
 abbrev pub invariant-loop-i : goal.invariant-loop-i
 invariant-loop-i l = record {

@@ -2,11 +2,11 @@
 
 ghost use Rattle.std.specs.Prelude.{◌≡◌, ◌≢◌, ◌<◌, ◌*◌, ℕ, pos, ◌==◌, true, false, length, map, slice_get, slice_index_or, Ok, IfOk};
 ghost use Rattle.cell_core_values.specs.SmallCells.{cells_of_bytes};
-ghost use Rattle.rcell_pipe_request.specs.declared.kind.CellType.TheVariants.{U8};
-ghost use Rattle.rcell_pipe_request.specs.Numbers.{byte_size_of_cell_type};
-ghost use Rattle.rcell_pipe_request.specs.RawRows.{is_hiding_mask_byte, is_nodata, places_in_row, raw_cells, has_invalid_raw_number, first_error_of_raw_row, row_error_of_result};
-ghost use Rattle.rcell_pipe_request.specs.PackedRows.{cells_of_maybe_packed_row};
-ghost use Rattle.rcell_pipe_request.specs.parts.PackedBytes.{packed_byte_at_place};
+ghost use Rattle.rcell_pipe_rows.specs.declared.kind.CellType.TheVariants.{U8};
+ghost use Rattle.rcell_pipe_rows.specs.Numbers.{byte_size_of_cell_type};
+ghost use Rattle.rcell_pipe_rows.specs.RawRows.{is_hiding_mask_byte, is_nodata, places_in_row, raw_cells, has_invalid_raw_number, first_error_of_raw_row, row_error_of_result};
+ghost use Rattle.rcell_pipe_rows.specs.PackedRows.{cells_of_maybe_packed_row};
+ghost use Rattle.rcell_pipe_rows.specs.parts.PackedBytes.{packed_byte_at_place};
 
 use crate::kind::CellType;
 use crate::raw_row::{RowError, is_bad_mask, is_hidden_by_mask, is_nodata, read_raw_row_as_cells};

@@ -12,16 +12,16 @@ use Rattle.std.proofs.lemmas.List.FromFn.{get_or-range_with_len, length-range_wi
 use Rattle.std.proofs.lemmas.List.FromFn.{length-map-range_with_len, get_or-map-range_with_len}
 use Rattle.cell_core_values.specs.Cell.{is_category}
 use Rattle.cell_core_values.specs.SmallCells.{cell_of_stored_byte, cells_of_bytes}
-use Rattle.rcell_pipe_request.specs.declared.kind.CellType.TheVariants.{U8}
-use Rattle.rcell_pipe_request.specs.Numbers.{raw_number_at_place}
-use Rattle.rcell_pipe_request.specs.RawRows.{is_hiding_mask_byte, is_nodata, cell_of_raw_number, raw_cell_at_place}
-use Rattle.rcell_pipe_request.specs.RawRows.{raw_cells}
-use Rattle.rcell_pipe_request.specs.RawRows.{places_in_row, is_unmapped_number}
-use Rattle.rcell_pipe_request.specs.RawRows.{is_invalid_raw_number_at_place, has_invalid_raw_number}
-use Rattle.rcell_pipe_request.specs.parts.PackedBytes.{packed_byte_at_place}
-use Rattle.rcell_pipe_request.proofs.packed_row.pack_row_inlined.Goals as goal
-use Rattle.rcell_pipe_request.proofs.packed_row.pack_row_inlined.Goals.{else-not-is_nodata-via-then-not-is_nodata+else-has_unmasked_number_255}
-use Rattle.rcell_pipe_request.proofs.packed_row.pack_row_inlined.Goals.{else-not-is_nodata-via-else-not-is_nodata}
+use Rattle.rcell_pipe_rows.specs.declared.kind.CellType.TheVariants.{U8}
+use Rattle.rcell_pipe_rows.specs.Numbers.{raw_number_at_place}
+use Rattle.rcell_pipe_rows.specs.RawRows.{is_hiding_mask_byte, is_nodata, cell_of_raw_number, raw_cell_at_place}
+use Rattle.rcell_pipe_rows.specs.RawRows.{raw_cells}
+use Rattle.rcell_pipe_rows.specs.RawRows.{places_in_row, is_unmapped_number}
+use Rattle.rcell_pipe_rows.specs.RawRows.{is_invalid_raw_number_at_place, has_invalid_raw_number}
+use Rattle.rcell_pipe_rows.specs.parts.PackedBytes.{packed_byte_at_place}
+use Rattle.rcell_pipe_rows.proofs.packed_row.pack_row_inlined.Goals as goal
+use Rattle.rcell_pipe_rows.proofs.packed_row.pack_row_inlined.Goals.{else-not-is_nodata-via-then-not-is_nodata+else-has_unmasked_number_255}
+use Rattle.rcell_pipe_rows.proofs.packed_row.pack_row_inlined.Goals.{else-not-is_nodata-via-else-not-is_nodata}
 
 number : (bytes : List ℕ) (k : ℕ) → k < length bytes → raw_number_at_place U8 bytes k ≡ pos (get_or bytes k 0)
 number bytes k within =

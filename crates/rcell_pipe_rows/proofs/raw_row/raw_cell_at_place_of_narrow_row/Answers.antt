@@ -1,9 +1,9 @@
 use Rattle.std.proofs.Common.{◌≡◌, Bool, None, w32, to_z, of_z, sym, ap, ◌∙◌, rules}
 use Rattle.std.specs.Prelude.{if◌then◌else◌}
 use Rattle.std.specs.Ordering.{int_eq}
-use Rattle.rcell_pipe_request.specs.Numbers.{raw_number_at_place}
-use Rattle.rcell_pipe_request.specs.RawRows.{cell_of_raw_number}
-use Rattle.rcell_pipe_request.proofs.raw_row.raw_cell_at_place_of_narrow_row.Goals as goal
+use Rattle.rcell_pipe_rows.specs.Numbers.{raw_number_at_place}
+use Rattle.rcell_pipe_rows.specs.RawRows.{cell_of_raw_number}
+use Rattle.rcell_pipe_rows.proofs.raw_row.raw_cell_at_place_of_narrow_row.Goals as goal
 
 pub returns-then-not-is_hidden_by_mask : goal.returns-then-not-is_hidden_by_mask
 returns-then-not-is_hidden_by_mask c = λ nodata is.

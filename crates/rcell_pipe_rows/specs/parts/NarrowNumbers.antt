@@ -2,9 +2,9 @@
 use Rattle.std.specs.Prelude.{◌≡◌, ℤ, Bool, true, false, Option}
 use Rattle.std.specs.Ordering.{int_eq}
 use Rattle.cell_core_values.specs.Cell.{is_category}
-use Rattle.rcell_pipe_request.specs.declared.kind.CellType.{CellType}
-use Rattle.rcell_pipe_request.specs.declared.kind.CellType.TheVariants.{U8, I8, U16, I16, U32, I32, I64}
-use Rattle.rcell_pipe_request.specs.RawRows.{is_nodata}
+use Rattle.rcell_pipe_rows.specs.declared.kind.CellType.{CellType}
+use Rattle.rcell_pipe_rows.specs.declared.kind.CellType.TheVariants.{U8, I8, U16, I16, U32, I32, I64}
+use Rattle.rcell_pipe_rows.specs.RawRows.{is_nodata}
 
 -- all numbers of the type fit
 abbrev pub is_cell_type_within_i32 : CellType → Bool

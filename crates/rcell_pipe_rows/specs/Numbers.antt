@@ -1,8 +1,8 @@
 -- The numbers in a row of bytes: integers of one type, lowest byte first, as NumPy, GDAL and R store rasters.
 use Rattle.std.specs.Prelude.{ℕ, ℤ, pos, negsuc, ◌*◌, Bool, true, false, ◌&&◌, int_le, List, take, drop, Option, Some, None, if◌then◌else◌, ◌==◌}
 use Rattle.std.specs.Int.{Width, w8, w16, w32, w64, byte_len, from_le_bytes, cast_signed}
-use Rattle.rcell_pipe_request.specs.declared.kind.CellType.{CellType}
-use Rattle.rcell_pipe_request.specs.declared.kind.CellType.TheVariants.{U8, I8, U16, I16, U32, I32, I64}
+use Rattle.rcell_pipe_rows.specs.declared.kind.CellType.{CellType}
+use Rattle.rcell_pipe_rows.specs.declared.kind.CellType.TheVariants.{U8, I8, U16, I16, U32, I32, I64}
 
 -- the type with this code
 abbrev pub cell_type_of_code : ℕ → Option CellType

@@ -1,9 +1,9 @@
 use Rattle.std.proofs.Common.{◌≡◌, ◌&&◌, ◌||◌, Bool, true, false, not, negsuc}
 use Rattle.std.proofs.Common.{w32, to_z, of_z, refl, ap, ◌∙◌, arith, rules}
 use Rattle.std.specs.Ordering.{int_eq}
-use Rattle.rcell_pipe_request.specs.RawRows.{is_nodata}
-use Rattle.rcell_pipe_request.proofs.RowLemmas.{cells_more, outside_more}
-use Rattle.rcell_pipe_request.proofs.raw_row.fill_row_of_narrow_numbers.Goals as goal
+use Rattle.rcell_pipe_rows.specs.RawRows.{is_nodata}
+use Rattle.rcell_pipe_rows.proofs.RowLemmas.{cells_more, outside_more}
+use Rattle.rcell_pipe_rows.proofs.raw_row.fill_row_of_narrow_numbers.Goals as goal
 
 spread : (a b c : Bool) → ((a || b) && c) ≡ ((a && c) || (b && c))
 spread true true true = refl

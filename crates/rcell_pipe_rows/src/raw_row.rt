@@ -2,9 +2,9 @@
 
 ghost use Rattle.std.specs.Prelude.{◌≡◌, ◌≤◌, ◌+◌, ◌*◌, ◌&&◌, not, true, ℤ, Option, length, slice_get, OnOk};
 ghost use Rattle.cell_core_values.specs.Cell.{is_category};
-ghost use Rattle.rcell_pipe_request.specs.Numbers.{byte_size_of_cell_type, raw_number_at_place};
-ghost use Rattle.rcell_pipe_request.specs.parts.NarrowNumbers.{is_cell_type_within_i32, IsOnlyCategoryDenotingNull};
-ghost use Rattle.rcell_pipe_request.specs.RawRows.{is_hiding_mask_byte, is_nodata, is_unmapped_number, cell_of_raw_number, raw_cell_at_place, is_invalid_raw_number_at_place, raw_cells, has_invalid_raw_number, is_bad_mask, first_error_of_raw_row, row_error_of_result};
+ghost use Rattle.rcell_pipe_rows.specs.Numbers.{byte_size_of_cell_type, raw_number_at_place};
+ghost use Rattle.rcell_pipe_rows.specs.parts.NarrowNumbers.{is_cell_type_within_i32, IsOnlyCategoryDenotingNull};
+ghost use Rattle.rcell_pipe_rows.specs.RawRows.{is_hiding_mask_byte, is_nodata, is_unmapped_number, cell_of_raw_number, raw_cell_at_place, is_invalid_raw_number_at_place, raw_cells, has_invalid_raw_number, is_bad_mask, first_error_of_raw_row, row_error_of_result};
 
 use crate::kind::{CellType, raw_number_at_place, raw_number_at_place_as_i32};
 use cell_core_values::cell::Cell;

@@ -6,10 +6,10 @@ use Rattle.std.proofs.lemmas.List.{take_more_set}
 use Rattle.std.proofs.lemmas.List.FromFn.{map-range_with_len_more}
 use Rattle.std.proofs.lemmas.List.Folds.{list_any-append}
 use Rattle.std.proofs.Math.Bool.{or-false}
-use Rattle.rcell_pipe_request.specs.declared.kind.CellType.{CellType}
-use Rattle.rcell_pipe_request.specs.RawRows.{raw_cell_at_place, is_invalid_raw_number_at_place, places_in_row}
-use Rattle.rcell_pipe_request.specs.RawRows.{raw_cells}
-use Rattle.rcell_pipe_request.specs.RawRows.{has_invalid_raw_number}
+use Rattle.rcell_pipe_rows.specs.declared.kind.CellType.{CellType}
+use Rattle.rcell_pipe_rows.specs.RawRows.{raw_cell_at_place, is_invalid_raw_number_at_place, places_in_row}
+use Rattle.rcell_pipe_rows.specs.RawRows.{raw_cells}
+use Rattle.rcell_pipe_rows.specs.RawRows.{has_invalid_raw_number}
 
 -- one more cell is stored after the cells so far
 pub cells_more : (kind : CellType) (nodata : Option ℤ) (mask bytes : List ℕ) (i : ℕ) (cells : List (Option ℤ)) (cell : Option ℤ) → i < length cells → take i cells ≡ raw_cells kind nodata mask bytes i → cell ≡ raw_cell_at_place kind nodata mask bytes i → take (i + 1) (slice_set cells i cell) ≡ raw_cells kind nodata mask bytes (i + 1)

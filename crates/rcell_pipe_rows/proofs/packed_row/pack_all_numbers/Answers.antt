@@ -1,7 +1,7 @@
 use Rattle.std.proofs.Common.{length, arith}
 use Rattle.std.proofs.lemmas.List.FromFn.{fill_by_all}
-use Rattle.rcell_pipe_request.specs.parts.PackedBytes.{packed_byte_at_place}
-use Rattle.rcell_pipe_request.proofs.packed_row.pack_all_numbers.Goals as goal
+use Rattle.rcell_pipe_rows.specs.parts.PackedBytes.{packed_byte_at_place}
+use Rattle.rcell_pipe_rows.proofs.packed_row.pack_all_numbers.Goals as goal
 
 pub returns : goal.returns
 returns c =
