@@ -119,7 +119,7 @@ region_reads sent rest is =
       is.valid.accepted,
     ) refl
 
-format_of_sent_cells : SentCells → MapFormat
+abbrev pub format_of_sent_cells : SentCells → MapFormat
 format_of_sent_cells (Numbers sent) = formats.Numbers sent.format
 format_of_sent_cells (Text sent) = formats.Text
 
@@ -187,9 +187,9 @@ text_reads region maps sent rest law is =
     rw (
       text_64 sent.text rest is.short,
       (law (record { bytes = sent.text; fails = false }) sent.map).1 is.denotes,
-      (is_same_region-Decides sent.map.region region).1 is.region,
+      (is_same_region-Decides sent.map.region region).1 is.covers,
     )
-    (λ i. Ok (record { region = is.region i; rows = sent.map.rows; labels = is.denotes.labels i }, rest))
+    (λ i. Ok (record { region = is.covers i; rows = sent.map.rows; labels = is.denotes.labels i }, rest))
 
 cells_read : (region : RegionValue) (maps : ℕ) (cells : SentCells) (rest : ComingBytes) → ReadingReturnsDenotedMap
     → AreSendableCells region cells

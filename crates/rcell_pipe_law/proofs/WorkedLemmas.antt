@@ -124,7 +124,7 @@ town_is law = record {
   labels = All-nil IsSendableLabel;
   cells = record {
     denotes = (law (record { bytes = example_grid_text; fails = false }) example_text.map).0 text_read;
-    region = refl;
+    covers = refl;
     short = omega arith;
   };
 }

@@ -120,7 +120,7 @@ pub record AreSendableRows (region : RegionValue) (sent : SentRows) : Type 0 whe
 -- a text that denotes a map of this region, short enough for its length field
 pub record IsSendableText (region : RegionValue) (sent : SentText) : Type 0 where
   pub denotes : SourceDenotesMap (record { bytes = sent.text; fails = false }) sent.map
-  pub region : sent.map.region ≡ region
+  pub covers : sent.map.region ≡ region
   pub short : length sent.text < 2 ^ 64
 
 abbrev pub AreSendableCells : RegionValue → SentCells → Type 0
