@@ -1,14 +1,12 @@
 //! Reads a map of a request: its head and its cells.
 
-ghost use Rattle.std.specs.Prelude.{◌≡◌, ◌+◌, ◌*◌, ◌<◌, ◌≤◌, List, [], ◌∷◌, ◌++◌, length, map, true, Ok, OnOk, IfOk, All};
+ghost use Rattle.std.specs.Prelude.{◌≡◌, ◌+◌, ◌*◌, ◌<◌, [], length, true, Ok, OnOk, All};
 ghost use Rattle.std.specs.FinMap.{insert};
-ghost use Rattle.cell_core_values.specs.Region.{RegionValue};
-ghost use Rattle.cell_core.specs.Grid.{Grid, UnfinishedMap, empty_category_labels};
 ghost use Rattle.rcell_pipe_rows.specs.Numbers.{byte_size_of_cell_type};
 ghost use Rattle.rcell_pipe_rows.specs.PackedRows.{cells_of_maybe_packed_row};
 ghost use Rattle.rcell_pipe_request.specs.RequestFields.{reading_repeated_n_times};
-ghost use Rattle.rcell_pipe_request.specs.Feeds.{left, ReadsRequestFieldAndStaysOpen, ReadsWithErrorPosition};
-ghost use Rattle.rcell_pipe_request.specs.Heads.{IsGoodLabel, map_head_as_value, labels_as_values};
+ghost use Rattle.rcell_pipe_request.specs.Feeds.{ReadsRequestFieldAndStaysOpen, ReadsWithErrorPosition};
+ghost use Rattle.rcell_pipe_request.specs.Heads.{IsGoodLabel, labels_as_values};
 ghost use Rattle.rcell_pipe_request.specs.Rows.{mask_size_of_row, row_cells_reading, error_kind_of_row_error};
 ghost use Rattle.rcell_pipe_request.specs.Requests.{next_row_reading, label_map_with_added_labels, number_map_reading, map_cells_reading, map_reading, named_map_as_value};
 
