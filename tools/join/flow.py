@@ -13,6 +13,7 @@ import test_plan
 from joined_patches import Part, Patches, Run
 from made import Cut
 from patch_model import Cells
+from patch_tables import PatchTables
 from pipe_model import NULL, PATCHES, Frame, Question, Raster, Response, request, tile_request
 from test_join import Entry, Line, Tables
 from test_tiles import Span, cut_maps, cut_rows, place_of
@@ -154,6 +155,7 @@ class Flow:
         self.pipe, self.job = pipe, job
         self.sent: list[Sent] = []
         self.numbers: list[Numbers] = []
+        self.runs: list[list[Run]] = []
 
     def send(self, data: bytes) -> bytes:
         self.sent.append(Sent(data, *self.pipe.run(data)))
@@ -218,6 +220,7 @@ class Flow:
         sides = [it["border"] for it in answers[b"BORD"][1]]
         patches, runs = self.joined(borders(self.job.cut, sides, connectivity))
         self.numbers.append(full_numbers(runs))
+        self.runs.append(runs)
         whole, parts = answers[b"NUMB"]
         most = max((it for row in whole["rows"] for it in row if it is not None), default=0)
         if patches != most:
@@ -266,21 +269,35 @@ class Flow:
             if found != wanted:
                 raise Wrong(f"tile {tile}: {found}, and not {wanted}")
 
-    def table(self, whole: Frame, part: Frame, tile: int) -> tuple[Entry, ...]:
-        """Return the table of a tile, with the full map's patch numbers."""
+    def table(
+        self, part: Frame, tile: int, questions: Sequence[Optional[int]]
+    ) -> tuple[Entry, ...]:
+        """Return the table of a tile. The columns of a question have the full map's numbers."""
         columns = zip(*map(cells_of, part["cells"]))
         lines = zip(
-            *(
-                self.renumbered(column, tile, self.job.numbered.get(name))
-                for column, name in zip(columns, whole["names"])
-            )
+            *(self.renumbered(column, tile, it) for column, it in zip(columns, questions))
         )
         counts = part["counts"] if part["counts"] is not None else [1] * len(part["cells"])
         return tuple(zip(lines, counts))
 
     def merged(self, whole: Frame, parts: Sequence[Frame]) -> list[Entry]:
-        tables = (self.table(whole, part, tile) for tile, part in enumerate(parts, 1))
-        return self.joined(Tables(len(whole["names"]), tuple(tables)).data())
+        """Return the sums of the tables of tiles, in the order of tables."""
+        questions = [self.job.numbered.get(name) for name in whole["names"]]
+        tables = [self.table(part, tile, questions) for tile, part in enumerate(parts, 1)]
+        found: list[Entry] = self.joined(Tables(len(questions), tuple(tables)).data())
+        if questions[0] is not None and (sums := self.patch_sums(parts, questions)) != found:
+            raise Wrong(f"{sums} by the numbers of patches, and {found} with these numbers")
+        return found
+
+    def patch_sums(
+        self, parts: Sequence[Frame], questions: Sequence[Optional[int]]
+    ) -> list[Entry]:
+        """Return the sums of tables whose first column has the tile's patch numbers."""
+        runs, others = self.runs[questions[0] or 0], (None, *questions[1:])
+        tables = [(tile, self.table(part, tile, others)) for tile, part in enumerate(parts, 1)]
+        sums = self.joined(PatchTables(tuple(runs), len(questions), tuple(tables)).data())
+        sums.sort(key=lambda it: it[0] == 0)  # in tables, null is last
+        return [((number or None, *line), count) for number, line, count in sums]
 
     def check_table(self, whole: Frame, parts: Sequence[Frame]) -> None:
         """Check that the tables of tiles add up to the full map's table."""

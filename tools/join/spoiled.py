@@ -11,6 +11,7 @@ import test_join
 import test_plan
 from fuzz import damaged_bytes
 from joined_patches import Patches
+from patch_tables import TWO_TILES, PatchTables
 from pipe_model import NULL, TEXT_GRID, Place, Question, Raster, request, tile_request
 from run_model import RUN, TEXT, TILE, wrong_run
 from test_join import BadRequest, JoinReader, Tables, Tiles, in_place
@@ -54,6 +55,7 @@ def small_requests() -> Iterator[tuple[str, bytes]]:
         yield f"borders, connectivity {connectivity}", tiles.data()
     yield "patches", joined_patches.TWO_PARTS.data()
     yield "tables", test_join.TWO_TABLES.data()
+    yield "patch tables", TWO_TILES.data()
 
 
 def all_spoiled(data: bytes) -> Iterator[bytes]:
@@ -100,8 +102,10 @@ def swapped(draw: random.Random, data: bytes, others: Sequence[bytes]) -> bytes:
     if isinstance(one, Tiles):
         return with_other_tiles(draw, one, other if isinstance(other, Tiles) else one).data()
     if isinstance(one, Tables):
-        tables = with_other_item(draw, one.tables, getattr(other, "tables", one.tables))
-        return replace(one, tables=tables).data()
+        others = other.tables if isinstance(other, Tables) else one.tables
+        return replace(one, tables=with_other_item(draw, one.tables, others)).data()
+    if isinstance(one, PatchTables):
+        return with_other_patch_tables(draw, one, other).data()
     return with_other_patches(draw, one, other if isinstance(other, Patches) else one).data()
 
 
@@ -136,6 +140,21 @@ def with_tiles_swapped(draw: random.Random, one: Tiles, other: Tiles) -> Tiles:
     flat = with_other_item(draw, flat, tuple(tile for row in other.grid for tile in row))
     grid = tuple(flat[at : at + width] for at in range(0, len(flat), width))
     return replace(one, grid=grid)
+
+
+def with_other_patch_tables(draw: random.Random, one: PatchTables, other: object) -> PatchTables:
+    """Return patch tables with other runs, tables or tiles."""
+    kind = draw.randrange(4)
+    runs = other.runs if isinstance(other, (Patches, PatchTables)) else one.runs
+    if kind == 0:
+        return replace(one, runs=runs)
+    if kind == 1:
+        return replace(one, runs=with_other_item(draw, one.runs, runs))
+    others = other.tables if isinstance(other, PatchTables) else one.tables
+    tables = with_other_item(draw, one.tables, others)
+    if kind == 2:  # the tables of other tiles
+        tables = tuple((tile, table) for (tile, _), (_, table) in zip(one.tables, tables))
+    return replace(one, tables=tables)
 
 
 def with_other_patches(draw: random.Random, one: Patches, other: Patches) -> Patches:

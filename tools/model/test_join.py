@@ -8,13 +8,14 @@
 - each error by name, and damaged borders
 - N random maps, cut at random: the numbers and the joined measures must equal the numbers and the
   measures of the full map's patches, also if closed patches are not joined
-- N random lists of tables; some requests are damaged
+- N random lists of tables, and of tables whose first column is a patch; some requests are damaged
 
 The last line is 'N passed, M failed'.
 """
 from __future__ import annotations
 
 import argparse
+import functools
 import itertools
 import operator
 import os
@@ -40,6 +41,19 @@ from joined_patches import (
     randomly_changed_patches,
 )
 from patch_model import Cells, patch_numbers
+from patch_tables import KIND as PATCH_TABLES
+from patch_tables import (
+    MOST_TABLES,
+    SUMS_OF_TWO_TILES,
+    TWO_TILES,
+    PatchTables,
+    Sum,
+    Table,
+    named_patch_table_errors,
+    number_of,
+    patch_sums,
+    randomly_changed_tables,
+)
 from pipe_model import NULL, border
 from test_plan import BadRequest, Done, Reader
 
@@ -297,6 +311,9 @@ def summed(tables: Tables) -> list[Entry]:
     return sorted(sums.items(), key=lambda it: [(cell is None, cell or 0) for cell in it[0]])
 
 
+Request = Union[Tiles, Tables, Patches, PatchTables]
+
+
 class JoinReader(Reader):
     """Reads a join request. `complete` counts the complete tiles or tables."""
 
@@ -332,15 +349,17 @@ class JoinReader(Reader):
         self.complete += 1
         return tile
 
-    def request(self) -> Union[Tiles, Tables, Patches]:
+    def request(self) -> Request:
         self.need(self.take(len(MAGIC)) == MAGIC, b"bad magic")
         kind = self.number("B")
-        self.need(kind in (TABLES, PATCHES) or kind in CORNERS, b"bad kind")
-        request: Union[Tiles, Tables, Patches]
-        if kind == PATCHES:
-            request = self.patches()
-        else:
-            request = self.tables() if kind == TABLES else self.tiles(kind)
+        readers: dict[int, Callable[[], Request]] = {
+            TABLES: self.tables,
+            PATCHES: self.patches,
+            PATCH_TABLES: self.patch_tables,
+            **{it: functools.partial(self.tiles, it) for it in CORNERS},
+        }
+        self.need(kind in readers, b"bad kind")
+        request = readers[kind]()
         self.need(self.at == len(self.data), b"bytes after the request")
         return request
 
@@ -350,15 +369,35 @@ class JoinReader(Reader):
         count, cells, found = self.number("I"), 0, list[tuple[Entry, ...]]()
         self.need(count > 0, b"bad number of tables")
         for self.complete in range(count):
-            counts = list[int]()
-            for _ in range(self.number("Q")):
-                counts.append(self.number("Q"))
-                self.need(counts[-1] > 0, b"bad count")
-            cells += sum(counts)
-            self.need(cells <= MOST_CELLS, b"too many cells")
-            found.append(tuple((self.line(width), one) for one in counts))
+            found.append(self.entries(width, cells))
+            cells += sum(one for _, one in found[-1])
         self.complete = count
         return Tables(width, tuple(found))
+
+    def entries(self, width: int, cells: int) -> tuple[Entry, ...]:
+        """Read a table. The tables before it have this number of cells."""
+        counts = list[int]()
+        for _ in range(self.number("Q")):
+            counts.append(self.number("Q"))
+            self.need(counts[-1] > 0, b"bad count")
+        self.need(cells + sum(counts) <= MOST_CELLS, b"too many cells")
+        return tuple((self.line(width), one) for one in counts)
+
+    def patch_tables(self) -> PatchTables:
+        runs, cells, found = self.runs(), 0, list[Table]()
+        self.complete = 1
+        width = self.number("B")
+        self.need(1 <= width <= MOST_WIDTH, b"bad width")
+        count = self.number("I")
+        self.need(1 <= count <= MOST_TABLES, b"bad number of tables")
+        for self.complete in range(1, count + 1):
+            tile, table = self.number("Q"), self.entries(width, cells)
+            numbers = [number_of(runs, tile, line[0]) for line, _ in table]
+            self.need(None not in numbers, b"unknown patch")
+            found.append((tile, table))
+            cells += sum(one for _, one in table)
+        self.complete = count + 1
+        return PatchTables(runs, width, tuple(found))
 
     def patch(self) -> patch_model.Patch:
         """Read the measures of a patch. Its class and counts come before its rows and columns."""
@@ -370,12 +409,16 @@ class JoinReader(Reader):
         self.need(is_patch(patch), b"bad patch")
         return patch
 
-    def patches(self) -> Patches:
-        runs, parts, found = list[Run](), list[Part](), dict[int, patch_model.Patch]()
+    def runs(self) -> tuple[Run, ...]:
+        runs = list[Run]()
         for _ in range(self.number("Q")):
             run = struct.unpack("<4Q", self.take(32))
             self.need(is_next_run(runs, run), b"bad run")
             runs.append(run)
+        return tuple(runs)
+
+    def patches(self) -> Patches:
+        runs, parts, found = self.runs(), list[Part](), dict[int, patch_model.Patch]()
         self.complete = 1
         for _ in range(self.number("Q")):
             tile, number = struct.unpack("<2Q", self.take(16))
@@ -386,7 +429,7 @@ class JoinReader(Reader):
             fault = add(found, full or 0, parts[-1].patch)
             self.need(not fault, fault)
         self.complete = 2
-        return Patches(tuple(runs), tuple(parts))
+        return Patches(runs, tuple(parts))
 
     def tiles(self, connectivity: int) -> Tiles:
         rows, cols = self.number("I"), self.number("I")
@@ -405,7 +448,7 @@ class JoinReader(Reader):
         return Tiles(connectivity, tuple(grid))
 
 
-Found = Union[None, Numbering, list[Entry], Joined]
+Found = Union[None, Numbering, list[Entry], list[Sum], Joined]
 Response = tuple[Found, Done]
 
 
@@ -420,6 +463,8 @@ def expected(data: bytes) -> Optional[Response]:
         return summed(request), Done()
     if isinstance(request, Patches):
         return joined_patches(request), Done()
+    if isinstance(request, PatchTables):
+        return patch_sums(request), Done()
     if sum(sum(tile.begun) for row in request.grid for tile in row) > MODELLED_PATCHES:
         return None
     return joined(request), Done()
@@ -435,6 +480,11 @@ class ResponseReader(JoinReader):
         counts = [self.number("Q") for _ in range(entries)]
         return [(self.line(width), count) for count in counts]
 
+    def patch_sums(self) -> list[Sum]:
+        entries, width = self.number("Q"), self.number("Q")
+        numbers, counts = (struct.unpack(f"<{entries}Q", self.take(8 * entries)) for _ in range(2))
+        return [(number, self.line(width - 1), one) for number, one in zip(numbers, counts)]
+
     def joined(self) -> Joined:
         fields = (struct.unpack("<Qi8Q", self.take(76)) for _ in range(self.number("Q")))
         return [(number, patch_model.Patch(*patch)) for number, *patch in fields]
@@ -446,6 +496,7 @@ class ResponseReader(JoinReader):
             b"JOIN": self.numbering,
             b"SUMS": self.sums,
             b"PATS": self.joined,
+            b"PSUM": self.patch_sums,
         }
         found: Found = None
         kind = self.take(4)
@@ -512,7 +563,7 @@ def named_errors() -> Iterator[tuple[str, bytes]]:
     """Yield requests with each error, and the error's text."""
     data, tile = GOOD.data(), GOOD.grid[0][0]
     yield "bad magic", b"RCELLJ2" + data[7:]
-    for kind in (0, 3, 5, 9, 255):  # kind 1 is followed by tables, and kind 2 by runs
+    for kind in (0, 5, 6, 7, 9, 255):  # kind 1 is followed by tables, and kinds 2 and 3 by runs
         yield "bad kind", MAGIC + bytes([kind]) + data[9:]
     for sizes in ((0, 1), (1, 0), (0, 0), (2**16, 2**16), (2**32 - 1, 2**32 - 1)):
         yield "bad number of tiles", MAGIC + struct.pack("<BII", 4, *sizes) + data[17:]
@@ -637,6 +688,20 @@ def random_tables(chance: random.Random) -> Tables:
     return Tables(width, tuple(tuple(entry() for _ in range(size)) for size in sizes))
 
 
+def random_patch_tables(chance: random.Random, cut: Cut) -> PatchTables:
+    """Return tables of the patches of tiles and of other maps."""
+    width, others = chance.randint(1, 4), [None, -5, 0, 1, 2, 2**31 - 1]
+    tables = list[Table]()
+    for tile, place in enumerate(itertools.chain(*cut.rows()), 1):
+        counts: dict[Line, int] = {}
+        for patch in itertools.chain(*patch_numbers(part(cut.cells, *place), cut.connectivity)):
+            line = patch, *(chance.choice(others) for _ in range(width - 1))
+            counts[line] = counts.get(line, 0) + chance.choice([1, 1, 9, chance.randint(1, 2**52)])
+        tables.append((tile, tuple(chance.sample(list(counts.items()), len(counts)))))
+    chance.shuffle(tables)
+    return PatchTables(tuple(cut.numbering()[1]), width, tuple(tables))
+
+
 class Tests:
     """Counts the tests, and prints the errors."""
 
@@ -675,10 +740,15 @@ def check_examples(tests: Tests) -> None:
     tests.check("patches", "" if found == JOINED else f"the model says {found}")
     for patches in (TWO_PARTS, Patches(TWO_PARTS.runs, ()), Patches((), ())):
         tests.check("patches", tests.wrong(patches.data()))
+    sums = patch_sums(TWO_TILES)
+    tests.check("patch tables", "" if sums == SUMS_OF_TWO_TILES else f"the model says {sums}")
+    for given in (TWO_TILES, replace(TWO_TILES, tables=((2, ()),)), PatchTables((), 16, ((0, ()),))):
+        tests.check("patch tables", tests.wrong(given.data()))
 
 
 def check_errors(tests: Tests) -> None:
-    for text, data in (*named_errors(), *named_table_errors(), *named_patch_errors()):
+    named = named_errors(), named_table_errors(), named_patch_errors(), named_patch_table_errors()
+    for text, data in itertools.chain(*named):
         found = expected(data)
         says = found[1].text.decode() if found else "too many patches"
         tests.check(text, "" if says == text else f"the model says {says} of {data!r}")
@@ -733,6 +803,25 @@ def check_random_patches(tests: Tests, chance: random.Random, name: str) -> None
     tests.check(name, tests.wrong(damaged_bytes(chance, data) if kind > 0.8 else data))
 
 
+def check_random_patch_tables(tests: Tests, chance: random.Random, name: str) -> None:
+    """Check the sums of patch tables. They must be the sums of tables with the numbers of the full
+    map's patches."""
+    cut = random_cut(chance)
+    request = random_patch_tables(chance, cut)
+    full = (
+        tuple(((number_of(request.runs, tile, line[0]), *line[1:]), one) for line, one in table)
+        for tile, table in request.tables
+    )
+    wanted = [(line[0] or 0, line[1:], one) for line, one in summed(Tables(request.width, tuple(full)))]
+    found = patch_sums(request)
+    tests.check(name, "" if found == wanted else f"the models say {found} and {wanted} of {cut}")
+    kind = chance.random()
+    if kind < 0.4:
+        request = randomly_changed_tables(chance, request)
+    data = request.data()
+    tests.check(name, tests.wrong(damaged_bytes(chance, data) if kind > 0.8 else data))
+
+
 def main() -> int:
     programs = os.environ.get("RCELL_BIN", os.path.abspath(f"{__file__}/../../../bin"))
     parser = argparse.ArgumentParser()
@@ -749,6 +838,7 @@ def main() -> int:
         check_random_tiles(tests, chance, name)
         check_random_tables(tests, chance, name)
         check_random_patches(tests, chance, name)
+        check_random_patch_tables(tests, chance, name)
     print(f"{tests.passed} passed, {tests.failed} failed")
     return tests.failed > 0
 

@@ -5,6 +5,7 @@ pub mod NumberingLemmas
 pub mod SumLemmas
 pub mod CountLemmas
 pub mod TableSumLemmas
+pub mod GroupLemmas
 pub mod PatchSumLemmas
 pub mod BorderLemmas
 pub mod BorderFrameLemmas

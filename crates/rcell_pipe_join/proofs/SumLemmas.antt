@@ -10,7 +10,7 @@ use Rattle.cell_stats_combinations.specs.Listed.{ListedCountsFitInSixtyFourBits,
 use Rattle.cell_stats_combinations.specs.Listed.{entry_count_of_combination, listed_count_of_combination}
 use Rattle.rcell_pipe_join.specs.TableEntries.{AreSumsOfTables, cell_count_of_table}
 
-abbrev joined : List CombinationCounts → CombinationCounts
+abbrev pub joined : List CombinationCounts → CombinationCounts
 joined tables = flat_map (λ (t : CombinationCounts). t) tables
 
 -- the count of a combination in all tables is the sum of its counts

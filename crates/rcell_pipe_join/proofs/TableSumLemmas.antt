@@ -18,7 +18,7 @@ use Rattle.cell_join_numbers.proofs.MergeLemmas.{tables-merge}
 use Rattle.rcell_pipe_join.specs.SumLaw.{AreEntriesOfTileTable, TablesOfTilesAddUp}
 use Rattle.rcell_pipe_join.proofs.CountLemmas.{listed-table, listed-with}
 
-abbrev table_of_part : Skip → List ℕ → TileOfMaps → CombinationCounts
+abbrev pub table_of_part : Skip → List ℕ → TileOfMaps → CombinationCounts
 table_of_part skip picks part = table_of_cells skip (combinations_of_tile picks part)
 
 table-listing : (skip : Skip) (cells : List Combination) → AreAscendingNonzeroEntries (table_of_cells skip cells)
@@ -39,7 +39,7 @@ tables-listings skip picks (part ∷ parts) =
     All-cons AreAscendingNonzeroEntries (table_of_part skip picks part) (map (table_of_part skip picks) parts)
     (table-listing skip (combinations_of_tile picks part)) (tables-listings skip picks parts)
 
-listed-tables : (skip : Skip) (picks : List ℕ) (k : Combination) (parts : List TileOfMaps)
+pub listed-tables : (skip : Skip) (picks : List ℕ) (k : Combination) (parts : List TileOfMaps)
     (tables : List CombinationCounts)
     → AllZip (AreEntriesOfTileTable skip picks) parts tables
     → sum_by (listed_count_of_combination k) tables ≡ sum_by (listed_count_of_combination k)
@@ -57,7 +57,7 @@ listed-tables skip picks k (part ∷ parts) (table ∷ tables) all =
       listed-tables skip picks k parts tables all.1,
     )
 
-count-all : (cells : List Combination) → count_by (λ k. true) cells ≡ length cells
+pub count-all : (cells : List Combination) → count_by (λ k. true) cells ≡ length cells
 count-all [] = refl
 count-all (c ∷ cells) = omega (arith, sum_by-cons (λ (x : Combination). 1) c cells, count-all cells)
 

@@ -15,8 +15,9 @@ use Rattle.rcell_pipe_frames.specs.FrameBytes.{response_bytes}
 use Rattle.rcell_pipe_response.specs.RunEnds.{end_frame_of_successful_run, request_end, memory_end}
 use Rattle.rcell_pipe_join.specs.TableEntries.{AreSumsOfTables}
 use Rattle.rcell_pipe_join.specs.JoinFrames.{one_frame_response, numbering_bytes, table_sums_bytes}
-use Rattle.rcell_pipe_join.specs.JoinFrames.{joined_patches_bytes}
-use Rattle.rcell_pipe_join.specs.JoinRequests.{JoinRequestValue, BorderGrid, TableList, PatchList}
+use Rattle.rcell_pipe_join.specs.JoinFrames.{joined_patches_bytes, patch_sums_bytes}
+use Rattle.rcell_pipe_join.specs.JoinRequests.{JoinRequestValue, BorderGrid, TableList, PatchList, PatchTableList}
+use Rattle.rcell_pipe_join.specs.PatchTables.{AreSumsOfPatchTables, TileTable, entries_of_numbers, numbers_of_entries}
 
 -- the runs and the number of patches of each map that is cut into tiles with these borders
 pub record IsTileNumberingResponse (joining : Joining) (grid : List (List TileBorderValue))
@@ -39,11 +40,21 @@ pub record IsJoinedPatchesResponse (parts : List PatchOfTile) (response : List �
   pub are : AreJoinedPatches parts patches
   pub bytes : response ≡ one_frame_response (joined_patches_bytes patches) end_frame_of_successful_run
 
+-- the sums of patch tables over a number of maps
+pub record IsPatchSumsResponse (runs : List ConsecutiveClumps) (width : ℕ) (tables : List TileTable)
+    (response : List ℕ) : Type 0 where
+  pub sums : List (Option ℕ × CombinationCounts)
+  pub are : AreSumsOfPatchTables runs tables sums
+  pub bytes : response ≡ one_frame_response (patch_sums_bytes width (numbers_of_entries sums)
+      (entries_of_numbers sums)) end_frame_of_successful_run
+
 -- the response contains what the request asks for
 abbrev pub ResponseFulfillsJoinRequest : JoinRequestValue → List ℕ → Type 0
 ResponseFulfillsJoinRequest (BorderGrid joining grid) response = IsTileNumberingResponse joining grid response
 ResponseFulfillsJoinRequest (TableList width tables) response = IsTableSumsResponse width tables response
 ResponseFulfillsJoinRequest (PatchList runs parts) response = IsJoinedPatchesResponse parts response
+ResponseFulfillsJoinRequest (PatchTableList runs width tables) response =
+    IsPatchSumsResponse runs width tables response
 
 -- the bytes are a join request, and the response contains what it asks for
 pub record IsJoinRequestFulfilled (read : Result JoinRequestValue RequestError) (response : List ℕ) : Type 0 where

@@ -1,5 +1,5 @@
 -- The bytes of the response to a join request (profile).
-use Rattle.std.specs.Prelude.{ℕ, List, ◌++◌, length, flat_map, codes}
+use Rattle.std.specs.Prelude.{ℕ, List, Option, ◌++◌, length, flat_map, codes, unwrap_or}
 use Rattle.cell_join_numbers.specs.declared.stretch.ConsecutiveClumps.{ConsecutiveClumps}
 use Rattle.cell_patches.specs.declared.patch.Patch.{Patch}
 use Rattle.cell_stats_combinations.specs.Listed.{CombinationCounts}
@@ -22,6 +22,14 @@ numbering_bytes patches runs =
 abbrev pub table_sums_bytes : ℕ → CombinationCounts → List ℕ
 table_sums_bytes width entries =
     codes "SUMS" ++ eight_bytes_of_number (length entries) ++ eight_bytes_of_number width
+    ++ flat_map (λ entry. eight_bytes_of_number entry.1) entries ++ cell_bytes_of_combinations entries
+
+-- the frame of the sums of patch tables: the numbers of entries and of maps, the number of each entry's patch in the full
+-- map, or 0 outside patches, the counts, and the other cells of each entry in turn
+abbrev pub patch_sums_bytes : ℕ → List (Option ℕ) → CombinationCounts → List ℕ
+patch_sums_bytes width numbers entries =
+    codes "PSUM" ++ eight_bytes_of_number (length entries) ++ eight_bytes_of_number width
+    ++ flat_map (λ number. eight_bytes_of_number (unwrap_or number 0)) numbers
     ++ flat_map (λ entry. eight_bytes_of_number entry.1) entries ++ cell_bytes_of_combinations entries
 
 -- a patch of the full map: its number, then its measures in 68 bytes

@@ -5,6 +5,7 @@ pub mod BorderLaw
 pub mod BorderFrameLaw
 pub mod TableEntries
 pub mod PatchLists
+pub mod PatchTables
 pub mod JoinRequests
 pub mod JoinFrames
 pub mod JoinEnds

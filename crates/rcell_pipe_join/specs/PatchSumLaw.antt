@@ -1,23 +1,23 @@
--- What the frame of sums says about tiles whose tables begin with the numbers of their patches.
-use Rattle.std.specs.Prelude.{ℕ, suc, pos, negsuc, ◌≡◌, ◌<◌, List, [], ◌∷◌, All, length, map, sum, Some, None}
-use Rattle.std.specs.Prelude.{unwrap_or}
+-- What the frame of the sums of patch tables says about maps that are cut into tiles.
+use Rattle.std.specs.Prelude.{ℕ, suc, pos, ◌≡◌, ◌<◌, List, ◌∷◌, Option, All, flat_map, length, map, sum}
 use Rattle.std.specs.List.{AllZip}
-use Rattle.cell_core.specs.Grid.{Grid, CellValue}
+use Rattle.std.specs.Option.{option_map}
+use Rattle.cell_core.specs.Grid.{Grid}
 use Rattle.cell_clumps.specs.declared.clump.Joining.{Joining}
 use Rattle.cell_clumps.specs.Clumps.{IsClumpMapOf}
 use Rattle.cell_stats_combinations.specs.declared.skip.Skip.{Skip}
 use Rattle.cell_stats_combinations.specs.Combinations.{Combination, all_combinations}
+use Rattle.cell_stats_combinations.specs.LeftOut.{kept_cells}
 use Rattle.cell_stats_combinations.specs.Listed.{CombinationCounts, ListsHaveSameCounts}
 use Rattle.cell_stats.specs.CategoryTables.{table_of_cells}
 use Rattle.cell_join_numbers.specs.Parts.{Rectangle, RectanglesCoverMap, MapsAreTileOfFullMaps}
-use Rattle.cell_join_numbers.specs.declared.stretch.ConsecutiveClumps.{ConsecutiveClumps}
-use Rattle.cell_join_patches.specs.PatchNumbers.{number_in_full_map}
 use Rattle.cell_join_patches.specs.TileGridLaw.{tile_number_in_grid}
 use Rattle.cell_join_tiles.specs.Beginnings.{MapIsCutIntoTiles, rectangle_of_tile_in_grid}
 use Rattle.cell_join_tiles.specs.JoinedBorders.{TilesHaveBorders}
 use Rattle.cell_join_tiles.specs.Values.{TileBorderValue}
-use Rattle.rcell_pipe_join.specs.JoinEnds.{IsTileNumberingResponse, IsTableSumsResponse}
-use Rattle.rcell_pipe_join.specs.SumLaw.{AreTableEntriesOfCells}
+use Rattle.rcell_pipe_join.specs.JoinEnds.{IsPatchSumsResponse, IsTileNumberingResponse}
+use Rattle.rcell_pipe_join.specs.PatchTables.{TileTable}
+use Rattle.rcell_pipe_join.specs.TableEntries.{cell_count_of_table}
 
 -- ---- tiles
 
@@ -57,45 +57,38 @@ combinations_of_tile_with_patch heights widths numbers_of picks t =
     (tile_rectangle_in_grid heights widths t).rows
     (tile_rectangle_in_grid heights widths t).cols
 
--- the number in the full map of patch k of a tile, according to the runs of a numbering; 0 if they lack the patch
-abbrev pub full_map_patch_number_by_runs : (widths : List ℕ) → List ConsecutiveClumps → TileInTileGrid → ℕ → ℕ
-full_map_patch_number_by_runs widths runs t k =
-    unwrap_or (number_in_full_map runs (tile_number_in_grid (length widths) t.row t.col) k) 0
+-- the tile's index, and the entries of its table, in any order; the first cell of each entry is the number of its patch
+-- in the tile
+pub record IsTableOfTileInTileGrid (heights widths : List ℕ) (numbers_of : ℕ → ℕ → Grid) (picks : List ℕ) (skip : Skip)
+    (t : TileInTileGrid) (table : TileTable) : Type 0 where
+  pub tile : table.0 ≡ tile_number_in_grid (length widths) t.row t.col
+  pub counts : ListsHaveSameCounts (table_of_cells skip (combinations_of_tile_with_patch heights widths numbers_of picks
+      t)) table.1
 
--- the entries with another number for each patch; cells outside patches stay null
-abbrev pub renumbered_cell : (ℕ → ℕ) → CellValue → CellValue
-renumbered_cell number None = None
-renumbered_cell number (Some (pos k)) = Some (pos (number k))
-renumbered_cell number (Some (negsuc k)) = Some (negsuc k)
+-- the entries of sums, with the number of the patch in the full map as the first cell; null is outside patches
+abbrev pub entries_with_patch_number : List (Option ℕ × CombinationCounts) → CombinationCounts
+entries_with_patch_number sums = flat_map (λ s. map (λ entry. (option_map pos s.0 ∷ entry.0, entry.1)) s.1) sums
 
-abbrev pub renumbered_combination : (ℕ → ℕ) → Combination → Combination
-renumbered_combination number [] = []
-renumbered_combination number (cell ∷ cells) = renumbered_cell number cell ∷ cells
-
-abbrev pub renumbered_entries : (ℕ → ℕ) → CombinationCounts → CombinationCounts
-renumbered_entries number entries = map (λ entry. (renumbered_combination number entry.0, entry.1)) entries
-
--- the entries of the cells' table, in any order, with another number for each patch
-pub record AreRenumberedTableEntries (skip : Skip) (cells : List Combination) (number : ℕ
-    → ℕ) (table : CombinationCounts) : Type 0 where
-  pub entries : CombinationCounts
-  pub counts : ListsHaveSameCounts (table_of_cells skip cells) entries
-  pub are : table ≡ renumbered_entries number entries
+-- the sums have the count of each combination in the table of the cells, and the counts add up to the number of cells
+-- that are not left out
+pub record AreTableSumsOfCells (skip : Skip) (cells : List Combination)
+    (sums : List (Option ℕ × CombinationCounts)) : Type 0 where
+  pub counts : ListsHaveSameCounts (table_of_cells skip cells) (entries_with_patch_number sums)
+  pub total : cell_count_of_table (entries_with_patch_number sums) ≡ length (kept_cells skip cells)
 
 -- ---- the law
 
--- if the numbers of patches in the tables of tiles are replaced by the numbers that a numbering gives to them, the sums
--- are the table of the full maps, with the numbers of the full map's patches
-abbrev pub RenumberedPatchTablesAddUp : Type 0
-RenumberedPatchTablesAddUp = (j : Joining) (grid : List (List TileBorderValue)) (joined : List ℕ)
+-- if patch tables of all tiles are sent with the runs of the tiles' numbering, the sums are the table of the full maps,
+-- with the numbers of the full map's patches
+abbrev pub PatchTablesAddUp : Type 0
+PatchTablesAddUp = (j : Joining) (grid : List (List TileBorderValue)) (joined : List ℕ)
     → (numbering : IsTileNumberingResponse j grid joined)
     → (m : Grid) (heights widths : List ℕ) (map_of numbers_of : ℕ → ℕ → Grid)
     → MapIsCutIntoTiles m heights widths map_of → TilesHaveBorders j heights widths map_of numbers_of grid
     → (numbers : Grid) → IsClumpMapOf j m numbers
     → (others : List Grid) (tiles : List TileInTileGrid) → AreAllTilesOfTileGrid heights widths others tiles
-    → (picks : List ℕ) (skip : Skip) (tables : List CombinationCounts)
-    → AllZip (λ t. AreRenumberedTableEntries skip (combinations_of_tile_with_patch heights widths numbers_of picks t)
-    (full_map_patch_number_by_runs widths numbering.runs t)) tiles tables
-    → (width : ℕ) (response : List ℕ) (frame : IsTableSumsResponse width tables response)
-    → AreTableEntriesOfCells skip (combinations_with_patch_number numbers others picks (sum heights)
+    → (picks : List ℕ) (skip : Skip) (tables : List TileTable)
+    → AllZip (IsTableOfTileInTileGrid heights widths numbers_of picks skip) tiles tables
+    → (width : ℕ) (response : List ℕ) (frame : IsPatchSumsResponse numbering.runs width tables response)
+    → AreTableSumsOfCells skip (combinations_with_patch_number numbers others picks (sum heights)
     (sum widths)) frame.sums

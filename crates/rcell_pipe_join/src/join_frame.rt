@@ -1,9 +1,9 @@
-//! Writes the frames of a numbering, of sums, and of joined patches.
+//! Writes the frames of a numbering, of sums, of the sums of patch tables, and of joined patches.
 
-ghost use Rattle.std.specs.Prelude.{flat_map};
+ghost use Rattle.std.specs.Prelude.{flat_map, unwrap_or};
 ghost use Rattle.cell_core_devices.specs.Blocks.{IsTextAppendedThroughBlock};
 ghost use Rattle.rcell_pipe_frames.specs.FrameBytes.{cell_bytes_of_combinations, eight_bytes_of_number};
-ghost use Rattle.rcell_pipe_join.specs.JoinFrames.{joined_patches_bytes, numbered_patch_bytes, numbering_bytes, patch_number_run_bytes, table_sums_bytes};
+ghost use Rattle.rcell_pipe_join.specs.JoinFrames.{joined_patches_bytes, numbered_patch_bytes, numbering_bytes, patch_number_run_bytes, patch_sums_bytes, table_sums_bytes};
 
 use cell_core::block::OutputBlock;
 use cell_core::sink::Sink;
@@ -88,6 +88,36 @@ pub(crate) fn push_table_sums<W: Sink>(
     block.push(out, b"SUMS");
     push_eight_byte_number(out, block, entries.len() as u64);
     push_eight_byte_number(out, block, width as u64);
+    push_counts(out, block, entries);
+    push_combinations(out, block, entries);
+}
+
+// Writes the number of each entry, or 0 for an entry outside patches.
+fn push_numbers<W: Sink>(out: &mut W, block: &mut OutputBlock, numbers: &[Option<u64>])
+    ensures { IsTextAppendedThroughBlock W.taken W.faults out.old block.old
+        (flat_map (λ number. eight_bytes_of_number (unwrap_or number 0)) numbers.now)
+        out.new block.new }
+{
+    for number in numbers {
+        push_eight_byte_number(out, block, number.unwrap_or(0));
+    }
+}
+
+/// Writes the frame with the sums of patch tables over `width` maps.
+pub(crate) fn push_patch_sums<W: Sink>(
+    out: &mut W,
+    block: &mut OutputBlock,
+    width: u8,
+    numbers: &[Option<u64>],
+    entries: &[(Combo, u64)],
+)
+    ensures { IsTextAppendedThroughBlock W.taken W.faults out.old block.old
+        (patch_sums_bytes width numbers.now entries.now) out.new block.new }
+{
+    block.push(out, b"PSUM");
+    push_eight_byte_number(out, block, entries.len() as u64);
+    push_eight_byte_number(out, block, width as u64);
+    push_numbers(out, block, numbers);
     push_counts(out, block, entries);
     push_combinations(out, block, entries);
 }

@@ -6,6 +6,7 @@ ghost use Rattle.rcell_pipe_join.specs.JoinRequests.{join_request_reading, join_
 ghost use Rattle.rcell_pipe_join.specs.parts.Heights.{JoinRequestCanBeJoined};
 
 use crate::patch_parts::{PatchesToJoin, read_patches_to_join};
+use crate::patch_tables::{PatchTables, read_patch_tables};
 use crate::table_reading::{Tables, read_map_count_and_tables};
 use crate::tiles::read_tile_grid;
 use cell_clumps::clump::Joining;
@@ -22,6 +23,8 @@ pub enum JoinKind {
     Tables,
     /// Patches of tiles.
     Patches,
+    /// Tables whose first column is the number of a patch in its tile.
+    PatchTables,
     /// The borders of tiles, whose patches have this connectivity.
     Borders(Joining),
 }
@@ -35,6 +38,8 @@ pub enum JoinRequest {
     Tables(Tables),
     /// The runs of a numbering, and the joined patches of tiles.
     Patches(PatchesToJoin),
+    /// The runs of a numbering, and tables whose first column is the number of a patch in its tile.
+    PatchTables(PatchTables),
 }
 
 fn join_kind_of_code(code: u8) -> Option<JoinKind>
@@ -43,6 +48,7 @@ fn join_kind_of_code(code: u8) -> Option<JoinKind>
     match code {
         1 => Some(JoinKind::Tables),
         2 => Some(JoinKind::Patches),
+        3 => Some(JoinKind::PatchTables),
         4 => Some(JoinKind::Borders(Joining::Edges)),
         8 => Some(JoinKind::Borders(Joining::EdgesAndCorners)),
         _ => None,
@@ -84,6 +90,10 @@ fn read_join_request_of_kind<R: Read>(
         },
         JoinKind::Patches => match read_patches_to_join(alloc, feed) {
             Ok(patches) => Ok(JoinRequest::Patches(patches)),
+            Err(stop) => Err(stop),
+        },
+        JoinKind::PatchTables => match read_patch_tables(alloc, feed) {
+            Ok(tables) => Ok(JoinRequest::PatchTables(tables)),
             Err(stop) => Err(stop),
         },
     }

@@ -6,15 +6,18 @@ ghost use Rattle.rcell_pipe_response.specs.RunEnds.{end_frame_of_successful_run}
 ghost use Rattle.rcell_pipe_response.specs.FrameEndings.{IsTextSentWithOutcome, IsEndOfResponseSent};
 ghost use Rattle.rcell_pipe_join.specs.BorderGrids.{borders_as_values};
 ghost use Rattle.rcell_pipe_join.specs.JoinEnds.{IsJoinResponse};
-ghost use Rattle.rcell_pipe_join.specs.JoinFrames.{joined_patches_bytes, one_frame_response, numbering_bytes, table_sums_bytes};
-ghost use Rattle.rcell_pipe_join.specs.JoinRequests.{BorderGrid, PatchList, TableList, join_request_as_value};
+ghost use Rattle.rcell_pipe_join.specs.JoinFrames.{joined_patches_bytes, one_frame_response, numbering_bytes, patch_sums_bytes, table_sums_bytes};
+ghost use Rattle.rcell_pipe_join.specs.JoinRequests.{BorderGrid, PatchList, PatchTableList, TableList, join_request_as_value};
+ghost use Rattle.rcell_pipe_join.specs.PatchTables.{patch_tables_as_values};
 ghost use Rattle.rcell_pipe_join.specs.TableEntries.{tables_as_values};
 ghost use Rattle.rcell_pipe_join.specs.parts.Heights.{JoinRequestCanBeJoined};
 
-use crate::join_frame::{push_joined_patches, push_numbering, push_table_sums};
+use crate::join_frame::{push_joined_patches, push_numbering, push_patch_sums, push_table_sums};
 use crate::join_request::JoinRequest;
 use crate::numbering::number_patches_of_tiles;
 use crate::patch_parts::PatchesToJoin;
+use crate::patch_sums::{PatchSums, sum_patch_tables};
+use crate::patch_tables::PatchTables;
 use crate::sums::sum_tables;
 use crate::table_reading::{EntriesOfTable, Tables};
 use cell_clumps::clump::Joining;
@@ -113,6 +116,43 @@ fn respond_with_joined_patches<W: Sink>(patches: &PatchesToJoin, out: &mut W) ->
     write_joined_patches_response(out, patches.joiner.patches())
 }
 
+// Writes the sums of patch tables.
+fn write_patch_sums_response<W: Sink>(out: &mut W, width: u8, sums: &PatchSums) -> PipeOutcome
+    ensures { IsTextSentWithOutcome (W.taken out.old) (W.faults out.old) (W.taken out.new)
+        (W.faults out.new)
+        None (one_frame_response (patch_sums_bytes width sums.now.numbers.items
+        sums.now.entries.items)
+        end_frame_of_successful_run) result }
+{
+    let mut block = begin_response(out);
+    push_patch_sums(out, &mut block, width, sums.numbers.as_slice(), sums.entries.as_slice());
+    end_response_and_flush(out, block, None, &end_frame_of_successful_run())
+}
+
+// Adds up patch tables. Allocates all memory before it writes the first byte.
+fn sum_patch_tables_and_respond<W: Sink>(
+    alloc: Global,
+    tables: PatchTables,
+    out: &mut W,
+) -> PipeOutcome
+    requires { JoinRequestCanBeJoined (PatchTableList tables.numbering tables.width
+        (patch_tables_as_values tables.tables.items)) }
+    ensures { IsEndOfResponseSent
+        (IsJoinResponse (Ok (PatchTableList tables.numbering tables.width
+        (patch_tables_as_values tables.tables.items))))
+        (W.taken out.old) (W.faults out.old) (W.taken out.new) (W.faults out.new) result }
+{
+    let PatchTables {
+        numbering,
+        width,
+        tables,
+    } = tables;
+    match sum_patch_tables(alloc, &numbering, tables) {
+        Ok(sums) => write_patch_sums_response(out, width, &sums),
+        Err(_) => reject(out, PipeError::Memory, &memory_end(0)),
+    }
+}
+
 /// Responds to a join request with what it asks for, or reports that memory ran out.
 pub fn respond_to_join_request<W: Sink>(
     alloc: Global,
@@ -128,5 +168,6 @@ pub fn respond_to_join_request<W: Sink>(
         JoinRequest::Borders(joining, grid) => respond_with_numbers(alloc, joining, grid, out),
         JoinRequest::Tables(tables) => sum_tables_and_respond(alloc, tables, out),
         JoinRequest::Patches(patches) => respond_with_joined_patches(&patches, out),
+        JoinRequest::PatchTables(tables) => sum_patch_tables_and_respond(alloc, tables, out),
     }
 }

@@ -2,7 +2,7 @@
 
 ghost use Rattle.rcell_pipe_join.specs.FrameSumLaw.{TableFramesAddUp};
 ghost use Rattle.rcell_pipe_join.specs.JoinLaw.{RunsNumberFullMapPatches};
-ghost use Rattle.rcell_pipe_join.specs.PatchSumLaw.{RenumberedPatchTablesAddUp};
+ghost use Rattle.rcell_pipe_join.specs.PatchSumLaw.{PatchTablesAddUp};
 ghost use Rattle.rcell_pipe_join.specs.RunSumLaw.{TablesOfRunsAddUp};
 ghost use Rattle.rcell_pipe_join.specs.SumLaw.{TablesOfTilesAddUp};
 
@@ -20,13 +20,13 @@ pub fn tables_of_tiles_add_up()
     ensures { TablesOfTilesAddUp }
 {}
 
-/// If the tables of a grid of tiles begin with the numbers of patches, and these are replaced by the numbers in the
-/// response to the tiles' borders, the sums are the table of the full maps, with the numbers of the full map's patches.
-pub fn renumbered_patch_tables_add_up()
-    ensures { RenumberedPatchTablesAddUp }
+/// If a request has the runs of the response to the tiles' borders, and the table of each tile, which begins with the
+/// numbers of patches, the sums in the response are the table of the full maps, with the numbers of the full map's
+/// patches, and their counts add up to the number of cells that are not left out.
+pub fn patch_tables_add_up()
+    ensures { PatchTablesAddUp }
 {
     renumbered_tiles_are_full_clump_map();
-    tables_of_tiles_add_up();
 }
 
 /// If a script runs over tiles that cover the full maps, with enough halo, and the request has the tables of the tiles,

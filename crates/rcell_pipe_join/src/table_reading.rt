@@ -171,16 +171,16 @@ fn read_combinations_of_counts<R: Read>(
     Ok(entries)
 }
 
-// A table, and the number of cells of this table and those before it.
+/// A table, and the number of cells of this table and those before it.
 #[derive(Drop)]
-struct TableAndCellTotal {
-    entries: EntriesOfTable,
-    cells: u64,
+pub(crate) struct TableAndCellTotal {
+    pub entries: EntriesOfTable,
+    pub cells: u64,
 }
 
-// Reads a table. The tables before have `cells` cells.
+/// Reads a table. The tables before have `cells` cells.
 #[tactic(auto, unfolding(crate::specs::TableEntries::one_table_reading))]
-fn read_table<R: Read>(
+pub(crate) fn read_table<R: Read>(
     alloc: Global,
     feed: &mut Feed<R>,
     width: u8,
@@ -202,9 +202,9 @@ fn read_table<R: Read>(
     })
 }
 
-// Reads the number of maps.
+/// Reads the number of maps.
 #[tactic(auto, unfolding(crate::specs::TableEntries::maps_per_table_reading))]
-fn read_maps_per_table<R: Read>(feed: &mut Feed<R>) -> Result<u8, FieldReadingStop>
+pub(crate) fn read_maps_per_table<R: Read>(feed: &mut Feed<R>) -> Result<u8, FieldReadingStop>
     ensures { ReadsRequestFieldAndStaysOpen (λ width. width) feed.old result feed.new
         maps_per_table_reading }
 {

@@ -4,8 +4,10 @@ use Rattle.cell_join_tiles.specs.Beginnings.{clump_count_of_tile_grid}
 use Rattle.cell_join_tiles.specs.JoinedBorders.{begun_clump_counts_of_grid}
 use Rattle.cell_join_tiles.specs.Values.{TileBorderValue}
 use Rattle.cell_join_tiles.specs.parts.RowMarks.{TilesHaveRowCount}
-use Rattle.rcell_pipe_join.specs.JoinRequests.{JoinRequestValue, BorderGrid, TableList, PatchList}
+use Rattle.rcell_pipe_join.specs.JoinRequests.{JoinRequestValue, BorderGrid, TableList, PatchList, PatchTableList}
+use Rattle.rcell_pipe_join.specs.PatchTables.{cell_count_of_tile_table}
 use Rattle.rcell_pipe_join.specs.TableEntries.{cell_count_of_table}
+use Rattle.rcell_pipe_join.specs.parts.TableCounts.{NoCountOfTileTableIsZero}
 use Rattle.cell_stats_combinations.specs.Listed.{NoEntryCountIsZero}
 
 -- the tiles of a row have one number of rows
@@ -20,3 +22,5 @@ JoinRequestCanBeJoined (BorderGrid joining grid) = All TilesHaveSameRowCount gri
 JoinRequestCanBeJoined (TableList width tables) = All NoEntryCountIsZero tables
     × (sum_by cell_count_of_table tables < 2 ^ 64)
 JoinRequestCanBeJoined (PatchList runs parts) = ⊤
+JoinRequestCanBeJoined (PatchTableList runs width tables) = All NoCountOfTileTableIsZero tables
+    × (sum_by cell_count_of_tile_table tables < 2 ^ 64)

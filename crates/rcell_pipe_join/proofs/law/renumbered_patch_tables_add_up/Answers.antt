@@ -1,5 +1,0 @@
-use Rattle.rcell_pipe_join.proofs.PatchSumLemmas.{patch-tables-add-up}
-use Rattle.rcell_pipe_join.proofs.law.renumbered_patch_tables_add_up.Goals as goal
-
-pub returns : goal.returns
-returns c = patch-tables-add-up c.renumbered_tiles_are_full_clump_map.ensures c.tables_of_tiles_add_up.ensures
