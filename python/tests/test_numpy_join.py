@@ -15,7 +15,7 @@ import rcell
 from rcell.core import programs, protocol
 from rcell.core.region import Region
 from rcell.core.runs import values_of
-from rcell.core.tile_clumps import join, renumber, wide
+from rcell.core.tile_clumps import join, renumber, sum_patch_tables, wide
 
 # A longer run: RCELL_MORE=40 python3 tests/test_numpy_join.py
 TILINGS = 60 * int(os.environ.get("RCELL_MORE", "1"))
@@ -42,6 +42,14 @@ def clumped(cells: Any, connectivity: int, row: int = 0, col: int = 0) -> tuple[
     return wide(values_of(numbers)), values_of(border)
 
 
+def table_of(numbers: Any, zones: Any) -> Any:
+    """Return the rows of the table of clump numbers and zones, in ascending order."""
+    rows, counts = np.unique(
+        np.stack([numbers.ravel(), zones.ravel()], axis=1), axis=0, return_counts=True
+    )
+    return np.column_stack([rows, counts])
+
+
 class Tiles(unittest.TestCase):
     def test_clumps_of_tiles_join_to_those_of_the_full_map(self) -> None:
         for seed in range(TILINGS):
@@ -65,6 +73,40 @@ class Tiles(unittest.TestCase):
             renumber(own, joined.numbers_of(tile), out=found[place])
         self.assertEqual(found.tolist(), expected.tolist())
         self.assertEqual(joined.clumps, max(expected.max(), 0))
+
+    def test_patch_tables_of_tiles_add_up_to_those_of_the_full_map(self) -> None:
+        for seed in range(TILINGS):
+            with self.subTest(seed=seed):
+                self.assert_adds_up(np.random.default_rng(seed), 8 if seed % 2 else 4)
+
+    def assert_adds_up(self, random: np.random.Generator, connectivity: int) -> None:
+        shape = random.integers(1, 12, 2)
+        cells = random.choice(np.array([1, 1, 2, 30, NULL_CELL], np.uint8), shape)
+        zones = random.choice([-4, 0, 7, protocol.NULL], shape)
+        rows, cols = (cuts(random, length) for length in shape)
+        places = [(row, col) for row in rows for col in cols]
+        numbers, borders = zip(
+            *(
+                clumped(cells[place], connectivity, place[0].start, place[1].start)
+                for place in places
+            )
+        )
+        tables = [
+            (tile, table_of(own, zones[at])) for tile, (own, at) in enumerate(zip(numbers, places))
+        ]
+        random.shuffle(tables)
+        found = sum_patch_tables(join(borders, len(cols), connectivity), tables)
+        self.assertTrue((np.diff(found[:, 0]) >= 0).all())
+        full, _ = clumped(cells, connectivity)
+        self.assertEqual(sorted(found.tolist()), table_of(full, zones).tolist())
+
+    def test_a_table_of_a_patch_that_is_in_no_tile(self) -> None:
+        joined = join([clumped(LAND, 4)[1]], 1, 4)
+        tables = [(0, np.array([[1, 5, 2]])), (0, np.array([[1, 5, 2], [3, 5, 1]]))]
+        with self.assertRaisesRegex(rcell.WrongProgram, "list 3: unknown patch"):
+            sum_patch_tables(joined, tables)
+        self.assertEqual(sum_patch_tables(joined, tables[:1]).tolist(), [[1, 5, 2]])
+        self.assertEqual(sum_patch_tables(joined, [(0, np.empty((0, 3)))]).tolist(), [])
 
     def test_borders_that_are_not_of_tiles(self) -> None:
         (_, one), (_, beside), (_, below) = (

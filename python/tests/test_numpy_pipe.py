@@ -317,6 +317,24 @@ class Answers(Asked):
             with self.subTest(answer=answer), self.assertRaises(protocol.NoAnswer):
                 protocol.join_patches(self.answering(answer), runs, 1, row)
 
+    def test_a_join_of_patch_tables(self) -> None:
+        runs = memoryview(array("Q", [1, 1, 2, 1]))
+        numbers, counts, cells = array("Q", [0, 2**40]), array("Q", [3, 2**33]), array("i", [-5, 7])
+        sums = struct.pack("<2Q", 2, 2) + b"".join(it.tobytes() for it in (numbers, counts, cells))
+        answer = MAGIC + b"PSUM" + sums + DONE
+        table = 1, memoryview(array("Q", [3])), memoryview(array("i", [2, -5]))
+        found = protocol.sum_patch_tables(self.answering(answer), runs, 2, [table])
+        self.assertEqual(found.maps, 2)
+        self.assertEqual(found.numbers.tolist(), numbers.tolist())
+        self.assertEqual(found.counts.tolist(), counts.tolist())
+        self.assertEqual(found.cells.tolist(), cells.tolist())
+        with open(f"{self.folder}/request", "rb") as file:
+            head = b"RCELLJ1\n" + struct.pack("<B5QBI", 3, 1, 1, 1, 2, 1, 2, 1)
+            self.assertEqual(file.read(), head + struct.pack("<3Q2i", 1, 1, 3, 2, -5))
+        for answer in (MAGIC + DONE, MAGIC + JOIN + DONE):
+            with self.subTest(answer=answer), self.assertRaises(protocol.NoAnswer):
+                protocol.sum_patch_tables(self.answering(answer), runs, 2, [table])
+
     def test_what_is_cut_or_goes_on_is_no_answer(self) -> None:
         answer = MAGIC + TABLE + GRID + CELLS + PLAN + JOIN + DONE
         for given in [

@@ -1,4 +1,4 @@
-"""Add up tables whose first column is the number of a patch in its tile, as docs/pipe.md defines it."""
+"""Add up tables whose first column is the patch in its tile, as docs/pipe.md defines it."""
 from __future__ import annotations
 
 import dataclasses

@@ -742,7 +742,8 @@ def check_examples(tests: Tests) -> None:
         tests.check("patches", tests.wrong(patches.data()))
     sums = patch_sums(TWO_TILES)
     tests.check("patch tables", "" if sums == SUMS_OF_TWO_TILES else f"the model says {sums}")
-    for given in (TWO_TILES, replace(TWO_TILES, tables=((2, ()),)), PatchTables((), 16, ((0, ()),))):
+    without_entries = replace(TWO_TILES, tables=((2, ()),)), PatchTables((), 16, ((0, ()),))
+    for given in (TWO_TILES, *without_entries):
         tests.check("patch tables", tests.wrong(given.data()))
 
 
@@ -812,7 +813,8 @@ def check_random_patch_tables(tests: Tests, chance: random.Random, name: str) ->
         tuple(((number_of(request.runs, tile, line[0]), *line[1:]), one) for line, one in table)
         for tile, table in request.tables
     )
-    wanted = [(line[0] or 0, line[1:], one) for line, one in summed(Tables(request.width, tuple(full)))]
+    sums = summed(Tables(request.width, tuple(full)))
+    wanted = [(line[0] or 0, line[1:], one) for line, one in sums]
     found = patch_sums(request)
     tests.check(name, "" if found == wanted else f"the models say {found} and {wanted} of {cut}")
     kind = chance.random()

@@ -1,7 +1,7 @@
 -- Entries by the number of their patch in the full map.
-use Rattle.std.proofs.Common.{◌≡◌, ◌∙◌, ℕ, ◌+◌, ◌<◌, ◌≤◌, ◌^◌, List, [], ◌∷◌, ◌++◌, All, Bool, true, false, cond, Option, Some, None}
-use Rattle.std.proofs.Common.{Vec, refl, ap, sym, subst, arith, append-nil, append_assoc, flat_map, map, sum_by, unwrap_or}
-use Rattle.std.proofs.Common.{length, if◌then◌else◌}
+use Rattle.std.proofs.Common.{◌≡◌, ◌∙◌, ℕ, ◌<◌, ◌≤◌, ◌^◌, List, [], ◌∷◌, ◌++◌, All, Bool, true, false, cond}
+use Rattle.std.proofs.Common.{Option, Some, None, Vec, refl, ap, sym, subst, arith, append-nil, map, sum_by, unwrap_or}
+use Rattle.std.proofs.Common.{if◌then◌else◌}
 use Rattle.std.specs.Cmp.Lexicographic.{options_total}
 use Rattle.std.specs.Global.{Global}
 use Rattle.std.specs.List.{AllByRecursion, AllZip}
@@ -46,7 +46,7 @@ turned n m = ap is_eq ((options_total nat_cmp_total).antisymm n m) ∙ by (numbe
 
 -- ---- adding an entry to a group
 
-items_of : Option (Vec (Combination × ℕ) Global) → CombinationCounts
+abbrev items_of : Option (Vec (Combination × ℕ) Global) → CombinationCounts
 items_of found = unwrap_or (option_map (λ v. v.items) found) []
 
 -- the entries of the group, or no entries
@@ -214,6 +214,7 @@ record AreSummed (entries sums : CombinationCounts) : Type 0 where
 
 sums-found : (n : Option ℕ) (groups : List Group) (sums : List NumberSums) → AllZip AreSumsOfGroup groups sums
     → AreSummed (entries_in_groups n groups) (entries_with_number n sums)
+unfolding IsStrictlySortedBy
 sums-found n [] [] all = record { ascending = tt; no_zero = All-nil IsCounted; counts = λ k. refl }
 sums-found n [] (s ∷ sums) all = absurd all
 sums-found n (g ∷ groups) [] all = absurd all

@@ -1,14 +1,16 @@
 -- The sums of tables whose first column is the number of a patch in its tile.
-use Rattle.std.proofs.Common.{◌≡◌, ◌∙◌, ℕ, zero, suc, pos, negsuc, ◌+◌, ◌<◌, ◌&&◌, List, [], ◌∷◌, ◌++◌, All, map, flat_map}
+use Rattle.std.proofs.Common.{◌≡◌, ◌∙◌, ℕ, zero, suc, pos, negsuc, ◌+◌, ◌<◌, ◌&&◌, List, [], ◌∷◌, ◌++◌, All}
 use Rattle.std.proofs.Common.{Bool, true, false, cond, Option, Some, None, IsSome, refl, ap, sym, subst, count_by, sum}
-use Rattle.std.proofs.Common.{arith, length, get_or, sum_by, unwrap_or, if◌then◌else◌}
+use Rattle.std.proofs.Common.{arith, flat_map, length, map, get_or, sum_by, unwrap_or, zero-add, if◌then◌else◌, ◌<ℤ◌}
+use Rattle.std.specs.Cmp.{int_cmp_is, ranks}
 use Rattle.std.specs.List.{AllByRecursion, AllZip, range_with_len}
 use Rattle.std.specs.List.Sorted.{IsStrictlySortedBy}
 use Rattle.std.specs.Map.{keys_of, lookup}
 use Rattle.std.specs.Option.{option_map}
-use Rattle.std.specs.Ordering.{eq_by_cmp, is_eq, ordering_then}
+use Rattle.std.specs.Ordering.{MatchOrdering, eq_by_cmp, is_eq, nat_cmp, ordering_then}
 use Rattle.std.specs.declared.cmp.Ordering.{Ordering}
 use Rattle.std.specs.declared.cmp.Ordering.TheVariants.{Less, Equal, Greater}
+use Rattle.std.proofs.Math.Facts.{yes_ltb}
 use Rattle.std.proofs.lemmas.List.Elements.{All-cons, All-head, All-nil, All-tail}
 use Rattle.std.proofs.lemmas.List.Sums.{sum_by-append, sum_by-cons}
 use Rattle.cell_core.specs.Grid.{Grid, CellValue}
@@ -36,10 +38,12 @@ use Rattle.cell_join_tiles.proofs.GreatestLemmas.{some-numbered}
 use Rattle.cell_join_patches.specs.PatchNumbers.{number_in_full_map}
 use Rattle.cell_join_patches.specs.TileGridLaw.{IsNumberedTileGrid, RenumberedTilesAreFullClumpMap}
 use Rattle.cell_join_patches.specs.TileGridLaw.{cell_with_full_map_number, tile_number_in_grid}
-use Rattle.rcell_pipe_join.specs.PatchSumLaw.{IsTableOfTileInTileGrid, IsTileInTileGrid, PatchTablesAddUp}
+use Rattle.rcell_pipe_join.specs.PatchSumLaw.{AreTableSumsOfCells, IsTableOfTileInTileGrid, IsTileInTileGrid}
+use Rattle.rcell_pipe_join.specs.PatchSumLaw.{PatchTablesAddUp}
 use Rattle.rcell_pipe_join.specs.PatchSumLaw.{TileInTileGrid, combinations_with_patch_number}
 use Rattle.rcell_pipe_join.specs.PatchSumLaw.{entries_with_patch_number, tile_rectangle_in_grid}
-use Rattle.rcell_pipe_join.specs.PatchTables.{TileTable, entries_of_number, entries_with_number}
+use Rattle.rcell_pipe_join.specs.PatchTables.{AreSumsOfPatchTables, TileTable, entries_of_number}
+use Rattle.rcell_pipe_join.specs.PatchTables.{entries_with_number}
 use Rattle.rcell_pipe_join.specs.PatchTables.{full_map_number_of_cell, number_cmp, others_of_number}
 use Rattle.rcell_pipe_join.specs.SumLaw.{AreEntriesOfTileTable}
 use Rattle.rcell_pipe_join.proofs.CountLemmas.{listed-table, listed-with, listed_with}
@@ -323,6 +327,9 @@ module _ (runs : List ConsecutiveClumps) (heights widths : List ℕ) (numbers_of
 
 -- ---- the counts of the full maps' table
 
+abbrev count_of_part : Combination → List ℕ → TileOfMaps → ℕ
+count_of_part k picks part = cell_count_of_combination k (combinations_of_tile picks part)
+
 -- the count of a combination in the table of full maps is the sum of its counts in the tables of tiles
 full-count : (rows cols : ℕ) (whole : List Grid) (parts : List TileOfMaps) → TilesCoverMaps rows cols whole parts
     → (picks : List ℕ) (skip : Skip) (tables : List CombinationCounts)
@@ -336,9 +343,6 @@ full-count rows cols whole parts are picks skip tables each k =
     ∙ kept-parts parts
     ∙ sym (listed-tables skip picks k parts tables each)
   where
-    abbrev count_of_part : TileOfMaps → ℕ
-    count_of_part part = cell_count_of_combination k (combinations_of_tile picks part)
-
     none : (b : Bool) → ◌≡◌ {A = ℕ} (cond b 0 0) 0
     none true = refl
     none false = refl
@@ -348,19 +352,20 @@ full-count rows cols whole parts are picks skip tables each k =
     split false n more = refl
 
     one-kept : (part : TileOfMaps) → listed_count_of_combination k (table_of_part skip picks part)
-        ≡ cond (combination_is_left_out skip k) 0 (count_of_part part)
+        ≡ cond (combination_is_left_out skip k) 0 (count_of_part k picks part)
     one-kept part =
         listed-table skip (combinations_of_tile picks part) k ∙ count_kept skip k (combinations_of_tile picks part)
 
-    kept-parts : (parts : List TileOfMaps) → cond (combination_is_left_out skip k) 0 (sum_by count_of_part parts)
+    kept-parts : (parts : List TileOfMaps)
+        → cond (combination_is_left_out skip k) 0 (sum_by (count_of_part k picks) parts)
         ≡ sum_by (listed_count_of_combination k) (map (table_of_part skip picks) parts)
     kept-parts [] = none (combination_is_left_out skip k)
     kept-parts (part ∷ parts) =
-        let more = sum_by count_of_part parts in
+        let more = sum_by (count_of_part k picks) parts in
         let listed = sum_by-cons (listed_count_of_combination k) (table_of_part skip picks part)
         (map (table_of_part skip picks) parts) in
-        ap (cond (combination_is_left_out skip k) 0) (sum_by-cons count_of_part part parts)
-        ∙ split (combination_is_left_out skip k) (count_of_part part) more
+        ap (cond (combination_is_left_out skip k) 0) (sum_by-cons (count_of_part k picks) part parts)
+        ∙ split (combination_is_left_out skip k) (count_of_part k picks part) more
         ∙ (λ i. sym (one-kept part) i + kept-parts parts i)
         ∙ sym listed
 
@@ -384,7 +389,14 @@ same-number : (n m : Option ℕ) → cell_eq (option_map pos n) (option_map pos 
 same-number None None = refl
 same-number None (Some m) = refl
 same-number (Some n) None = refl
-same-number (Some n) (Some m) = refl
+same-number (Some n) (Some m) =
+    ap is_eq (sym (int_cmp_is (pos n) (pos m) (nat_cmp n m) (signed (nat_cmp n m) (ranks n m))))
+  where
+    signed : (o : Ordering) → MatchOrdering o (n < m) (n ≡ m) (m < n)
+        → MatchOrdering o (pos n <ℤ pos m) (pos n ≡ pos m) (pos m <ℤ pos n)
+    signed Less less = record { lt = yes_ltb less }
+    signed Equal same = ap pos same
+    signed Greater less = record { lt = yes_ltb less }
 
 equal-with-number : (n m : Option ℕ) (k l : Combination)
     → eq_by_cmp combination_cmp (with_number n k) (with_number m l)
@@ -513,7 +525,8 @@ number-listed n k (s ∷ sums) up =
         (number-exact n s.0 is)
         ∙ none-listed s.0 k sums up.0 in
         omega (arith, none)
-    by false is rest = rest
+    by false is rest =
+        zero-add (listed_count_of_combination (with_number n k) (entries_with_patch_number sums)) ∙ rest
 
 -- ---- other combinations do not occur
 
@@ -580,6 +593,7 @@ module _ (maps : List Grid) (picks : List ℕ) where
   none-empty-in-row row (col ∷ cols) =
       sum_by-cons (λ (x : Combination). cond (eq_by_cmp combination_cmp [] x) 1 0) (at_cell row col)
       (map (at_cell row) cols)
+      ∙ zero-add (cell_count_of_combination [] (map (at_cell row) cols))
       ∙ none-empty-in-row row cols
 
   none-empty-in-rows : (cols rows : List ℕ)
@@ -605,56 +619,55 @@ module _ (maps : List Grid) (picks : List ℕ) where
 
 -- ---- the law
 
+-- the sums have the count of each combination in the table of the full maps
+module _ (runs : List ConsecutiveClumps) (heights widths : List ℕ) (numbers : Grid) (others : List Grid)
+    (picks : List ℕ) (skip : Skip) (tables : List TileTable) (sums : List (Option ℕ × CombinationCounts))
+    (are : AreSumsOfPatchTables runs tables sums) where
+  abbrev full_cells : List Combination
+  full_cells = combinations_with_patch_number numbers others picks (sum heights) (sum widths)
+
+  module _ (full : (k : Combination) → listed_count_of_combination k (table_of_cells skip full_cells)
+      ≡ sum_by (listed_count_of_combination k) (map (renumbered_entries runs) tables)) where
+    with : (n : Option ℕ) (k : Combination)
+        → listed_count_of_combination (with_number n k) (entries_with_patch_number sums)
+        ≡ listed_count_of_combination (with_number n k) (table_of_cells skip full_cells)
+    with n k =
+        number-listed n k sums are.ascending ∙ (are.each n).counts k ∙ sym (tables-of-number runs n k tables)
+        ∙ sym (full (with_number n k))
+
+    same : ListsHaveSameCounts (table_of_cells skip full_cells) (entries_with_patch_number sums)
+    same [] =
+        none-in-sums [] refl sums
+        ∙ sym (none-empty (numbers ∷ others) (map suc picks) skip (sum heights) (sum widths))
+    same (None ∷ k) = with None k
+    same (Some (pos n) ∷ k) = with (Some n) k
+    same (Some (negsuc n) ∷ k) =
+        none-in-sums (Some (negsuc n) ∷ k) refl sums
+        ∙ sym (full (Some (negsuc n) ∷ k) ∙ none-negative-in-tables runs n k tables)
+
+    sums-of-cells : AreTableSumsOfCells skip full_cells sums
+    sums-of-cells = record {
+      counts = same;
+      total = listed-with (λ k. true) (kept_cells skip full_cells) (entries_with_patch_number sums)
+          (λ k. same k ∙ listed-table skip full_cells k) ∙ count-all (kept_cells skip full_cells);
+    }
+
 pub patch-tables-add-up : RenumberedTilesAreFullClumpMap → PatchTablesAddUp
 patch-tables-add-up renumber j borders joined numbering m heights widths map_of numbers_of cut are_borders numbers
-    clumping others tiles are picks skip tables each width response frame = record {
-  counts = same;
-  total = listed-with (λ k. true) (kept_cells skip cells) (entries_with_patch_number frame.sums)
-      (λ k. same k ∙ listed-table skip cells k) ∙ count-all (kept_cells skip cells);
-}
-  where
-    abbrev runs : List ConsecutiveClumps
-    runs = numbering.runs
-
-    abbrev cells : List Combination
-    cells = combinations_with_patch_number numbers others picks (sum heights) (sum widths)
-
-    abbrev renumbered : List CombinationCounts
-    renumbered = map (renumbered_entries runs) tables
-
-    grid : IsNumberedTileGrid j m numbers heights widths map_of numbers_of runs
-    grid = record {
+    clumping others tiles are picks skip tables each width response frame =
+    let runs : List ConsecutiveClumps = numbering.runs in
+    let grid : IsNumberedTileGrid j m numbers heights widths map_of numbers_of runs = record {
       cut = cut;
       clumping = clumping;
       borders = borders;
       tiles = are_borders;
       numbering = numbering.numbers;
-    }
-
-    full : (k : Combination) → listed_count_of_combination k (table_of_cells skip cells)
-        ≡ sum_by (listed_count_of_combination k) renumbered
-    full k =
-        full-count (sum heights) (sum widths) (numbers ∷ others) (map (part_of runs heights widths numbers_of) tiles)
-        (record {
-          tiling = subst (RectanglesCoverMap (sum heights) (sum widths))
-              (sym (places-same runs heights widths numbers_of tiles)) are.tiling;
-          cells = tile-parts runs heights widths numbers_of j m numbers map_of others grid renumber tiles are.each;
-        }) (columns picks) skip renumbered
-        (tables-renumbered runs heights widths numbers_of skip picks tiles tables each) k
-
-    with : (n : Option ℕ) (k : Combination)
-        → listed_count_of_combination (with_number n k) (entries_with_patch_number frame.sums)
-        ≡ listed_count_of_combination (with_number n k) (table_of_cells skip cells)
-    with n k =
-        number-listed n k frame.sums frame.are.ascending ∙ (frame.are.each n).counts k
-        ∙ sym (tables-of-number runs n k tables) ∙ sym (full (with_number n k))
-
-    same : ListsHaveSameCounts (table_of_cells skip cells) (entries_with_patch_number frame.sums)
-    same [] =
-        none-in-sums [] refl frame.sums
-        ∙ sym (none-empty (numbers ∷ others) (map suc picks) skip (sum heights) (sum widths))
-    same (None ∷ k) = with None k
-    same (Some (pos n) ∷ k) = with (Some n) k
-    same (Some (negsuc n) ∷ k) =
-        none-in-sums (Some (negsuc n) ∷ k) refl frame.sums
-        ∙ sym (full (Some (negsuc n) ∷ k) ∙ none-negative-in-tables runs n k tables)
+    } in
+    sums-of-cells runs heights widths numbers others picks skip tables frame.sums frame.are
+    (full-count (sum heights) (sum widths) (numbers ∷ others) (map (part_of runs heights widths numbers_of) tiles)
+    (record {
+      tiling = subst (RectanglesCoverMap (sum heights) (sum widths))
+          (sym (places-same runs heights widths numbers_of tiles)) are.tiling;
+      cells = tile-parts runs heights widths numbers_of j m numbers map_of others grid renumber tiles are.each;
+    }) (columns picks) skip (map (renumbered_entries runs) tables)
+    (tables-renumbered runs heights widths numbers_of skip picks tiles tables each))

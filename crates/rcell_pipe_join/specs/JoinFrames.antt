@@ -24,8 +24,8 @@ table_sums_bytes width entries =
     codes "SUMS" ++ eight_bytes_of_number (length entries) ++ eight_bytes_of_number width
     ++ flat_map (λ entry. eight_bytes_of_number entry.1) entries ++ cell_bytes_of_combinations entries
 
--- the frame of the sums of patch tables: the numbers of entries and of maps, the number of each entry's patch in the full
--- map, or 0 outside patches, the counts, and the other cells of each entry in turn
+-- the frame of the sums of patch tables: the numbers of entries and of maps, the number of each entry's patch in the
+-- full map, or 0 outside patches, the counts, and the other cells of each entry in turn
 abbrev pub patch_sums_bytes : ℕ → List (Option ℕ) → CombinationCounts → List ℕ
 patch_sums_bytes width numbers entries =
     codes "PSUM" ++ eight_bytes_of_number (length entries) ++ eight_bytes_of_number width

@@ -1,8 +1,7 @@
 -- The meaning of the bytes of patch tables, whose first column is the number of a patch in its tile, and their sums by
 -- the numbers of patches in the full map (profile).
-use Rattle.std.specs.Prelude.{ℕ, ℤ, pos, negsuc, ◌≡◌, ◌+◌, ◌&&◌, nat_le, nat_lt, Bool, true, List, [], ◌∷◌, ◌++◌, Option}
-use Rattle.std.specs.Prelude.{Some, None, Vec, Ok, Err, length, map, flat_map, sum_by, unwrap_or, if◌then◌else◌}
-use Rattle.std.specs.Global.{Global}
+use Rattle.std.specs.Prelude.{ℕ, ℤ, pos, negsuc, ◌≡◌, ◌+◌, ◌&&◌, nat_le, nat_lt, Bool, true, List, [], ◌∷◌, ◌++◌}
+use Rattle.std.specs.Prelude.{Option, None, Ok, Err, length, map, flat_map, sum_by, unwrap_or, if◌then◌else◌}
 use Rattle.std.specs.Int.{w32, w64}
 use Rattle.std.specs.List.{list_all}
 use Rattle.std.specs.List.Sorted.{IsStrictlySortedBy}
@@ -46,8 +45,8 @@ first_patch_is_known runs tile (cell ∷ others) = patch_is_known runs tile cell
 abbrev pub patches_are_known : List ConsecutiveClumps → (tile : ℕ) → CombinationCounts → Bool
 patches_are_known runs tile entries = list_all (λ entry. first_patch_is_known runs tile entry.0) entries
 
--- the number in the full map of a cell's patch; null is outside patches. A request has no patch that is in no run, which
--- would have the number 0
+-- the number in the full map of a cell's patch; null is outside patches. Patches that are in no run are rejected; here
+-- they have the number 0
 abbrev pub full_map_number_of_cell : List ConsecutiveClumps → (tile : ℕ) → CellValue → Option ℕ
 full_map_number_of_cell runs tile cell = option_map (λ patch. unwrap_or (number_of_tile_patch runs tile patch) 0) cell
 
@@ -69,8 +68,8 @@ patch_table_reading runs width cells c = do
   if patches_are_known runs tile.0 table.0 then Ok ((tile.0, table.0), table.1) else Err kinds.UnknownPatch
 
 -- the tables so far, and one more; an error has the number of lists before it: the runs, and these tables
-unfoldable pub patch_tables_with_next_table_reading : List ConsecutiveClumps → (width : ℕ) → List TileTable → ComingBytes
-    → PositionedReading (List TileTable)
+unfoldable pub patch_tables_with_next_table_reading : List ConsecutiveClumps → (width : ℕ) → List TileTable
+    → ComingBytes → PositionedReading (List TileTable)
 patch_tables_with_next_table_reading runs width tables c = do
   table ← result_with_error_position (length tables + 1) 0 (patch_table_reading runs width
       (sum_by cell_count_of_tile_table tables) c)

@@ -125,7 +125,13 @@ fn write_patch_sums_response<W: Sink>(out: &mut W, width: u8, sums: &PatchSums) 
         end_frame_of_successful_run) result }
 {
     let mut block = begin_response(out);
-    push_patch_sums(out, &mut block, width, sums.numbers.as_slice(), sums.entries.as_slice());
+    push_patch_sums(
+        out,
+        &mut block,
+        width,
+        sums.numbers.as_slice(),
+        sums.entries.as_slice(),
+    );
     end_response_and_flush(out, block, None, &end_frame_of_successful_run())
 }
 

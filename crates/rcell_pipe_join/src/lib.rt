@@ -8,9 +8,9 @@
 //!   specs/PatchTables.antt: what the bytes mean; specs/JoinEnds.antt: the response
 //! - `law`: the response numbers the patches of the full map, or has its table; `border_law`: the border of a tile is
 //!   not rejected, and the border in a frame is read as a tile
-//! - private: `border_fields` reads one border, `tiles` the borders of a grid, `table_reading` tables, `patch_runs` runs,
-//!   `patch_parts` patches of tiles, which it joins, `patch_tables` patch tables; `border_checks` finds borders of no
-//!   tile; `numbering` numbers the patches, `sums` and `patch_sums` add up tables; `join_frame` writes the frames
+//! - private: `border_fields` reads one border, `tiles` the borders of a grid, `table_reading` tables, `patch_runs`
+//!   runs, `patch_parts` patches of tiles, which it joins, `patch_tables` patch tables; `border_checks` finds borders of
+//!   no tile; `numbering` numbers the patches, `sums` and `patch_sums` add up tables; `join_frame` writes the frames
 //!
 //! For example, two tiles of one cell each, both of category 7, are next to each other. Each side of a tile has the cell
 //! 7 with the number 1, and one patch begins in the tile's row. The response has 1 patch and the runs (1, 1, 1, 1) and

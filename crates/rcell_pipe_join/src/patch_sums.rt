@@ -128,8 +128,8 @@ fn sums_of_groups(alloc: Global, groups: Groups) -> Result<PatchSums, Memory>
     Ok(PatchSums { numbers, entries })
 }
 
-/// Returns the sums of patch tables: each pair of a number and a combination of the other cells once, in ascending order,
-/// with the sum of its counts.
+/// Returns the sums of patch tables: each pair of a number and a combination of the other cells once, in ascending
+/// order, with the sum of its counts.
 pub(crate) fn sum_patch_tables(
     alloc: Global,
     numbering: &PatchNumbering,

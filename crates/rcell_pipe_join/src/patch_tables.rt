@@ -48,7 +48,8 @@ fn number_of_tile_patch(numbering: &PatchNumbering, tile: u64, patch: i32) -> Op
     numbering.number_in_full_map(tile, patch as u64)
 }
 
-/// Returns the number in the full map of a cell's patch, or `None` for null. A patch that is in no run has the number 0.
+/// Returns the number in the full map of a cell's patch, or `None` for null. Returns 0 for a patch that is in no run;
+/// reading rejects these patches.
 pub(crate) fn full_map_number_of_cell(
     numbering: &PatchNumbering,
     tile: u64,

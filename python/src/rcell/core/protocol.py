@@ -30,6 +30,7 @@ from .requests import (
     Margin,
     Question,
     join_request,
+    patch_tables_request,
     patches_request,
     plan_request,
     request,
@@ -46,6 +47,7 @@ from .responses import (
     JoinFrame,
     NumbersFrame,
     PatchesFrame,
+    PatchSumsFrame,
     Statement,
     TableFrame,
     response_of,
@@ -73,6 +75,7 @@ __all__ = [
     "NoAnswer",
     "NotStarted",
     "NumbersFrame",
+    "PatchSumsFrame",
     "PatchesFrame",
     "Question",
     "Rejected",
@@ -87,10 +90,11 @@ __all__ = [
     "request",
     "run",
     "script_bytes",
+    "sum_patch_tables",
     "text",
 ]
 
-Joined = TypeVar("Joined", JoinFrame, JoinedPatchesFrame)
+Joined = TypeVar("Joined", JoinFrame, JoinedPatchesFrame, PatchSumsFrame)
 
 NO_MEMORY = 3
 """The status if the program runs out of memory."""
@@ -273,7 +277,7 @@ def run(
     return [
         frame
         for frame in _answered(program, request(maps, script, questions, tile), seconds, watch)
-        if not isinstance(frame, (Statement, JoinFrame, JoinedPatchesFrame))
+        if not isinstance(frame, (Statement, JoinFrame, JoinedPatchesFrame, PatchSumsFrame))
     ]
 
 
@@ -423,6 +427,23 @@ def join_patches(
     """
     sent = patches_request(runs, patches, rows)
     return _joined(_answered(program, sent, seconds, watch), JoinedPatchesFrame)
+
+
+def sum_patch_tables(
+    program: str,
+    runs: Buffer,
+    maps: int,
+    tables: Sequence[tuple[int, Buffer, Buffer]],
+    *,
+    seconds: Optional[float] = None,
+    watch: Optional[Callable[[], None]] = None,
+) -> PatchSumsFrame:
+    """Add up tables by the numbers of patches in the full map.
+
+    The parameters are described in `patch_tables_request` and `run`, and the errors in `run`.
+    """
+    sent = patch_tables_request(runs, maps, tables)
+    return _joined(_answered(program, sent, seconds, watch), PatchSumsFrame)
 
 
 def _joined(frames: Sequence[AnyFrame], kind: type[Joined]) -> Joined:

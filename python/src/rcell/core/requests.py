@@ -19,6 +19,7 @@ __all__ = [
     "Margin",
     "Question",
     "join_request",
+    "patch_tables_request",
     "patches_request",
     "plan_request",
     "request",
@@ -295,3 +296,34 @@ def patches_request(runs: Buffer, patches: int, rows: Buffer) -> Iterator[Buffer
     yield run_bytes
     yield struct.pack("<Q", patches)
     yield memoryview(rows).cast("B")
+
+
+def patch_tables_request(
+    runs: Buffer, maps: int, tables: Sequence[tuple[int, Buffer, Buffer]]
+) -> Iterator[Buffer]:
+    """Yield the bytes of a request to add up tables by the numbers of patches in the full map.
+
+    Parameters
+    ----------
+    runs : buffer
+        The runs of a `responses.JoinFrame`.
+    maps : int
+        The number of maps. The first one contains the numbers of patches in the tile.
+    tables : sequence of tuples of an int and two buffers
+        For each table its tile, counted from 1; the counts of its entries, as u64; and the cells of
+        the entries, as i32.
+
+    Examples
+    --------
+    >>> b"".join(patch_tables_request(b"", 2, []))
+    b'RCELLJ1\\n\\x03\\x00\\x00\\x00\\x00\\x00\\x00\\x00\\x00\\x02\\x00\\x00\\x00\\x00'
+    """
+    run_bytes = memoryview(runs).cast("B")
+    yield b"RCELLJ1\n" + struct.pack("<BQ", 3, len(run_bytes) // RUN_BYTES)
+    yield run_bytes
+    yield struct.pack("<BI", maps, len(tables))
+    for tile, counts, cells in tables:
+        count_bytes = memoryview(counts).cast("B")
+        yield struct.pack("<2Q", tile, len(count_bytes) // 8)
+        yield count_bytes
+        yield memoryview(cells).cast("B")

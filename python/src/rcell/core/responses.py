@@ -24,6 +24,7 @@ __all__ = [
     "JoinFrame",
     "JoinedPatchesFrame",
     "NumbersFrame",
+    "PatchSumsFrame",
     "PatchesFrame",
     "Statement",
     "TableFrame",
@@ -261,8 +262,31 @@ class JoinedPatchesFrame:
     rows: memoryview
 
 
+@dataclass(frozen=True)
+class PatchSumsFrame:
+    """The sums of tables by the numbers of patches in the full map.
+
+    Attributes
+    ----------
+    maps : int
+        The number of maps of each table.
+    numbers : memoryview
+        The number of each entry's patch in the full map as u64, or 0 outside patches, in ascending
+        order.
+    counts : memoryview
+        The number of cells of each entry as u64.
+    cells : memoryview
+        The cells of each entry in the other maps as i32.
+    """
+
+    maps: int
+    numbers: memoryview
+    counts: memoryview
+    cells: memoryview
+
+
 Frame = Union[TableFrame, GridFrame, PatchesFrame, NumbersFrame, BorderFrame]
-AnyFrame = Union[Frame, Statement, JoinFrame, JoinedPatchesFrame]
+AnyFrame = Union[Frame, Statement, JoinFrame, JoinedPatchesFrame, PatchSumsFrame]
 
 
 class Done(NamedTuple):
@@ -427,6 +451,11 @@ class _Response:
     def joined_patches(self) -> JoinedPatchesFrame:
         return JoinedPatchesFrame(self.cells((8 + PATCH_BYTES) * self.count(), "B"))
 
+    def patch_sums(self) -> PatchSumsFrame:
+        entries, maps = self.numbers(2)
+        numbers, counts = self.cells(entries, "Q"), self.cells(entries, "Q")
+        return PatchSumsFrame(maps, numbers, counts, self.cells(entries * (maps - 1), "i"))
+
     def done(self) -> Done:
         """Read the program's final status and error from the end of the response."""
         status, source, map, line, column = self.numbers(5)
@@ -452,6 +481,7 @@ class _Response:
             b"PLAN": self.statement,
             b"JOIN": self.join,
             b"PATS": self.joined_patches,
+            b"PSUM": self.patch_sums,
         }
         if self.take(8) != b"RCELLA1\n":
             raise _NotUnderstood

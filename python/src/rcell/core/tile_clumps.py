@@ -30,6 +30,7 @@ __all__ = [
     "join_patches",
     "open_clumps",
     "renumber",
+    "sum_patch_tables",
     "wide",
 ]
 
@@ -146,9 +147,6 @@ def join_patches(joined: Joined, patches: Sequence[tuple[Integers, Integers]]) -
     By the law `joined_parts_are_full_map_patches`, these are patches of the full map if all open
     clumps with their numbers are given.
 
-    By the law `joined_parts_are_full_map_patches`, these are patches of the full map if all open
-    clumps with their numbers are given.
-
     Parameters
     ----------
     joined : Joined
@@ -176,6 +174,51 @@ def join_patches(joined: Joined, patches: Sequence[tuple[Integers, Integers]]) -
             path, joined.runs.reshape(-1).data, rows.size, sent, watch=host().watch
         )
     return np.frombuffer(found.rows, _JOINED_PATCH)
+
+
+def sum_patch_tables(joined: Joined, tables: Sequence[tuple[int, Integers]]) -> Integers:
+    """Add up tables of tiles by the numbers of their clumps in the full map.
+
+    By the law `patch_tables_add_up`, the sum of the tables of all tiles is the table of the full
+    map.
+
+    Parameters
+    ----------
+    joined : Joined
+    tables : sequence of pairs of an int and an ndarray
+        Tiles, counted from 0, and their tables. A row of a table has the number of a clump in the
+        tile, categories of other maps, and a number of cells.
+
+    Returns
+    -------
+    ndarray of int64
+        The rows of the sum, by clump. Each row has the number of a clump in the full map,
+        categories of the other maps with `NULL` for null, and a number of cells. Cells outside
+        clumps come first, with the number `NULL`.
+
+    Raises
+    ------
+    OutOfMemory, Killed, MissingProgram, WrongProgram
+    """
+    maps = tables[0][1].shape[1] - 1
+    sent = [
+        (
+            tile + 1,
+            np.ascontiguousarray(table[:, -1], np.int64).data,
+            np.ascontiguousarray(table[:, :-1], np.int32).reshape(-1).data,
+        )
+        for tile, table in tables
+    ]
+    with _joining("list") as path:
+        found = protocol.sum_patch_tables(
+            path, joined.runs.reshape(-1).data, maps, sent, watch=host().watch
+        )
+    rows = np.empty((len(found.numbers), maps + 1), np.int64)
+    rows[:, 0] = np.frombuffer(found.numbers, np.int64)
+    rows[rows[:, 0] == 0, 0] = NULL
+    rows[:, 1:-1] = np.frombuffer(found.cells, np.int32).reshape(len(rows), maps - 1)
+    rows[:, -1] = np.frombuffer(found.counts, np.int64)
+    return rows
 
 
 @contextmanager

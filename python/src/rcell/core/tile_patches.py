@@ -8,8 +8,7 @@ from typing import Any, Optional
 import numpy as np
 
 from .arrays import NDArray
-from .tile_clumps import Joined, join_patches
-from .tile_tables import summed
+from .tile_clumps import Joined, join_patches, sum_patch_tables
 from .tiling import in_threads
 
 __all__ = ["PatchSum"]
@@ -65,14 +64,21 @@ class PatchSum:
             whole = whole[whole["measures"]["cells"] >= self._fewest]
             numbers.append(whole["number"])
             parts.append(whole["measures"])
-            for tile, tables in self._tables.items():
-                for table in tables:
-                    table[:, 0] = numbers_of[tile][table[:, 0]]
-        self.tables = [summed(tables) for tables in zip(*self._tables.values())]
+        self.tables = self._joined_tables(joined)
         self.numbers, indices = _merged(numbers)
         for name in parts[0].dtype.names or ():
             self.counts[name] = np.empty(self.numbers.size, np.int64)
         in_threads(self._fill, indices, parts)
+
+    def _joined_tables(self, joined: Optional[Joined]) -> list[Integers]:
+        """Return the tables of the full map, whose first column is the number of a patch."""
+        if joined is None:
+            [tables] = self._tables.values()
+            return tables
+        return [
+            sum_patch_tables(joined, list(zip(self._tables, tables)))
+            for tables in zip(*self._tables.values())
+        ]
 
     def _fill(self, indices: Integers, rows: Integers) -> None:
         """Store the measures of patches at the given indices of the arrays in `counts`."""

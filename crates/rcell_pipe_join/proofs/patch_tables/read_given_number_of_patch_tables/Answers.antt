@@ -11,8 +11,8 @@ pub returns-in-Err-clause-reads : goal.returns-in-Err-clause-reads
 returns-in-Err-clause-reads g c =
     let so_far = (patch_tables_as_values c.loop-i.tables.items) in
     let step = (patch_tables_with_next_table_reading c.args.numbering.now c.args.width) in (
-      FailsWithErrorPosition-of c.in-Err.stop c.args.feed.now c.loop-i.feed c.read_next_patch_table.new.feed (step so_far)
-          (reading_repeated_n_times step [] c.args.count) (λ w is. (c.loop-i.invariant.0 w is).0)
+      FailsWithErrorPosition-of c.in-Err.stop c.args.feed.now c.loop-i.feed c.read_next_patch_table.new.feed
+          (step so_far) (reading_repeated_n_times step [] c.args.count) (λ w is. (c.loop-i.invariant.0 w is).0)
           (λ w is error one. steps-end step so_far c.args.count c.loop-i.i (left w c.loop-i.feed) error _
           (omega arith) one (c.loop-i.invariant.0 w is).1)
           c.in-Err.ensures.reads.0,
@@ -25,7 +25,8 @@ loop-i-preserved g c = (
       let one = c.in-Ok.ensures.reads.0 w is in
       let before = c.loop-i.invariant.0 w one.0 in (
         before.0,
-        steps-on (patch_tables_with_next_table_reading c.args.numbering.now c.args.width) (patch_tables_as_values c.loop-i.tables.items)
+        steps-on (patch_tables_with_next_table_reading c.args.numbering.now c.args.width)
+            (patch_tables_as_values c.loop-i.tables.items)
             (patch_tables_as_values c.read_next_patch_table.new.tables.items) c.args.count c.loop-i.i
             (left w c.loop-i.feed) (left w c.read_next_patch_table.new.feed) _ (omega arith) one.1 before.1,
       ),

@@ -12,9 +12,10 @@ abbrev pub invariant-loop-i : goal.invariant-loop-i
 invariant-loop-i g l =
     ((c : ComingBytes) → request_reader_may_hold_bytes c l.feed ≡ true
     → (request_reader_may_hold_bytes c l.fn.feed ≡ true)
-    × (reading_repeated_n_times (patch_tables_with_next_table_reading l.numbering l.width) (patch_tables_as_values l.tables.items)
-    (l.count - l.i) (left c l.feed)
-    ≡ reading_repeated_n_times (patch_tables_with_next_table_reading l.numbering l.width) [] l.count (left c l.fn.feed)))
+    × (reading_repeated_n_times (patch_tables_with_next_table_reading l.numbering l.width)
+    (patch_tables_as_values l.tables.items) (l.count - l.i) (left c l.feed)
+    ≡ reading_repeated_n_times (patch_tables_with_next_table_reading l.numbering l.width) [] l.count
+    (left c l.fn.feed)))
     × (length (patch_tables_as_values l.tables.items) ≡ l.i)
     × (All NoCountOfTileTableIsZero (patch_tables_as_values l.tables.items))
     × (l.cells ≡ sum_by cell_count_of_tile_table (patch_tables_as_values l.tables.items))
