@@ -319,7 +319,11 @@ class Answers(Asked):
 
     def test_a_join_of_patch_tables(self) -> None:
         runs = memoryview(array("Q", [1, 1, 2, 1]))
-        numbers, counts, cells = array("Q", [0, 2**40]), array("Q", [3, 2**33]), array("i", [-5, 7])
+        numbers, counts, cells = (
+            array("Q", [0, 2**40]),
+            array("Q", [3, 2**33]),
+            array("i", [-5, 7]),
+        )
         sums = struct.pack("<2Q", 2, 2) + b"".join(it.tobytes() for it in (numbers, counts, cells))
         answer = MAGIC + b"PSUM" + sums + DONE
         table = 1, memoryview(array("Q", [3])), memoryview(array("i", [2, -5]))

@@ -274,9 +274,7 @@ class Flow:
     ) -> tuple[Entry, ...]:
         """Return the table of a tile. The columns of a question have the full map's numbers."""
         columns = zip(*map(cells_of, part["cells"]))
-        lines = zip(
-            *(self.renumbered(column, tile, it) for column, it in zip(columns, questions))
-        )
+        lines = zip(*(self.renumbered(column, tile, it) for column, it in zip(columns, questions)))
         counts = part["counts"] if part["counts"] is not None else [1] * len(part["cells"])
         return tuple(zip(lines, counts))
 
@@ -289,9 +287,7 @@ class Flow:
             raise Wrong(f"{sums} by the numbers of patches, and {found} with these numbers")
         return found
 
-    def patch_sums(
-        self, parts: Sequence[Frame], questions: Sequence[Optional[int]]
-    ) -> list[Entry]:
+    def patch_sums(self, parts: Sequence[Frame], questions: Sequence[Optional[int]]) -> list[Entry]:
         """Return the sums of tables whose first column has the tile's patch numbers."""
         runs, others = self.runs[questions[0] or 0], (None, *questions[1:])
         tables = [(tile, self.table(part, tile, others)) for tile, part in enumerate(parts, 1)]

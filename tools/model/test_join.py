@@ -696,7 +696,9 @@ def random_patch_tables(chance: random.Random, cut: Cut) -> PatchTables:
         counts: dict[Line, int] = {}
         for patch in itertools.chain(*patch_numbers(part(cut.cells, *place), cut.connectivity)):
             line = patch, *(chance.choice(others) for _ in range(width - 1))
-            counts[line] = counts.get(line, 0) + chance.choice([1, 1, 9, chance.randint(1, 2**52)])
+            counts[line] = counts.get(line, 0) + chance.choice(
+                [1, 1, 9, chance.randint(1, 2**52)]
+            )
         tables.append((tile, tuple(chance.sample(list(counts.items()), len(counts)))))
     chance.shuffle(tables)
     return PatchTables(tuple(cut.numbering()[1]), width, tuple(tables))

@@ -20,12 +20,13 @@ use Rattle.cell_stats_combinations.specs.Listed.{CombinationsAreAscending, Combi
 use Rattle.cell_stats_combinations.specs.Listed.{ListsHaveSameCounts}
 use Rattle.cell_stats_combinations.proofs.OrderLemmas.{is_equal}
 use Rattle.cell_join_numbers.specs.declared.stretch.ConsecutiveClumps.{ConsecutiveClumps}
-use Rattle.rcell_pipe_join.specs.PatchTables.{AreListedSumsOfPatchTables, AreSumsOfPatchTables, TileTable}
+use Rattle.rcell_pipe_join.specs.PatchTables.{TileTable}
 use Rattle.rcell_pipe_join.specs.PatchTables.{cell_count_of_tile_table, entries_of_number, entries_with_number}
 use Rattle.rcell_pipe_join.specs.PatchTables.{full_map_number_of_cell, number_cmp, others_of_number}
 use Rattle.rcell_pipe_join.specs.TableEntries.{AreSumsOfTables, cell_count_of_table}
 use Rattle.rcell_pipe_join.specs.parts.TableCounts.{AreListedSumsOfGroups, AreSumsOfGroup, CanBeSummed, Group}
-use Rattle.rcell_pipe_join.specs.parts.TableCounts.{NoCountOfTileTableIsZero, entries_in_groups}
+use Rattle.rcell_pipe_join.specs.parts.TableCounts.{AreListedSumsOfPatchTables, NoCountOfTileTableIsZero}
+use Rattle.rcell_pipe_join.specs.parts.TableCounts.{entries_in_groups}
 use Rattle.rcell_pipe_join.proofs.SumLemmas.{joined, joined-fits, joined-some, sums-are}
 
 -- ---- numbers
@@ -159,7 +160,7 @@ number-can-be-summed runs tables n some few = (
 abbrev NumberSums : Type 0
 NumberSums = Option ℕ × CombinationCounts
 
--- the entries of the next group are those of its number
+-- the next group has the entries of its number
 none-before : (before : List Group) (group : Group) (rest : List Group)
     → IsStrictlySortedBy number_cmp (keys_of (before ++ group ∷ rest))
     → lookup (eq_by_cmp number_cmp group.0) (before ++ group ∷ rest) ≡ Some group.1

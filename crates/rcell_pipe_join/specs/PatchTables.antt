@@ -132,11 +132,3 @@ numbers_of_entries sums = flat_map (λ s. map (λ entry. s.0) s.1) sums
 -- the entries of all numbers, one number after another
 abbrev pub entries_of_numbers : List (Option ℕ × CombinationCounts) → CombinationCounts
 entries_of_numbers sums = flat_map (λ s. s.1) sums
-
--- these numbers and entries are the sums, entry by entry
-pub record AreListedSumsOfPatchTables (runs : List ConsecutiveClumps) (tables : List TileTable)
-    (numbers : List (Option ℕ)) (entries : CombinationCounts) : Type 0 where
-  pub sums : List (Option ℕ × CombinationCounts)
-  pub are : AreSumsOfPatchTables runs tables sums
-  pub numbers_are : numbers ≡ numbers_of_entries sums
-  pub entries_are : entries ≡ entries_of_numbers sums

@@ -2,8 +2,8 @@
 
 ghost use Rattle.std.specs.Prelude.{◌≡◌, ◌++◌, ◌∷◌, [], ◌<◌, ◌^◌, Option, ℕ, All, IfOk, OnOk, flat_map, if◌then◌else◌, map, sum_by};
 ghost use Rattle.std.specs.Ordering.{eq_by_cmp};
-ghost use Rattle.rcell_pipe_join.specs.PatchTables.{AreListedSumsOfPatchTables, cell_count_of_tile_table, entries_of_number, number_cmp, others_of_number, patch_tables_as_values};
-ghost use Rattle.rcell_pipe_join.specs.parts.TableCounts.{AreListedSumsOfGroups, CanBeSummed, NoCountOfTileTableIsZero, entries_in_groups};
+ghost use Rattle.rcell_pipe_join.specs.PatchTables.{cell_count_of_tile_table, entries_of_number, number_cmp, others_of_number, patch_tables_as_values};
+ghost use Rattle.rcell_pipe_join.specs.parts.TableCounts.{AreListedSumsOfGroups, AreListedSumsOfPatchTables, CanBeSummed, NoCountOfTileTableIsZero, entries_in_groups};
 
 use crate::patch_tables::{PatchTable, PatchTables, full_map_number_of_cell};
 use crate::table_reading::EntriesOfTable;

@@ -9,7 +9,9 @@ use Rattle.std.specs.Ordering.{eq_by_cmp}
 use Rattle.cell_stats_combinations.specs.Combinations.{Combination}
 use Rattle.cell_stats_combinations.specs.Listed.{CombinationCounts, CombinationsAreAscending, ListsHaveSameCounts}
 use Rattle.cell_stats_combinations.specs.Listed.{ListedCountsFitInSixtyFourBits, NoEntryCountIsZero}
-use Rattle.rcell_pipe_join.specs.PatchTables.{TileTable, entries_of_numbers, number_cmp, numbers_of_entries}
+use Rattle.cell_join_numbers.specs.declared.stretch.ConsecutiveClumps.{ConsecutiveClumps}
+use Rattle.rcell_pipe_join.specs.PatchTables.{AreSumsOfPatchTables, TileTable, entries_of_numbers, number_cmp}
+use Rattle.rcell_pipe_join.specs.PatchTables.{numbers_of_entries}
 
 abbrev pub entry_counts : CombinationCounts → List ℕ
 entry_counts entries = map (λ entry. entry.1) entries
@@ -47,5 +49,13 @@ pub record AreListedSumsOfGroups (groups : List Group) (numbers : List (Option �
   pub sums : List (Option ℕ × CombinationCounts)
   pub ordered : IsStrictlySortedBy number_cmp (keys_of groups)
   pub are : AllZip AreSumsOfGroup groups sums
+  pub numbers_are : numbers ≡ numbers_of_entries sums
+  pub entries_are : entries ≡ entries_of_numbers sums
+
+-- these numbers and entries are the sums of patch tables, entry by entry
+pub record AreListedSumsOfPatchTables (runs : List ConsecutiveClumps) (tables : List TileTable)
+    (numbers : List (Option ℕ)) (entries : CombinationCounts) : Type 0 where
+  pub sums : List (Option ℕ × CombinationCounts)
+  pub are : AreSumsOfPatchTables runs tables sums
   pub numbers_are : numbers ≡ numbers_of_entries sums
   pub entries_are : entries ≡ entries_of_numbers sums
