@@ -457,60 +457,88 @@ walk full now after done (s ∷ ss) frames whole gives plain can tiles covering 
     (λ t. (t.place.tile, slice_get t.frames index)) move (λ t. refl) tiles)) (joined index))
     s.line s.command can_here (λ t. t.gives.1.1.1.1) index)
 
--- ---- the law
+-- ---- tiles with enough halo
 
-module _ (full : ShelfValue) (statements : List Statement) (frames : List OutputFrame) (tiles : List TileWithFrames)
-    (h : AreFramesOverTiles full statements frames tiles) where
-  plain-script : NoStatementIsClump statements
-  plain-script = All-weaker CanBeRun IsPlain can-be-plain statements h.can
+-- the tile is cut out of the full maps, no statement reads beyond its halo, and the statements produce its frames
+pub record AreFramesWithEnoughHalo (full : ShelfValue) (statements : List Statement) (t : TileWithFrames)
+    : Type 0 where
+  pub tile : IsShelfOfTile t.place full t.given
+  pub names : t.given.names ≡ full.names
+  pub enough : first_halo_fault t.place (length t.given.maps) statements ≡ None
+  pub frames : StatementsGiveFrames (shelves_at_place t.place t.given) statements t.frames t.after
 
-  abbrev start : (t : TileWithFrames) → AreFramesOfTile full statements t → TileBetween full full [] statements
-  start t is =
-      let count = h.named ∙ given-count t.place full t.given is.tile in
-      record {
-        place = t.place;
-        given = t.given;
-        shelves = shelves_at_place t.place t.given;
-        frames = t.frames;
-        after = t.after;
-        tile = is.tile;
-        place_is = refl;
-        names = is.names;
-        enough = subst (λ n. first_halo_fault t.place n statements ≡ None) count
-            (planned-halo t.place full.names statements (record {
-              fits = h.fits;
-              labels = All-weaker CanBeRun (λ s. command_prints_labels s.command ≡ false) prints-no-labels
-                  statements h.can;
-              clumps = no-clump-is-read (replicate (length full.names) false) statements plain-script
-                  (none-given (length full.names));
-              halo = is.halo;
-            }));
-        executed = refl;
-        gives = is.frames;
-      }
+module _ (full : ShelfValue) (statements : List Statement) where
+  abbrev start : (t : TileWithFrames) → AreFramesWithEnoughHalo full statements t
+      → TileBetween full full [] statements
+  start t is = record {
+    place = t.place;
+    given = t.given;
+    shelves = shelves_at_place t.place t.given;
+    frames = t.frames;
+    after = t.after;
+    tile = is.tile;
+    place_is = refl;
+    names = is.names;
+    enough = is.enough;
+    executed = refl;
+    gives = is.frames;
+  }
 
-  abbrev starts : (some : List TileWithFrames) → All (AreFramesOfTile full statements) some
+  abbrev starts : (some : List TileWithFrames) → All (AreFramesWithEnoughHalo full statements) some
       → List (TileBetween full full [] statements)
   starts [] each = []
   starts (t ∷ some) each =
-      start t (All-head (AreFramesOfTile full statements) t some each)
-      ∷ starts some (All-tail (AreFramesOfTile full statements) t some each)
+      start t (All-head (AreFramesWithEnoughHalo full statements) t some each)
+      ∷ starts some (All-tail (AreFramesWithEnoughHalo full statements) t some each)
 
   same-starts : {Y : Type 0} (f : TilePlaceValue → List OutputFrame → Y) (some : List TileWithFrames)
-      (each : All (AreFramesOfTile full statements) some)
+      (each : All (AreFramesWithEnoughHalo full statements) some)
       → map (λ t. f t.place t.frames) (starts some each) ≡ map (λ t. f t.place t.frames) some
   same-starts f [] each = refl
   same-starts f (t ∷ some) each =
       ap (λ l. f t.place t.frames ∷ l)
-      (same-starts f some (All-tail (AreFramesOfTile full statements) t some each))
+      (same-starts f some (All-tail (AreFramesWithEnoughHalo full statements) t some each))
+
+  pub frames-with-enough-halo-join : (frames : List OutputFrame) (after : ShelfValue) (tiles : List TileWithFrames)
+      → StatementsGiveFrames (shelves_of_full_maps full) statements frames (shelves_of_full_maps after)
+      → All (λ s. CanBeRunInTiles s.command) statements
+      → All (AreFramesWithEnoughHalo full statements) tiles
+      → RectanglesCoverMap full.region.rows full.region.cols (map (λ t. t.place.tile) tiles) → (index : ℕ)
+      → FramesJoinIntoFrame (slice_get frames index) (frames_at_index index tiles)
+  frames-with-enough-halo-join frames after tiles whole can each covering index =
+      subst (FramesJoinIntoFrame (slice_get frames index))
+      (same-starts (λ p l. (p.tile, slice_get l index)) tiles each)
+      (walk full full after [] statements frames refl whole (All-nil IsPlain) can (starts tiles each)
+      (subst (RectanglesCoverMap full.region.rows full.region.cols)
+      (sym (same-starts (λ p l. p.tile) tiles each)) covering) index)
+
+-- ---- the law
+
+module _ (full : ShelfValue) (statements : List Statement) (frames : List OutputFrame) (tiles : List TileWithFrames)
+    (h : AreFramesOverTiles full statements frames tiles) where
+  -- the planned halo is enough
+  enough : (t : TileWithFrames) → AreFramesOfTile full statements t → AreFramesWithEnoughHalo full statements t
+  enough t is = record {
+    tile = is.tile;
+    names = is.names;
+    enough = subst (λ n. first_halo_fault t.place n statements ≡ None)
+        (h.named ∙ given-count t.place full t.given is.tile)
+        (planned-halo t.place full.names statements (record {
+          fits = h.fits;
+          labels = All-weaker CanBeRun (λ s. command_prints_labels s.command ≡ false) prints-no-labels
+              statements h.can;
+          clumps = no-clump-is-read (replicate (length full.names) false) statements
+              (All-weaker CanBeRun IsPlain can-be-plain statements h.can) (none-given (length full.names));
+          halo = is.halo;
+        }));
+    frames = is.frames;
+  }
 
   join-all : (index : ℕ) → FramesJoinIntoFrame (slice_get frames index) (frames_at_index index tiles)
-  join-all index =
-      subst (FramesJoinIntoFrame (slice_get frames index))
-      (same-starts (λ p l. (p.tile, slice_get l index)) tiles h.each)
-      (walk full full h.after [] statements frames refl h.whole (All-nil IsPlain) h.can (starts tiles h.each)
-      (subst (RectanglesCoverMap full.region.rows full.region.cols)
-      (sym (same-starts (λ p l. p.tile) tiles h.each)) h.covering) index)
+  join-all =
+      frames-with-enough-halo-join full statements frames h.after tiles h.whole h.can
+      (All-weaker (AreFramesOfTile full statements) (AreFramesWithEnoughHalo full statements) enough tiles h.each)
+      h.covering
 
 pub tile-frames-join : TileFramesJoinIntoFullFrames
 tile-frames-join full statements frames tiles h index = join-all full statements frames tiles h index

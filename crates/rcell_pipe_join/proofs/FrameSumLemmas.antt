@@ -5,11 +5,13 @@ use Rattle.std.specs.Prelude.{slice_get}
 use Rattle.std.proofs.lemmas.List.Sums.{sum_by-cons}
 use Rattle.cell_stats_combinations.specs.Combinations.{Combination}
 use Rattle.cell_stats_combinations.specs.Listed.{CombinationCounts, listed_count_of_combination}
+use Rattle.cell_stats.specs.CategoryTables.{CombinationsWithCounts}
 use Rattle.cell_join_numbers.proofs.ListingLemmas.{sums-merge}
 use Rattle.rcell_pipe_frames.specs.Frames.{OutputFrame}
 use Rattle.rcell_pipe_frames.specs.TileFrameLaw.{TileWithFrames, entries_of_frame, TablesMergeIntoFrame}
-use Rattle.rcell_pipe_frames.specs.TileFrameLaw.{frames_at_index, TileFramesJoinIntoFullFrames}
+use Rattle.rcell_pipe_frames.specs.TileFrameLaw.{TablesMergeIntoTable, frames_at_index, TileFramesJoinIntoFullFrames}
 use Rattle.rcell_pipe_join.specs.FrameSumLaw.{AreEntriesOfTableFrame, TableFramesAddUp}
+use Rattle.rcell_pipe_join.specs.TableEntries.{AreSumsOfTables}
 
 module _ (index : ℕ) where
   abbrev frames_of_tiles : List TileWithFrames → List (Option OutputFrame)
@@ -32,12 +34,18 @@ module _ (index : ℕ) where
         listed-frames k tiles tables all.1,
       )
 
+  pub merged-frames-add-up : (whole : CombinationsWithCounts) (tiles : List TileWithFrames)
+      → TablesMergeIntoTable whole (map entries_of_frame (frames_of_tiles tiles)) → (tables : List CombinationCounts)
+      → AllZip (AreEntriesOfTableFrame index) tiles tables → (sums : CombinationCounts) → AreSumsOfTables tables sums
+      → sums ≡ whole
+  merged-frames-add-up whole tiles merge tables each sums are =
+      (merge.merge sums).0
+      (sums-merge (map entries_of_frame (frames_of_tiles tiles)) merge.listed sums
+      (record { ascending = are.ascending; no_zero = are.no_zero })
+      (λ k. are.counts k ∙ listed-frames k tiles tables each))
+
 pub frames-add-up : TileFramesJoinIntoFullFrames → TableFramesAddUp
 frames-add-up join full statements frames tiles are index whole is tables each width response frame =
-    let merge = subst (λ (o : Option OutputFrame). TablesMergeIntoFrame o (frames_of_tiles index tiles)) is
-    (join full statements frames tiles are index).tables in
-    let sum = frame.are in
-    (merge.merge frame.sums).0
-    (sums-merge (map entries_of_frame (frames_of_tiles index tiles)) merge.listed frame.sums
-    (record { ascending = sum.ascending; no_zero = sum.no_zero })
-    (λ k. sum.counts k ∙ listed-frames index k tiles tables each))
+    merged-frames-add-up index whole.pairs tiles
+    (subst (λ (o : Option OutputFrame). TablesMergeIntoFrame o (frames_of_tiles index tiles)) is
+    (join full statements frames tiles are index).tables) tables each frame.sums frame.are

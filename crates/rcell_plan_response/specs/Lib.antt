@@ -6,4 +6,5 @@ pub mod RuleLabels
 pub mod PlanFrames
 pub mod PlanEnds
 pub mod Responses
+pub mod TileResponseLaw
 pub mod parts

@@ -5,9 +5,11 @@
 //! - `plan_request`: `read_plan_request` reads names of maps and a script, or reports the first error
 //! - `plan_response`: `plan_request` writes the plan of each statement, as computed by `rcell_plan`
 //! - specs/Responses.antt: the response to every request
+//! - `law`: `tile_responses_join_into_full_response`: the responses for tiles, joined, are the response for the full maps
 //! - private: `plan_frames`, `plan_options` and `rule_labels` write plans as bytes
 #![tactic(auto)]
 
+pub mod law;
 mod plan_frames;
 mod plan_options;
 pub mod plan_request;
