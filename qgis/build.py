@@ -1,4 +1,4 @@
-"""Builds the plugin for QGIS, with the static programs in it: dist/rcell-qgis-VERSION.zip, for Install from ZIP.
+"""Builds the plugin for QGIS, with the static program in it: dist/rcell-qgis-VERSION.zip, for Install from ZIP.
 
     python3 qgis/build.py [FOLDER]
 
@@ -22,7 +22,7 @@ REPOSITORY = HERE.parent
 ENGINE = re.compile(
     r"python/src/rcell/(core/[a-z_]+\.(?:py|json)|readers/(?:__init__|gdal|handles|ogr|osr)\.py)"
 )
-PROGRAMS = ("rcell", "rcell-pipe")
+PROGRAM = REPOSITORY / "bin/rcell-pipe-static"
 KINDS = (".json", ".model3", ".py", ".svg", ".txt")
 
 
@@ -55,7 +55,7 @@ def page() -> bytes:
     return f'{head}<body><pre style="max-width: 60em; white-space: pre-wrap">{html.escape(text)}</pre></body></html>\n'.encode()
 
 
-def files(programs: dict[str, pathlib.Path]) -> dict[str, tuple[bytes, int]]:
+def files() -> dict[str, tuple[bytes, int]]:
     """The bytes and the mode of each file, by its name in the zip."""
     version = (REPOSITORY / "VERSION").read_text(encoding="utf-8").strip()
     found = {}
@@ -72,24 +72,22 @@ def files(programs: dict[str, pathlib.Path]) -> dict[str, tuple[bytes, int]]:
             found[f"rcell/engine/{shared[1]}"] = (REPOSITORY / name).read_bytes(), 0o644
     found |= {name: (content, 0o644) for name, content in licences().items()}
     found["rcell/help/qgis.html"] = page(), 0o644
-    found |= {f"rcell/bin/{name}": (path.read_bytes(), 0o755) for name, path in programs.items()}
+    found["rcell/bin/rcell-pipe"] = PROGRAM.read_bytes(), 0o755
     return found
 
 
 def main() -> int:
     folder = pathlib.Path(sys.argv[1]) if len(sys.argv) > 1 else REPOSITORY / "dist"
-    programs = {name: REPOSITORY / f"bin/{name}-static" for name in PROGRAMS}
-    for program in programs.values():
-        if not program.is_file():
-            print(f"rcell: {program} is missing: run make static first", file=sys.stderr)
-            return 1
+    if not PROGRAM.is_file():
+        print(f"rcell: {PROGRAM} is missing: run make static first", file=sys.stderr)
+        return 1
     folder.mkdir(parents=True, exist_ok=True)
     target = (
         folder / f"rcell-qgis-{(REPOSITORY / 'VERSION').read_text(encoding='utf-8').strip()}.zip"
     )
     part = target.with_suffix(".part")
     with zipfile.ZipFile(part, "w", zipfile.ZIP_DEFLATED, compresslevel=9) as archive:
-        for name, (content, mode) in sorted(files(programs).items()):
+        for name, (content, mode) in sorted(files().items()):
             entry = zipfile.ZipInfo(name, moment())
             entry.create_system = 3
             entry.external_attr = (0o100000 | mode) << 16

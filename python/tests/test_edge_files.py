@@ -355,9 +355,9 @@ def test_programs_are_not_found_through_relative_folders(room: pathlib.Path) -> 
     )
     for path in (".:/nowhere", ":/nowhere", "/nowhere:"):
         assert shell(room, f"PATH={path} {sys.executable} -c {shlex.quote(code)}").stdout == "[]\n"
-    ran = shell(room, TABLE, RCELL="rcell", RCELL_PIPE=programs.find_pipe())
+    ran = shell(room, TABLE, RCELL="rcell", RCELL_PIPE="rcell")
     assert ran.stderr == (
-        f"rcell-gis: {stranger} is not a supported version of the program rcell\n"
+        f"rcell-gis: {stranger} is not a supported version of the program rcell-pipe\n"
     )
 
 

@@ -9,7 +9,9 @@ import sys
 import tempfile
 import threading
 import unittest
+import warnings
 from typing import Any
+from unittest import mock
 
 import numpy as np
 
@@ -17,6 +19,8 @@ import rcell
 from rcell.core.libraries import has
 from rcell.core.programs import find_pipe, find_program
 from rcell.core.runs import execute, planned
+from rcell.core.text_grids import TextMap, open_path
+from rcell.core.tiling import working
 from rcell.core import protocol
 from tests.rows import rows_of
 
@@ -653,33 +657,19 @@ class Programs(unittest.TestCase):
     def test_rcell_pipe_needs_no_rcell(self) -> None:
         with tempfile.TemporaryDirectory() as folder:
             os.symlink(find_pipe(), f"{folder}/rcell-pipe")
+            with open(f"{folder}/grid", "wb") as file:
+                file.write(text_of(np.ma.MaskedArray(LAND)))
             code = (
-                "import rcell; print(rcell.run('r.stats -c input=a', a=[[1, "
-                "1]])[0].values.tolist())"
+                "import sys, rcell; rcell.run('r.stats -c input=a', a=[[1, 1]]); "
+                "print(rcell.run('r.stats -c input=a', a=sys.argv[1])[0].values.tolist())"
             )
             ran = subprocess.run(
-                [sys.executable, "-c", code],
+                [sys.executable, "-c", code, f"{folder}/grid"],
                 env={"PATH": folder, "PYTHONPATH": os.pathsep.join(sys.path)},
                 capture_output=True,
                 text=True,
             )
-        self.assertEqual((ran.stdout, ran.stderr), ("[[1, 2]]\n", ""))
-
-    def test_a_text_grid_is_read_where_proc_is_not_mounted(self) -> None:
-        good = f'case "$1 $2" in */dev/* | */proc/*) exit 9 ;; esac\nexec {find_program()} "$@"'
-        with tempfile.TemporaryDirectory() as folder:
-            path = f"{folder}/grid"
-            with open(path, "w") as file:
-                file.write("north: 1\nsouth: 0\neast: 2\nwest: 0\nrows: 1\ncols: 2\n1 *\n")
-            before = os.environ.get("RCELL")
-            os.environ["RCELL"] = self.program(good)
-            try:
-                os.environ["RCELL_PIPE"] = find_pipe(f"{os.path.dirname(before or '')}/rcell-pipe")
-                found = rows_of(rcell.table("r.stats -c input=a", a=path))
-            finally:
-                os.environ.pop("RCELL_PIPE")
-                os.environ.pop("RCELL") if before is None else os.environ.update(RCELL=before)
-        self.assertEqual(found, [(1, 1), (None, 1)])
+        self.assertEqual((ran.stdout, ran.stderr), ("[[0, 1], [1, 5], [2, 4], [3, 2]]\n", ""))
 
     def test_nowhere(self) -> None:
         code = (
@@ -706,27 +696,16 @@ class Programs(unittest.TestCase):
         )
 
     def test_wrong(self) -> None:
-        head = "printf 'north: 1\\nsouth: 0\\neast: 3\\nwest: 0\\nrows: 1\\ncols: 3\\n'"
-        rows = (
-            "",
-            "echo '7 *'",
-            "printf '7 * 12'",
-            "echo '7 * 12 1'",
-            "echo '7 * 13'",
-            "yes '7 * 12'",
-            "echo '7 * 12'; exit 1",
-        )
         for body in (
             "exit 0",
             "echo 7 1 1",
             "exit 3",
             "yes",
             "yes x | head -c 3000000 >&2; exit 1",
-            *(f"{head}\n{row}" for row in rows),
         ):
             with self.subTest(body=body), self.assertRaises(rcell.WrongProgram):
                 find_program(self.program(body))
-            if "yes '" not in body and body != "yes":
+            if body != "yes":
                 with self.assertRaises(rcell.WrongProgram):
                     find_pipe(self.program(body))
 
@@ -809,6 +788,83 @@ class Texts(unittest.TestCase):
         )
         self.assertEqual(rows_of(rcell.patches(path))[0][:3], (1, 27, 1))
 
+    def test_ways_to_write_a_grid(self) -> None:
+        head = "north: 1\nsouth: 0\neast: 3\nwest: 0\nrows: 1\ncols: 3\n"
+        for text, wanted in (
+            (head + "7 * -300\n", [7, None, -300]),
+            (head + "7\n*\n254", [7, None, 254]),
+            (head + "7 * 255", [7, None, 255]),
+            (head + "type: int\nnull: no\n7 no +012", [7, None, 12]),
+            ("\n \n" + head.replace(": ", ":") + "\t7  * \r\n 12\n\n", [7, None, 12]),
+            ((head + "7 * 12\n").replace("\n", "\r\n"), [7, None, 12]),
+            (
+                "multiplier: -2\n" + head.replace("cols: ", "cols:\t+00") + "7 * 12",
+                [-14, None, -24],
+            ),
+            (head + "2147483647 * -2147483647", [2**31 - 1, None, 1 - 2**31]),
+        ):
+            with self.subTest(text=text):
+                path = self.file(text.encode())
+                self.assertEqual(rcell.grid("", "g", g=path).array.tolist(), [wanted])
+                self.assertEqual(
+                    rows_of(rcell.table("r.stats -1 input=g", g=path)), [(each,) for each in wanted]
+                )
+
+    def test_labels_and_the_region(self) -> None:
+        text = b"north: 10.00000001\nsouth: -.5\neast: +4.\nwest: 0003\nrows: 2\ncols: 1\n1\n2"
+        path = self.file(text)
+        self.assertEqual(
+            rcell.grid("", "g", g=path).region.edges, ("10.00000001", "-0.5", "4", "3")
+        )
+        table = rcell.composition(path, labels={1: "wood", 2: "moor"}, area=None)
+        self.assertEqual(table["label"].tolist(), ["wood", "moor"])
+
+    def test_a_scale_applies_to_a_grid(self) -> None:
+        grid = text_of(np.ma.MaskedArray(LAND))
+        for values in (LAND, LAND * np.int32(300)):
+            path = self.file(text_of(np.ma.MaskedArray(values)))
+            with warnings.catch_warnings():
+                warnings.simplefilter("ignore")  # about rounding
+                found = rcell.zonal(path, self.file(grid), scale=10)
+                wanted = rcell.zonal(values.astype(float), LAND, scale=10)
+            self.assertTrue(found.equals(wanted))
+
+    def test_many_rows_and_tiles(self) -> None:
+        cells = np.arange(65_535 * 3).reshape(-1, 3) % 300
+        path = self.file(text_of(np.ma.MaskedArray(cells)))
+        self.assertEqual(rcell.grid("", "g", g=path).array.tolist(), cells.tolist())
+        with working(size=(1_000, 2)):
+            patches = len(rcell.patches(path))
+        self.assertEqual(patches, len(rcell.patches(cells)))
+
+    def test_a_file_that_changes(self) -> None:
+        text = text_of(np.ma.MaskedArray(LAND))
+        path = self.file(text)
+        source = open_path("g", path)
+        assert isinstance(source, TextMap)
+        with source.file.maps() as maps, open(path, "r+b") as file:
+            [grid] = maps.maps
+            file.truncate(50)
+            with self.assertRaises(rcell.ReadFailed) as caught:
+                list(grid.pieces(3, 4))
+        size = f"{path} was shortened from {len(text)} to 50 bytes while it was read"
+        self.assertEqual(
+            (caught.exception.source, caught.exception.status, caught.exception.text),
+            ("g", 4, f"read failed: {size}"),
+        )
+        with self.assertRaises(rcell.Refused) as refused:
+            list(source.blocks())
+        self.assertEqual((refused.exception.line, refused.exception.text), (7, "too few cells"))
+        with open(path, "wb") as file:
+            file.write(text.replace(b"north: 3", b"north: 4"))
+        with self.assertRaises(rcell.Refused) as refused:
+            list(source.blocks())
+        self.assertEqual((refused.exception.source, refused.exception.text), ("g", "other region"))
+        os.unlink(path)
+        with self.assertRaises(rcell.ReadFailed) as caught:
+            list(source.blocks())
+        self.assertEqual(caught.exception.text, f"cannot open: {path}: No such file or directory")
+
     def test_with_an_array_beside_it(self) -> None:
         grid = rcell.Raster(LAND)
         self.assertEqual(
@@ -823,7 +879,7 @@ class Texts(unittest.TestCase):
 
         def write() -> None:
             for start, end in (
-                (0, 10),
+                *((at, at + 1) for at in range(10)),
                 *((at, at + 50_000) for at in range(10, len(text), 50_000)),
             ):
                 os.write(writer, text[start:end])
@@ -838,28 +894,56 @@ class Texts(unittest.TestCase):
         thread.join()
         os.close(reader)
 
-    def test_bad_headers_are_refused_by_the_program(self) -> None:
-        for text, told in (
-            (b"north: 3\nsouth: x\n1 2", "bad number"),
-            (b"north: 3\nNORTH: 3\n1", "bad header line"),
-            (b"north: 1\n", "missing key"),
-            (b"rows: 70000\ncols: 1\nnorth: 1\nsouth: 0\neast: 1\nwest: 0\n1", "bad region"),
-        ):
-            with self.subTest(text=text), self.assertRaises(rcell.Refused) as caught:
-                rcell.run("", g=self.file(text))
-            self.assertIn(told, caught.exception.text)
-            self.assertEqual(caught.exception.source, "g")
-
-    def test_cells_are_refused_with_their_line(self) -> None:
+    def refusal(self, path: str) -> rcell.Refused:
         with self.assertRaises(rcell.Refused) as caught:
-            rcell.run(
-                "r.stats -c input=g",
-                g=self.file(
-                    text_of(np.ma.MaskedArray(LAND)).replace(b"3", b"x", 1).replace(b"x", b"3", 1)
-                    + b"y"
-                ),
-            )
-        self.assertEqual((caught.exception.source, caught.exception.line > 7), ("g", True))
+            rcell.run("", g=path)
+        self.assertEqual((caught.exception.source, caught.exception.status), ("g", 1))
+        return caught.exception
+
+    def test_errors_have_a_line(self) -> None:
+        head = "rows: 1\ncols: 2\nnorth: 1\nsouth: 0\neast: 2\nwest: 0\n"
+        for text, line, told in (
+            ("north: 3\nsouth: x\n1 2", 2, "bad number"),
+            ("north: 3\nNORTH: 3\n1", 2, "bad header line"),
+            ("north: 3\nnorth: 3\n1", 2, "key given twice"),
+            ("north: 1\n", 2, "missing key"),
+            (head + "type: float\n1 2", 7, "type not supported"),
+            (head.replace("rows: 1", "rows: 70000") + "1", 7, "bad region"),
+            (head.replace("north: 1", "north: 0.0") + "1", 7, "bad region"),
+            (head.replace("north: 1", "north: 1e5") + "1", 3, "bad number"),
+            (head.replace("north: 1", "north: 1.000000001") + "1", 3, "bad number"),
+            (head + "1 x", 7, "bad cell"),
+            (head + "1\n\n2147483648", 9, "cell out of range"),
+            (head + "multiplier: 2\n1 1073741824", 8, "cell out of range"),
+            (head + "1\n", 8, "too few cells"),
+            (head + "1 2\n3", 8, "too many cells"),
+            (head + "1 " + "2" * 65, 7, "token too long"),
+        ):
+            with self.subTest(text=text):
+                path = self.file(text.encode())
+                found = self.refusal(path)
+                self.assertEqual((found.line, found.text), (line, told))
+                status, _, message = by_files("", g=text.encode())
+                self.assertEqual((status, message), (1, f"rcell: g:{line}: {told}\n"))
+
+    def test_no_memory_for_a_grid(self) -> None:
+        path = self.file(text_of(np.ma.MaskedArray(np.full((3_000, 3_000), 7))))
+        program = f"{os.path.dirname(path)}/rcell-pipe"
+        with open(program, "w") as file:
+            file.write(f"#!/bin/sh\nulimit -v 30000\nexec {find_pipe()}\n")
+        os.chmod(program, 0o755)
+        with mock.patch.dict(os.environ, RCELL_PIPE=program):
+            with self.assertRaises(rcell.OutOfMemory) as caught:
+                rcell.run("r.stats -c input=g", g=path)
+        self.assertEqual(str(caught.exception), "g: no memory")
+
+    def test_the_error_of_a_pipe(self) -> None:
+        reader, writer = os.pipe()
+        os.write(writer, b"north: 3\nsouth: x\n1 2")
+        os.close(writer)
+        found = self.refusal(f"/dev/fd/{reader}")
+        os.close(reader)
+        self.assertEqual((found.line, found.text), (2, "bad number"))
 
     def test_no_such_file(self) -> None:
         with self.assertRaises(rcell.ReadFailed) as caught:

@@ -40,10 +40,10 @@ def room(tmp_path: pathlib.Path, monkeypatch: pytest.MonkeyPatch) -> pathlib.Pat
     return tmp_path
 
 
-def bare(*words: str) -> subprocess.CompletedProcess[str]:
+def bare(*words: str, **more: Any) -> subprocess.CompletedProcess[str]:
     environment = {**os.environ, "RCELL": find_program()}
     command = ["/usr/bin/python3", "-c", BARE, *words]
-    return subprocess.run(command, capture_output=True, text=True, env=environment)
+    return subprocess.run(command, capture_output=True, text=True, env=environment, **more)
 
 
 def run(*words: str, **more: Any) -> subprocess.CompletedProcess[str]:
@@ -131,6 +131,24 @@ def test_the_edges_of_esri_grids_are_exact(room: pathlib.Path) -> None:
         "some cells are -9999, which the header does not declare as nodata"
         in bare("convert", "m.asc", "-").stderr
     )
+
+
+def test_grids_are_converted_by_rcell_pipe_alone(room: pathlib.Path) -> None:
+    assert bare("convert", "/dev/stdin", "-", input=GRID.replace("\n", "\r\n")).stdout == GRID
+    for text, told in (
+        (GRID.replace("3 3 1", "3 x 1"), "map, line 9: bad cell"),
+        (GRID.replace("east: 4", "east: -1"), "map, line 7: bad region"),
+    ):
+        (room / "bad.txt").write_text(text)
+        ran = bare("convert", "bad.txt", "m.asc")
+        assert (ran.returncode, ran.stderr) == (1, f"rcell-gis: {told}\n")
+    assert not os.path.exists("m.asc")
+
+
+def test_an_empty_file_is_not_a_grid(room: pathlib.Path) -> None:
+    (room / "empty.txt").write_text("")
+    ran = run("composition", "empty.txt")
+    assert ran.returncode == 4 and ran.stderr.startswith("rcell-gis: map: cannot open: ")
 
 
 def test_a_grid_and_an_esri_grid_and_back(room: pathlib.Path) -> None:

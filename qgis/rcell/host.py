@@ -1,5 +1,5 @@
 # SPDX-License-Identifier: Apache-2.0 OR GPL-2.0-or-later
-"""Connect the core to QGIS: find the programs, and report the progress of runs."""
+"""Connect the core to QGIS: find rcell-pipe, and report the progress of runs."""
 
 from __future__ import annotations
 
@@ -14,17 +14,12 @@ from .engine.core.errors import MissingProgram, RcellError
 from .engine.core.host import Host
 from .engine.core.process import found_on_path
 from .engine.core.programs import find_pipe
-from .engine.core.programs import find_program as find_rcell
 from .engine.core.sources import Source
 
 _FOLDER = os.path.join(os.path.dirname(os.path.abspath(__file__)), "bin")
 _METADATA = os.path.join(os.path.dirname(os.path.abspath(__file__)), "metadata.txt")
 _SETTINGS = "Settings > Options > Processing > Providers > rcell"
-# The programs, each with its environment variable and its test function.
-_PROGRAMS = {
-    "rcell-pipe": ("RCELL_PIPE", find_pipe),
-    "rcell": ("RCELL", find_rcell),
-}
+_PROGRAM = "rcell-pipe"
 
 
 class Cancelled(RcellError):
@@ -61,7 +56,7 @@ def host_of(setting: str, feedback: Any) -> Host:
     return Host(
         words="qgis",
         warn=warn,
-        find=lambda name: find_program(setting, name),
+        find=lambda: find_program(setting),
         watch=watch_of(feedback),
         progress=progress,
         started=started,
@@ -89,12 +84,12 @@ def _path_of(source: Source) -> str:
     return source.files[0] if source.files else source.name
 
 
-def find_program(setting: str = "", name: str = "rcell-pipe") -> str:
-    """Return the path of rcell-pipe or rcell. Only text grids need rcell.
+def find_program(setting: str = "") -> str:
+    """Return the path of rcell-pipe.
 
-    These places are searched in order: the setting, the variable RCELL_PIPE (or RCELL), the folder
-    of the program that RCELL names, the plugin, and PATH. The setting may name rcell-pipe or rcell.
-    The other program must be next to it.
+    These places are searched in order: the setting, the variable RCELL_PIPE, the folder of the
+    program that RCELL names, the plugin, and PATH. If the setting names rcell, rcell-pipe must be
+    next to it.
 
     Raises
     ------
@@ -103,19 +98,17 @@ def find_program(setting: str = "", name: str = "rcell-pipe") -> str:
     WrongProgram
         The program does not work as this plugin requires.
     """
-    own = os.path.join(_FOLDER, name)
-    variable, tested = _PROGRAMS[name]
-    path = setting if os.path.basename(setting) != "rcell" else _beside(setting, name)
-    if setting and name != "rcell-pipe":
-        path = _beside(setting, name) if os.path.isfile(_beside(setting, name)) else ""
-    path = path or os.environ.get(variable, "")
-    beside_rcell = _beside(os.environ["RCELL"], name) if os.environ.get("RCELL") else ""
+    own = os.path.join(_FOLDER, _PROGRAM)
+    path = setting if os.path.basename(setting) != "rcell" else _beside(setting)
+    path = path or os.environ.get("RCELL_PIPE", "")
+    beside_rcell = _beside(os.environ["RCELL"]) if os.environ.get("RCELL") else ""
     path = path or next(filter(os.path.isfile, [beside_rcell, own]), "")
-    path = path or found_on_path(name) or ""
+    path = path or found_on_path(_PROGRAM) or ""
     if not path:
         raise MissingProgram(
-            f"the program {name} was not found: install the plugin from its zip, which contains "
-            f"it, or set its path under {_SETTINGS} or in the environment variable {variable}"
+            f"the program {_PROGRAM} was not found: install the plugin from its zip, which "
+            f"contains it, or set its path under {_SETTINGS} or in the environment variable "
+            "RCELL_PIPE"
         )
     if path == own:
         _set_executable(path)
@@ -124,12 +117,12 @@ def find_program(setting: str = "", name: str = "rcell-pipe") -> str:
             f"the program {path} does not exist or is not executable: correct the path under "
             f"{_SETTINGS}, or clear it to use the program in the plugin"
         )
-    return tested(path)
+    return find_pipe(path)
 
 
-def _beside(path: str, name: str) -> str:
-    """Return the path of a program next to another program."""
-    return os.path.join(os.path.dirname(path), name)
+def _beside(path: str) -> str:
+    """Return the path of rcell-pipe next to another program."""
+    return os.path.join(os.path.dirname(path), _PROGRAM)
 
 
 def _set_executable(path: str) -> None:

@@ -65,14 +65,12 @@ class HostTest(unittest.TestCase):
             with mock.patch.object(host, "_FOLDER", os.path.dirname(KNOWN)):
                 self.assertEqual(host.find_program(), KNOWN)
 
-    def test_each_program_has_its_variable_and_is_next_to_the_others(self) -> None:
-        folder = os.path.dirname(KNOWN)
-        for name in ("rcell", "rcell-pipe"):
-            expected = os.path.join(folder, name)
-            with mock.patch.dict(os.environ, UNSET):
-                self.assertEqual(host.find_program(os.path.join(folder, "rcell"), name), expected)
-            with mock.patch.dict(os.environ, {**UNSET, "RCELL": os.path.join(folder, "rcell")}):
-                self.assertEqual(host.find_program("", name), expected)
+    def test_the_program_is_next_to_rcell(self) -> None:
+        rcell = os.path.join(os.path.dirname(KNOWN), "rcell")
+        with mock.patch.dict(os.environ, UNSET):
+            self.assertEqual(host.find_program(rcell), KNOWN)
+        with mock.patch.dict(os.environ, {**UNSET, "RCELL": rcell}):
+            self.assertEqual(host.find_program(), KNOWN)
 
     def test_the_right_to_execute_is_given_back_to_the_plugins_own(self) -> None:
         own = self.script(f'exec "{KNOWN}" "$@"', 0o644, "rcell-pipe")

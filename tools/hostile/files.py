@@ -4,7 +4,7 @@ numbers.
 
     files.py [--count N] [--tiffs N] [--seed N]
 
-AAIGrids are read with rcell.core.esri_grids, grids with rcell and rcell.core, and TIFFs with
+AAIGrids are read with rcell.core.esri_grids, grids with rcell.core.text_grids, and TIFFs with
 changed or missing bytes with both readers. The output is compared with a plain reading of the text
 or, for TIFFs, with GDAL's own arrays. Files must be rejected with the exceptions that end in one
 line. TIFFs that GDAL itself reads differently each time are left out, and counted. There are N
@@ -224,22 +224,24 @@ def hostile_grid(chance):
     return (text[: chance.randint(1, len(text))] if chance.random() < 0.2 else text).encode("utf-8")
 
 
-def fault_of_grid(listing, printing, model, chance):
-    """Check that the helpers and packages accept what rcell accepts, with the same cells."""
+def fault_of_grid(text_grids, refused, model, chance, path):
+    """Check that the Python package reads grids as rcell does, with the same cells and errors."""
     text = hostile_grid(chance)
-    try:
-        with printing.spooled([text]) as path, listing.printed_grid(f"{BIN}/rcell", path) as grid:
-            found = [
-                None if cell == listing.NULL else cell
-                for block in grid.blocks
-                for cell in block.ravel().tolist()
-            ]
-    except printing.Rejected:
+    with open(path, "wb") as file:
+        file.write(text)
+    if not text_grids.is_grid(path):
         return None
+    null = text_grids.TextMap.nodata
+    try:
+        blocks = [block.cells for block in text_grids.open_path("m", path).blocks()]
+        cells = [cell for block in blocks for cell in block.ravel().tolist()]
+        found = [None if cell == null else cell for cell in cells]
+    except refused as fault:
+        found = fault.line, fault.text
     try:
         wanted = [cell for row in model.read_map(b"m", text).rows for cell in row]
     except model.Refused as fault:
-        return f"{text!r} is taken, and rcell says {fault.text}"
+        wanted = fault.line, fault.text
     return None if found == wanted else f"{text!r}: {found}, not {wanted}"
 
 
@@ -346,7 +348,9 @@ def main():
     settings = words.parse_args()
     resource.setrlimit(resource.RLIMIT_AS, (MEMORY, MEMORY))
     import model_grids
-    from rcell.core import esri_grids, listing, printing
+    from rcell.core import errors, esri_grids, text_grids
+
+    os.environ.setdefault("RCELL", f"{BIN}/rcell")
 
     with tempfile.TemporaryDirectory(prefix="rcell-hostile-") as folder:
         counts = [
@@ -360,7 +364,9 @@ def main():
                 "grid",
                 settings.count,
                 settings.seed,
-                lambda chance: fault_of_grid(listing, printing, model_grids, chance),
+                lambda chance: fault_of_grid(
+                    text_grids, errors.Refused, model_grids, chance, f"{folder}/grid"
+                ),
             ),
         ]
         try:
@@ -376,7 +382,6 @@ def main():
             import rcell
             from rcell.readers import gdal as gdal_reader
 
-            os.environ.setdefault("RCELL", f"{BIN}/rcell")
             gdal.UseExceptions()
             ways = ways_of_tiff(rcell, gdal_reader)
             counts.append(

@@ -31,7 +31,7 @@ FOR_DEVELOPERS = {
 # Modules whose messages are checked, and the sentences that the packages print.
 MESSAGES_OF, SENTENCES = (
     re.compile(
-        r"python/src/rcell/core/(converting|esri_grids|explaining|files|hints|printing|process|protocol)\.py"
+        r"python/src/rcell/core/(converting|esri_grids|explaining|files|grid_files|hints|process|protocol)\.py"
     ),
     "python/src/rcell/core/messages.json",
 )

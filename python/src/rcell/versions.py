@@ -1,5 +1,5 @@
 # SPDX-License-Identifier: Apache-2.0 OR GPL-2.0-or-later
-"""Show the versions of the programs and libraries that runs depend on."""
+"""Show the versions of the program and the libraries that runs depend on."""
 
 from __future__ import annotations
 
@@ -8,7 +8,7 @@ import platform
 
 from ._version import __version__
 from .core.errors import RcellError
-from .core.programs import find_pipe, find_program
+from .core.programs import find_pipe
 
 __all__ = ["show_versions"]
 
@@ -16,7 +16,7 @@ _LIBRARIES = "numpy pandas rasterio pyproj fiona geopandas xarray dask matplotli
 
 
 def show_versions() -> None:
-    """Print the versions of the package, Python and libraries, and the paths of the programs.
+    """Print the versions of the package, Python and libraries, and the path of rcell-pipe.
 
     Examples
     --------
@@ -27,11 +27,10 @@ def show_versions() -> None:
     """
     lines = [("rcell", __version__), ("python", platform.python_version())]
     lines += [(name, _version_of(name)) for name in _LIBRARIES]
-    for name, find in (("rcell-pipe", find_pipe), ("rcell", find_program)):
-        try:
-            lines.append((name, find()))
-        except RcellError as error:
-            lines.append((name, str(error)))
+    try:
+        lines.append(("rcell-pipe", find_pipe()))
+    except RcellError as error:
+        lines.append(("rcell-pipe", str(error)))
     for name, text in lines:
         print(f"{name:<11} {text}")
 

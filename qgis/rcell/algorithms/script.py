@@ -159,7 +159,7 @@ class ScriptAlgorithm(RcellAlgorithm):
     def _plan(self) -> list[Statement]:
         names = [name for name, _ in self._named_layers()]
         program = find_program(program_setting())
-        with serving(Host(words="qgis", find=lambda _: program)):
+        with serving(Host(words="qgis", find=lambda: program)):
             return planned(self._script(), names)
 
     def _script(self) -> str:

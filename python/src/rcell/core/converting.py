@@ -9,15 +9,14 @@ from __future__ import annotations
 from collections.abc import Iterator
 from typing import Any, Optional
 
+from . import protocol
 from .errors import Refused
 from .esri_grids import esri_of_grid, grid_of_esri, is_esri
-from .files import opened, read_some
-from .printing import is_text_grid, printed
-from .programs import find_program, program_errors
+from .files import opened
+from .grid_files import PRINT_GRID, GridFile, is_text_grid
+from .programs import find_pipe, program_errors
 
 __all__ = ["converted", "like", "printed_map"]
-
-HEAD_BYTES = 1 << 12
 
 
 def converted(path: str, to_esri: bool) -> Optional[Iterator[bytes]]:
@@ -27,25 +26,24 @@ def converted(path: str, to_esri: bool) -> Optional[Iterator[bytes]]:
     `to_esri` is true.
     """
     try:
-        with open(path, "rb") as file:
-            start = read_some(file.fileno(), HEAD_BYTES)
+        file = GridFile("map", path)
     except OSError:
         return None  # a path that only GDAL can open
-    if is_esri(start) and not to_esri:
+    if is_text_grid(file.start):
         opened(path)  # an error if the output would overwrite this file
-        return grid_of_esri(path)
-    if is_text_grid(start):
+        return esri_of_grid(_printed(file)) if to_esri else _printed(file)
+    file.close()
+    if is_esri(file.start) and not to_esri:
         opened(path)
-        return esri_of_grid(_printed(path)) if to_esri else _printed(path)
+        return grid_of_esri(path)
     return None
 
 
-def _printed(path: str) -> Iterator[bytes]:
+def _printed(file: GridFile) -> Iterator[bytes]:
     """Yield the pieces of a text grid in the layout that rcell prints."""
-    program = find_program()
-    errors = program_errors(script="", names=["map"], path=program)
-    with errors, printed(program, path) as pieces:
-        yield from pieces
+    program = find_pipe()
+    with file.maps() as maps, program_errors("", ["map"], program):
+        yield from protocol.text(program, maps, PRINT_GRID)
 
 
 def printed_map(raster: Any, to_esri: bool) -> Iterator[bytes]:

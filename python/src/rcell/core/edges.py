@@ -1,15 +1,36 @@
 # SPDX-License-Identifier: Apache-2.0 OR GPL-2.0-or-later
-"""Format and compare map edges as the program does, in whole units of 10^-8."""
+"""Format and compare map edges as the program does, in whole units of 10^-8, and limit sizes."""
 
 from __future__ import annotations
 
 from collections.abc import Callable, Iterable
 
-__all__ = ["DECIMALS", "UNITS", "differences_of", "edge_text"]
+__all__ = [
+    "CELL_LIMIT",
+    "DECIMALS",
+    "SIDE_LIMIT",
+    "UNITS",
+    "differences_of",
+    "edge_text",
+    "fits_one_run",
+]
 
 DECIMALS = 8
 UNITS = 10**DECIMALS
 """The number of units in an edge of 1. The program stores edges as whole numbers of units."""
+SIDE_LIMIT = 65_535
+CELL_LIMIT = 2_147_483_647
+
+
+def fits_one_run(shape: tuple[int, int]) -> bool:
+    """Return whether the program accepts a map of this size in one run.
+
+    Examples
+    --------
+    >>> fits_one_run((65_535, 32_768)), fits_one_run((65_535, 32_769)), fits_one_run((65_536, 1))
+    (True, False, False)
+    """
+    return max(shape) <= SIDE_LIMIT and shape[0] * shape[1] <= CELL_LIMIT
 
 
 def edge_text(units: int) -> str:

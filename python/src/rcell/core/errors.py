@@ -236,32 +236,32 @@ class ReadFailed(BadMap):
 
 
 class MissingProgram(RcellError, FileNotFoundError):
-    """Raised if the program `rcell` is not found or cannot be executed.
+    """Raised if the program `rcell-pipe` is not found or cannot be executed.
 
     Examples
     --------
     >>> import rcell
-    >>> from rcell.core.programs import find_program
+    >>> from rcell.core.programs import find_pipe
     >>> try:
-    ...     find_program("/nowhere/rcell")
+    ...     find_pipe("/nowhere/rcell-pipe")
     ... except rcell.MissingProgram as error:
     ...     print(error)
-    the program /nowhere/rcell does not exist or is not executable
+    the program /nowhere/rcell-pipe does not exist or is not executable
     """
 
 
 class WrongProgram(RcellError):
-    """Raised if a program is not `rcell`, or is a version that this package does not support.
+    """Raised if a program is not `rcell-pipe`, or is a version that this package does not support.
 
     Examples
     --------
     >>> import rcell
-    >>> from rcell.core.programs import find_program
+    >>> from rcell.core.programs import find_pipe
     >>> try:
-    ...     find_program("/bin/true")
+    ...     find_pipe("/bin/true")
     ... except rcell.WrongProgram as error:
     ...     print(error)
-    /bin/true is not a supported version of the program rcell
+    /bin/true is not a supported version of the program rcell-pipe
     """
 
 

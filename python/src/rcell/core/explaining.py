@@ -13,15 +13,14 @@ import sys
 from collections.abc import Iterator, Sequence
 from typing import Optional
 
+from .grid_files import header_values, is_text_grid
 from .hints import advice, lines_of_error, near, sentence
-from .printing import is_text_grid
 from .programs import find_pipe, find_program
 
 __all__ = ["explain"]
 
 _MESSAGE = re.compile(r"rcell: ([A-Za-z0-9_.]+):([0-9]+): (.*)")
 _COLUMN = re.compile(r" at column ([0-9]+)$")
-_EDGE = re.compile(rb"(?m)^[ \t]*(north|south|east|west|rows|cols):[ \t]*(\S+)")
 _WHOLE = re.compile(rb"[+-]?[0-9]{1,10}")
 HEAD_BYTES, SCRIPT_BYTES = 1 << 12, 1 << 20
 LONGEST_LINE = 1 << 20  # the longest line that is examined, in bytes
@@ -128,8 +127,8 @@ def _other_region(paths: dict[str, str], name: str, start: bytes) -> Iterator[st
     """Yield a description of each header line that differs from the first grid's."""
     first = next(iter(paths))
     with open(paths[first], "rb") as file:
-        wanted = dict(_EDGE.findall(file.read(HEAD_BYTES)))
-    for key, value in _EDGE.findall(start):
+        wanted = header_values(file.read(HEAD_BYTES))
+    for key, value in header_values(start).items():
         if wanted.get(key, value) != value:
             difference = f"{key.decode()} is {value.decode()} in {name}"
             yield f"{difference}, but {wanted[key].decode()} in {first}"

@@ -36,8 +36,8 @@ class Host:
     warn : callable
         A function that is called with the text of each warning.
     find : callable, optional
-        A function that returns the path of the program with a given name. By default, programs are
-        found where Python packages install them.
+        A function that returns the path of rcell-pipe. By default, rcell-pipe is found where Python
+        packages install programs.
     watch : callable, optional
         A function that is called repeatedly while a program runs. An exception ends the run.
     progress : callable, optional
@@ -48,7 +48,7 @@ class Host:
 
     words: str = "python"
     warn: Callable[[str], None] = _warn
-    find: Optional[Callable[[str], str]] = None
+    find: Optional[Callable[[], str]] = None
     watch: Optional[Callable[[], None]] = None
     progress: Optional[Callable[[float], None]] = None
     started: Optional[Callable[[str, Mapping[str, Any]], None]] = None

@@ -12,8 +12,7 @@ from typing import Callable, Iterator, Optional, Union
 from . import protocol
 from .errors import Killed, MissingProgram, OutOfMemory, Refused, WrongProgram
 from .host import host
-from .printing import printed, spooled
-from .process import found_on_path
+from .process import Started, found_on_path
 
 __all__ = [
     "candidates",
@@ -23,7 +22,7 @@ __all__ = [
 ]
 
 PROBE_SECONDS = 60
-"""The time limit, in seconds, for a test run over three cells; generous for busy machines."""
+"""The time limit, in seconds, for a test run; generous for busy machines."""
 
 Path = Union[str, "os.PathLike[str]"]
 
@@ -52,24 +51,32 @@ _known: dict[str, tuple[int, int, int]] = {}
 def find_program(program: Optional[Path] = None) -> str:
     """Return the path of rcell, found with `find_beside` and the variable RCELL.
 
-    Only text grids need rcell.
+    Only `rcell-gis explain` runs rcell.
     """
-    return find_beside("rcell", "RCELL", _probe, program)
+    return find_beside("rcell", "RCELL", _is_rcell, program)
 
 
 def find_pipe(program: Optional[Path] = None) -> str:
-    """Return the path of rcell-pipe, found with `find_beside` and the variable RCELL_PIPE."""
-    return find_beside("rcell-pipe", "RCELL_PIPE", _probe_pipe, program)
+    """Return the path of rcell-pipe, found with `find_beside` and the variable RCELL_PIPE.
+
+    The host may provide the path if the argument is not given.
+    """
+    find = host().find
+    if program is None and find is not None:
+        return find()
+    return find_beside("rcell-pipe", "RCELL_PIPE", protocol.is_known, program)
 
 
 def find_beside(
-    name: str, variable: str, probe: Callable[[str], None], program: Optional[Path]
+    name: str, variable: str, test: Callable[[str, float], bool], program: Optional[Path]
 ) -> str:
-    """Find a program, check that it works, and return its path.
+    """Find a program, test it, and return its path.
 
-    The host may provide the path. Otherwise, these places are searched in order: the argument, an
-    environment variable, the folder of the program that RCELL names, the scripts of this Python
-    installation (where the wheel installs programs), and PATH.
+    The program is tested again only if its file has changed.
+
+    These places are searched in order: the argument, an environment variable, the folder of the
+    program that RCELL names, the scripts of this Python installation (where the wheel installs
+    programs), and PATH.
 
     Raises
     ------
@@ -78,9 +85,6 @@ def find_beside(
     WrongProgram
         The program does not pass this package's test.
     """
-    find = host().find
-    if program is None and find is not None:
-        return find(name)
     path = os.fspath(program) if program is not None else os.environ.get(variable)
     if not path:
         folder = os.path.dirname(os.path.abspath(os.environ.get("RCELL", "")))
@@ -90,20 +94,13 @@ def find_beside(
     if not path:
         cure = f"install it, or set the environment variable {variable} to its path"
         raise MissingProgram(f"the program {name} was not found next to Python or on PATH: {cure}")
-    return known_after(probe, os.path.abspath(path))
-
-
-def known_after(probe: Callable[[str], None], path: str) -> str:
-    """Test a program and return its path.
-
-    The program is tested again only if its file has changed.
-    """
+    path = os.path.abspath(path)
     if not os.path.isfile(path) or not os.access(path, os.X_OK):
         raise MissingProgram(f"the program {path} does not exist or is not executable")
     state = os.stat(path)
     stamp = (state.st_ino, state.st_size, state.st_mtime_ns)
     if _known.get(path) != stamp:
-        probe(path)
+        _check(name, path, test)
         _known[path] = stamp
     return path
 
@@ -111,39 +108,26 @@ def known_after(probe: Callable[[str], None], path: str) -> str:
 _UNKNOWN = "{} is not a supported version of the program {}"
 _NOT_STARTED = "the program {} cannot be executed: {}"
 _ENDLESS = "{} did not finish a test run within {} seconds: check that it is {}"
-_PROBE_GRID = b"north: 1\nsouth: 0\neast: 3\nwest: 0\nrows: 1\ncols: 3\nnull: ***\n007 *** 012 "
-_PRINTED = b"north: 1\nsouth: 0\neast: 3\nwest: 0\nrows: 1\ncols: 3\n7 * 12\n"
+_USAGE = b"rcell: arguments:0: usage: "
 
 
-def _probe(path: str) -> None:
-    """Raise WrongProgram unless rcell prints a grid of three cells correctly."""
+def _is_rcell(path: str, seconds: float) -> bool:
+    """Return whether a program without arguments prints rcell's usage."""
+    with Started([path], seconds) as process:
+        is_silent = not next(process.pieces(), b"")
+        return is_silent and process.end()[1].startswith(_USAGE)
+
+
+def _check(name: str, path: str, test: Callable[[str, float], bool]) -> None:
+    """Raise WrongProgram unless a program passes a test."""
     try:
-        with spooled([_PROBE_GRID]) as grid, printed(path, grid, PROBE_SECONDS) as pieces:
-            text = b""
-            # Another program may print without end, so reading stops at the first difference.
-            while _PRINTED.startswith(text) and (piece := next(pieces, b"")):
-                text += piece
-            is_known = text == _PRINTED
-    except (protocol.Rejected, protocol.Killed, protocol.NoAnswer):
-        is_known = False
+        is_known = test(path, PROBE_SECONDS)
     except TimeoutError:
-        raise WrongProgram(_ENDLESS.format(path, PROBE_SECONDS, "rcell")) from None
-    except protocol.NotStarted as error:
+        raise WrongProgram(_ENDLESS.format(path, PROBE_SECONDS, name)) from None
+    except OSError as error:  # including protocol.NotStarted
         raise MissingProgram(_NOT_STARTED.format(path, error.strerror)) from None
     if not is_known:
-        raise WrongProgram(_UNKNOWN.format(path, "rcell"))
-
-
-def _probe_pipe(path: str) -> None:
-    """Raise WrongProgram unless rcell-pipe completes a test run correctly."""
-    try:
-        is_known = protocol.is_known(path, PROBE_SECONDS)
-    except TimeoutError:
-        raise WrongProgram(_ENDLESS.format(path, PROBE_SECONDS, "rcell-pipe")) from None
-    except protocol.NotStarted as error:
-        raise MissingProgram(_NOT_STARTED.format(path, error.strerror)) from None
-    if not is_known:
-        raise WrongProgram(_UNKNOWN.format(path, "rcell-pipe"))
+        raise WrongProgram(_UNKNOWN.format(path, name))
 
 
 @contextlib.contextmanager

@@ -25,6 +25,7 @@ from .requests import (
     PATCHES,
     Block,
     Buffer,
+    GridText,
     Map,
     Maps,
     Margin,
@@ -66,6 +67,7 @@ __all__ = [
     "Fault",
     "Frame",
     "GridFrame",
+    "GridText",
     "JoinFrame",
     "JoinedPatchesFrame",
     "Killed",
@@ -173,8 +175,8 @@ class Rejected(Exception):
     map : int
         The index of the invalid map or tile, if the source is the request.
     line : int
-        The line of the script, or the row of the map, counted from 1. 0 if the error is not in a
-        line or a row.
+        The line of the script or of a text grid, or the row of another map, counted from 1. 0 if the
+        error is not in a line or a row.
     column : int
         The position in the line, counted in bytes from 1. 0 if the position is unknown.
     text : str
@@ -197,7 +199,8 @@ class Rejected(Exception):
     def parts(self, program: str, script: str, names: Sequence[str]) -> dict[str, Any]:
         """Return the arguments for a `Fault` that describes this error, with advice if possible."""
         parts = {"text": self.text, "source": "script", "line": self.line, "status": self.status}
-        if self.source == "request" and self.map < len(names):
+        is_of_map = self.source == "request" or not (self.source or script)
+        if is_of_map and self.map < len(names):
             return {**parts, "source": names[self.map]}
         if self.source == "question":
             return {**parts, "source": "question"}
@@ -316,8 +319,9 @@ def text(
 
 _PROBE_SCRIPT = (
     b"r.clump -d input=probe output=k\nr.stats -c input=probe,k after=7,1\nr.stats -1 "
-    b"input=k\nr.out.ascii input=k\n"
+    b"input=k\nr.out.ascii input=grid\n"
 )
+_PROBE_GRID = b"north: 1\nsouth: 0\neast: 4\nwest: 0\nrows: 1\ncols: 4\nnull: -\n01 1 - 2"
 _PROBE_QUESTION = Question("probe", 8, kind=PATCHES + NUMBERS + BORDER)
 _PROBE_TILE = (1, 4, 0, 0, 0, 1, 1, 3)  # after the first of four cells
 _PROBE_ROWS = [7, NULL, 12, 1, NULL, 2] * 2  # the first and the last row, with their numbers
@@ -332,7 +336,7 @@ _PROBE_RESPONSE = [
 
 
 def is_known(program: str, seconds: float) -> bool:
-    """Test a program on four cells and return whether it is this version's rcell-pipe.
+    """Test a program on two maps of four cells and return whether it is this version's rcell-pipe.
 
     Raises
     ------
@@ -340,7 +344,8 @@ def is_known(program: str, seconds: float) -> bool:
         As in `run`.
     """
     probe = Map("probe", "u8", [Block(b"\7\7\xff\14")], nodata=255)
-    maps = Maps(("1", "0", "4", "0"), 1, 4, [probe])
+    grid = GridText("grid", len(_PROBE_GRID), [_PROBE_GRID])
+    maps = Maps(("1", "0", "4", "0"), 1, 4, [probe, grid])
     words = _PROBE_SCRIPT, [_PROBE_QUESTION], _PROBE_TILE
     try:
         frames = run(program, maps, *words, seconds=seconds)

@@ -23,7 +23,6 @@ __all__ = [
     "Transform",
     "check_upright",
     "edges_of_transform",
-    "fits_one_run",
     "six_numbers",
     "units_of",
 ]
@@ -35,8 +34,6 @@ Transform = tuple[float, float, float, float, float, float]
 Units = tuple[int, int, int, int]
 
 EDGE_LIMIT = 10**10 * UNITS
-SIDE_LIMIT = 65_535
-CELL_LIMIT = 2_147_483_647
 # The tolerance, in cells, within which two grids are a whole number of cells apart.
 NEARLY_WHOLE = 1e-3
 
@@ -44,17 +41,6 @@ NEARLY_WHOLE = 1e-3
 def units_of(edge: float | Fraction) -> int:
     """Convert an edge to integer units of 10^-8, the precision of the program."""
     return int(round(Fraction(edge) * UNITS))
-
-
-def fits_one_run(shape: tuple[int, int]) -> bool:
-    """Return whether the program accepts a map of this size in one run.
-
-    Examples
-    --------
-    >>> fits_one_run((65_535, 32_768)), fits_one_run((65_535, 32_769)), fits_one_run((65_536, 1))
-    (True, False, False)
-    """
-    return max(shape) <= SIDE_LIMIT and shape[0] * shape[1] <= CELL_LIMIT
 
 
 def _is_number(value: Any) -> bool:

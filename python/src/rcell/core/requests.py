@@ -14,6 +14,7 @@ __all__ = [
     "PATCHES",
     "Block",
     "Buffer",
+    "GridText",
     "Map",
     "Maps",
     "Margin",
@@ -29,6 +30,7 @@ CELL_BYTES = {"u8": 1, "i8": 1, "u16": 2, "i16": 2, "u32": 4, "i32": 4, "i64": 8
 """The cell types of input maps, in the order of their codes, from 1."""
 
 _CODES = {name: code for code, name in enumerate(CELL_BYTES, 1)}
+_GRID_TEXT = 8  # the code of a text grid
 PATCHES, NUMBERS, BORDER = 1, 2, 4
 """The frames that a question can ask for: patch measures, patch numbers, and the map's border."""
 RUN_BYTES = 32  # the bytes of each run in a `responses.JoinFrame`
@@ -110,6 +112,29 @@ class Map:
 
 
 @dataclass(frozen=True)
+class GridText:
+    """An input map of a request that is sent as a text grid.
+
+    Attributes
+    ----------
+    name : str
+    size : int
+        The number of bytes in the text.
+    text : iterable of buffers
+        The text, which is requested piece by piece while the program reads.
+    """
+
+    name: str
+    size: int
+    text: Iterable[Buffer]
+
+    def pieces(self, *_: int) -> Iterator[Buffer]:
+        """Yield the bytes that encode the map. The text contains the numbers of rows and columns."""
+        yield _short(self.name) + struct.pack("<BBqIQ", _GRID_TEXT, 0, 0, 0, self.size)
+        yield from self.text
+
+
+@dataclass(frozen=True)
 class Maps:
     """The input maps of a request, which have the same region.
 
@@ -118,13 +143,13 @@ class Maps:
     edges : tuple of str
         The north, south, east and west edges as decimal strings.
     rows, cols : int
-    maps : sequence of Map
+    maps : sequence of Map or GridText
     """
 
     edges: tuple[str, str, str, str]
     rows: int
     cols: int
-    maps: Sequence[Map]
+    maps: Sequence[Union[Map, GridText]]
 
     def pieces(self) -> Iterator[Buffer]:
         """Yield the bytes that encode the region and the maps, with the errors of `Map.pieces`."""

@@ -11,10 +11,10 @@ import numpy as np
 from . import protocol
 from .arrays import NDArray
 from .borders import watched
+from .edges import CELL_LIMIT, SIDE_LIMIT, fits_one_run
 from .errors import BadMap
 from .host import host
 from .programs import Path, find_pipe, program_errors
-from .region import CELL_LIMIT, SIDE_LIMIT, fits_one_run
 from .sources import Source
 from .tile_clumps import PATCH, ZONED_PATCH, Joined
 
@@ -266,17 +266,18 @@ def _sent(maps: Mapping[str, Source]) -> protocol.Maps:
     """Convert maps to the program's input maps, whose blocks are sent one after another."""
     region = next(iter(maps.values())).region
     progress = _Progress(region.rows * region.cols * len(maps))
-    sent = [
-        protocol.Map(
-            name,
-            source.dtype.kind + str(8 * source.dtype.itemsize),
-            _pieces(name, source, progress),
-            source.nodata,
-            source.is_masked,
-        )
-        for name, source in maps.items()
-    ]
+    sent = [_map_of(name, source, progress) for name, source in maps.items()]
     return protocol.Maps(region.edges, *region.shape, sent)
+
+
+def _map_of(name: str, source: Source, progress: _Progress) -> protocol.Map:
+    from .text_grids import TextMap
+
+    if isinstance(source, TextMap):
+        source = source.read()  # as bytes, if the cells fit
+    kind = source.dtype.kind + str(8 * source.dtype.itemsize)
+    blocks = _pieces(name, source, progress)
+    return protocol.Map(name, kind, blocks, source.nodata, source.is_masked)
 
 
 def _pieces(name: str, source: Source, progress: _Progress) -> Iterator[protocol.Block]:

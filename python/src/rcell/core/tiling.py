@@ -14,10 +14,10 @@ from typing import Any, Optional, TypeVar
 
 from .arguments import whole_number_of
 from .clusters import Cluster, client_of, current_client
+from .edges import SIDE_LIMIT, fits_one_run
 from .errors import OutOfMemory
 from .memory import free_memory, processors
 from .protocol import Margin, Statement
-from .region import SIDE_LIMIT, fits_one_run
 from .sources import Source, has_windows
 
 __all__ = [
