@@ -4,6 +4,8 @@
 
 HEADER_BYTES <- 65536L
 CATEGORY_LIMIT <- 2147483647
+EDGE <- "[+-]?(?=\\.?\\d)\\d{0,10}(?:\\.\\d{0,8})?"
+COUNT <- "\\+?\\d{1,63}"
 HEADER_LINE <- "^[ \t\r\n]*(north|south|east|west|rows|cols|null|type|multiplier):"
 # The parameters of functions that accept maps by name.
 PARAMETERS <- c(
@@ -117,48 +119,70 @@ no_such_file <- function(name, path) {
 }
 
 is_grid_of_rcell <- function(path) {
-  if (!file.exists(path) || dir.exists(path)) return(FALSE)
-  head <- readBin(path, "raw", HEADER_BYTES)
-  !any(head == 0L) && grepl(HEADER_LINE, rawToChar(head), useBytes = TRUE)
+  file.exists(path) && !dir.exists(path) && grepl(HEADER_LINE, start_of(path), useBytes = TRUE)
 }
 
-# Read an rcell grid with the program `rcell`, which writes null as a number, because GDAL would
-# read the null text `*` as 0.
+# Return the first bytes of a file as a text, or an empty text if the file is binary.
+start_of <- function(path) {
+  start <- readBin(path, "raw", HEADER_BYTES)
+  if (any(start == 0L)) "" else rawToChar(start)
+}
+
+# Read an rcell grid with the program, because GDAL would read the null text `*` as 0.
 grid_source <- function(name, path) {
-  folder <- new_folder()
-  on.exit(unlink(folder, recursive = TRUE))
-  script <- sprintf("r.out.ascii input=%s null_value=-2147483648", name)
-  writeLines(script, file.path(folder, "script"))
-  rcell <- find_rcell(program_path())
-  ran <- execute(rcell, folder, c("script", paste0(name, "=", normalizePath(path))))
-  if (ran$status != 0L) grid_fault(ran)
-  out <- file.path(folder, "out")
-  titles <- c(EDGES, "rows", "cols") # the header's lines are in this order
-  fields <- structure(sub("^[a-z]+: ", "", readLines(out, length(titles))), names = titles)
-  edges <- vapply(fields[EDGES], decimals_of, "", USE.NAMES = FALSE)
-  rows <- as.integer(fields[["rows"]])
-  cols <- as.integer(fields[["cols"]])
+  text <- function(write) write_text(write, name, path)
+  grid <- list(name = "grid", region = region_in(start_of(path)), text = text)
+  program <- program_path()
+  answer <- ask_pipe(program, run_request(list(grid), "r.out.ascii input=grid"))
+  frame <- frames_of(answer, program, name, lines = character())[[1]]
+  edges <- vapply(frame$edges, decimals_of, "", USE.NAMES = FALSE)
+  rows <- nrow(frame$raster)
+  cols <- ncol(frame$raster)
   side <- structure(as.numeric(edges), names = EDGES)
   template <- rast(
     nrows = rows, ncols = cols, xmin = side[["west"]], xmax = side[["east"]],
     ymin = side[["south"]], ymax = side[["north"]], crs = ""
   )
-  cells <- as.integer(values(with_path(out, rast(out)), mat = FALSE))
   list(
-    name = name, files = normalizePath(path), cells = cells,
-    region = list(edges = edges, rows = rows, cols = cols), crs = "", raster = template
+    name = name, files = normalizePath(path),
+    cells = as.integer(values(frame$raster, mat = FALSE)),
+    region = list(edges = edges, rows = as.integer(rows), cols = as.integer(cols)), crs = "",
+    raster = template
   )
 }
 
-# Raise the error of the program `rcell` about a grid: rcell: SOURCE:LINE: TEXT.
-grid_fault <- function(ran) {
-  parts <- regmatches(ran$stderr, regexec("^rcell: ([^:]*):([0-9]+): ([^\n]*)", ran$stderr))[[1]]
-  if (length(parts) != 4L) {
-    text <- "the program rcell ended with status %d and printed: %s"
-    wrong_program(text, ran$status, ran$stderr)
+# Return the region in the first bytes of an rcell grid. If the region is invalid, return a region
+# of one cell, because the program then reports the error in the header.
+region_in <- function(start) {
+  value <- function(key, form) {
+    line <- sprintf("(?m)^[ \t\r]*%s:[ \t\r]*(%s)(?=\\s|$)", key, form)
+    regmatches(start, regexec(line, start, perl = TRUE, useBytes = TRUE))[[1]][2]
   }
-  class <- if (ran$status == 3L) "rcell_out_of_memory"
-  refuse(parts[[4]], source = parts[[2]], line = as.integer(parts[[3]]), ran$status, class = class)
+  edges <- vapply(EDGES, value, "", EDGE, USE.NAMES = FALSE)
+  side <- as.numeric(edges)
+  counts <- as.numeric(vapply(c("rows", "cols"), value, "", COUNT))
+  is_valid <- side[[1]] > side[[2]] && side[[3]] > side[[4]] &&
+    all(counts >= 1 & counts <= SIDE_LIMIT) && prod(counts) <= CELL_LIMIT
+  if (!is_valid %in% TRUE) return(small_map("grid", NA)$region)
+  list(edges = edges, rows = counts[[1]], cols = counts[[2]])
+}
+
+# Write the text of an rcell grid, which must keep its size while it is read.
+write_text <- function(write, name, path) {
+  size <- file.size(path)
+  from <- file(path, "rb")
+  on.exit(close(from))
+  write(text_head("grid", size))
+  left <- size
+  while (left > 0) {
+    piece <- readBin(from, "raw", min(left, PIECE_BYTES))
+    if (!length(piece)) {
+      text <- "read failed: %s was shortened from %.0f to %.0f bytes while it was read"
+      read_failed(name, text, path, size, size - left)
+    }
+    write(piece)
+    left <- left - length(piece)
+  }
 }
 
 # Return a coordinate with eight decimals, as text, because a double has too few digits.

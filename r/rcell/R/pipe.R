@@ -6,6 +6,7 @@ PLAN_MAGIC <- charToRaw("RCELLP1\n")
 RESPONSE_MAGIC <- charToRaw("RCELLA1\n")
 TYPE_U8 <- 1L
 TYPE_I32 <- 6L
+TYPE_TEXT <- 8L
 HAS_NODATA <- 1L
 PATCHES <- 1L
 COMMANDS <- c("r.mapcalc", "r.reclass", "r.clump", "r.stats", "r.out.ascii")
@@ -45,13 +46,28 @@ map_head <- function(name) {
   c(short_text(name), as.raw(c(TYPE_I32, HAS_NODATA)), nodata, count_of_labels)
 }
 
+# Return the bytes that precede the text of a map that is sent as a text grid.
+text_head <- function(name, size) {
+  flags_nodata_and_labels <- raw(13L)
+  digits <- as.integer(size %/% 65536^(0:3) %% 65536) # of a number of 64 bits
+  c(
+    short_text(name), as.raw(TYPE_TEXT), flags_nodata_and_labels,
+    writeBin(digits, raw(), size = 2L, endian = "little")
+  )
+}
+
 # Return a request: a function that writes its bytes with the function it is given. A source has
-# `cells`, or a raster that is read in blocks of rows. All sources have the same region.
+# `cells`, a raster that is read in blocks of rows, or a function `text` that writes a text grid.
+# All sources have the same region.
 run_request <- function(sources, script, questions = list()) function(write) {
   write(c(REQUEST_MAGIC, region_bytes(sources[[1]]$region), bytes_of(length(sources))))
   for (source in sources) {
-    write(map_head(source$name))
-    each_block(source, write)
+    if (is.function(source$text)) {
+      source$text(write)
+    } else {
+      write(map_head(source$name))
+      each_block(source, write)
+    }
   }
   bytes <- unlist(lapply(questions, question_bytes))
   write(c(script_bytes(script), bytes_of(length(questions)), bytes))
@@ -155,11 +171,12 @@ grid_frame <- function(reader) {
   line <- as.integer(reader$numbers())
   reader$text() # the text of null
   name <- reader$text()
-  reader$texts(length(EDGES))
+  edges <- reader$texts(length(EDGES))
   rows <- reader$numbers()
   cols <- reader$numbers()
   is_small <- reader$bytes(1) == TYPE_U8
-  list(line = line, maps = name, raster = reader$raster(rows, cols, is_small))
+  raster <- reader$raster(rows, cols, is_small)
+  list(line = line, maps = name, edges = edges, raster = raster)
 }
 
 # Read the measures of patches: the class, then counts, rows and columns (from 0) in 64 bits, and

@@ -1,11 +1,12 @@
 # SPDX-License-Identifier: Apache-2.0 OR GPL-2.0-or-later
-# Find the programs, and run them in temporary folders.
+# Find the program, and run it in temporary folders.
 
 known_programs <- new.env(parent = emptyenv()) # size and time of each tested program, by path
 
+PROBE_GRID <- "north: 1\nsouth: 0\neast: 3\nwest: 0\nrows: 1\ncols: 3\nnull: -\n01 - 2\n"
 PROBE_SCRIPT <- c(
   "r.clump -d input=g output=k", "r.stats -c input=g,k after=7,1", "r.stats -1 input=k",
-  "r.out.ascii input=k"
+  "r.out.ascii input=grid"
 )
 
 rcell_program <- function() {
@@ -64,19 +65,6 @@ find_program <- function() {
   ))
 }
 
-# Return the path of the program `rcell`, which reads rcell grids. `pipe` is the path of rcell-pipe.
-find_rcell <- function(pipe) {
-  beside <- file.path(dirname(pipe), sub(PIPE, "rcell", basename(pipe), fixed = TRUE))
-  is_beside <- beside != pipe && file.exists(beside)
-  path <- first_of(c(
-    Sys.getenv("RCELL"), if (is_beside) beside, bundled_program("rcell"), Sys.which("rcell")[[1]]
-  ))
-  if (!nzchar(path) || file.access(path, 1L) != 0L) {
-    missing_program("the program rcell, which reads rcell grids, was not found")
-  }
-  normalizePath(path)
-}
-
 first_of <- function(candidates) c(candidates[nzchar(candidates)], "")[[1]]
 
 bundled_program <- function(name) {
@@ -84,14 +72,17 @@ bundled_program <- function(name) {
   if (nzchar(path)) normalizePath(path) else ""
 }
 
-# Test the program on three cells, with all features that this package uses.
+# Test the program on maps of three cells, with all features that this package uses.
 probe <- function(path) {
   wrong <- function(e) {
     text <- "%s is not a supported version of the program rcell-pipe"
     wrong_program(text, path)
   }
+  grid <- c(text_head("grid", nchar(PROBE_GRID)), charToRaw(PROBE_GRID))
+  text <- list(name = "grid", text = function(write) write(grid))
+  request <- run_request(list(small_map("g", c(7L, NA, 12L)), text), PROBE_SCRIPT)
   frames <- tryCatch(
-    run_pipe(path, list(small_map("g", c(7L, NA, 12L))), PROBE_SCRIPT),
+    frames_of(ask_pipe(path, request), path, c("g", "grid"), PROBE_SCRIPT),
     rcell_wrong_program = wrong, rcell_killed = wrong, rcell_refused = wrong
   )
   if (!identical(lapply(frames, `[[`, "kind"), list("TABL", "CELL", "GRID"))) wrong()
@@ -218,11 +209,13 @@ fault <- function(end, path, names, lines) {
   status <- as.integer(end$status)
   kind <- if (status == 3L) "rcell_out_of_memory"
   is_of_request <- end$source == 1
-  line <- if (is_of_request) 0L else as.integer(end$line)
-  if (!(line %in% seq_along(lines))) {
-    is_of_map <- is_of_request && end$maps < length(names) # `maps` counts complete maps
-    source <- if (is_of_map) names[[end$maps + 1]] else "script"
-    refuse(end$text, source, status = status, class = kind)
+  line <- as.integer(end$line)
+  is_of_map <- is_of_request || (end$source == 0 && !length(lines)) # without a script
+  if (is_of_map && end$maps < length(names)) { # `maps` counts complete maps
+    refuse(end$text, names[[end$maps + 1]], line, status, class = kind)
+  }
+  if (is_of_request || !(line %in% seq_along(lines))) {
+    refuse(end$text, "script", status = status, class = kind)
   }
   content <- sub("\r$", "", lines[[line]], useBytes = TRUE)
   Encoding(content) <- "UTF-8"

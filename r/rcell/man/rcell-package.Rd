@@ -17,7 +17,7 @@ A map is one of the following:
 \itemize{
 \item a \code{SpatRaster} with one layer, in memory or in a file;
 \item the path or the URL of a raster that terra can open, including \code{/vsi} paths;
-\item the path of an rcell grid, which is read with the program rcell;
+\item the path of an rcell grid;
 \item a numeric matrix. The sides of its cells are 1, its bottom left corner is at 0, 0, and it has no coordinate
 reference system. For areas, state a system with \code{crs}.
 }

@@ -14,9 +14,7 @@ The package uses the first program that it finds in the following places:
 \item this package;
 \item the search path.
 }
-Before the program is used for the first time, it is tested on three cells. rcell grids are read with the program
-\command{rcell}. The package looks for it in \code{RCELL}, next to \command{rcell-pipe}, in this package and on the
-search path.
+Before the program is used for the first time, it is tested on three cells.
 }
 \value{
 A list with the elements \code{path} and \code{version}. The version is known only for the program in this package;

@@ -126,7 +126,7 @@ expect_true(grepl("^east must have at most ten digits", refusal(counts(rast(matr
 expect_true(grepl("^east must exceed west", refusal(counts(rast(matrix(1), extent = ext(0, 1e-9, 0, 1), crs = "EPSG:32632")))$text))
 expect_inherits(refusal(counts(rast(nrows = 1, ncols = 65536, vals = 1))), "rcell_bad_map")
 
-# rcell grids are passed to rcell unchanged.
+# rcell grids are passed to the program unchanged.
 writeLines(c("north: 3", "south: 0", "east: 2.000000001", "west: 0", "rows: 1", "cols: 2", "1 *"), file("bad.txt"))
 expect_identical(refusal(counts(file("bad.txt")))[c("source", "line", "text")], list(source = "x", line = 3L, text = "bad number"))
 writeLines(c("north: 3", "south: 0", "east: 2", "west: 0", "rows: 1", "cols: 2", "1 *"), file("good.txt"))
@@ -134,6 +134,46 @@ expect_identical(counts(file("good.txt")), data.frame(x = c(1L, NA), cells = c(1
 expect_identical(rcell_patches(file("good.txt"))$class, 1L)
 expect_identical(as.vector(ext(rcell_grid("", "x", x = file("good.txt")))), c(xmin = 0, xmax = 2, ymin = 0, ymax = 3))
 expect_identical(refusal(rcell_table("r.stats input=x,y", x = file("good.txt"), y = matrix(1, 1, 2)))$name, "y")
+grid <- function(text) {
+  cat(text, file = file("grid.txt"))
+  file("grid.txt")
+}
+head <- "north: 1.50\nsouth: -.5\neast: +3.\nwest: 000\nrows: 1\ncols: 03\n"
+ways <- list(
+  paste0(head, "7 * 254\n"), paste0(head, "7\n*\n255"), paste0(head, "type: int\nnull: no\n7 no +12"),
+  gsub("\n", "\r\n", paste0(head, "7 * 12\n")), paste0("\n \nmultiplier: -2\n", gsub(": ", ":", head), "\t7  *\r\n -2147")
+)
+for (place in seq_along(ways)) {
+  last <- list(254L, 255L, 12L, 12L, 4294L)[[place]]
+  found <- rcell_grid("", "x", x = grid(ways[[place]]))
+  expect_identical(as.integer(terra::values(found)), c(if (place == 5L) -14L else 7L, NA, last))
+  expect_identical(as.vector(ext(found)), c(xmin = 0, xmax = 3, ymin = -0.5, ymax = 1.5))
+}
+expect_identical(rcell_composition(grid(ways[[1]]), labels = c("7" = "wood", "254" = "moor"), area = NULL)$label, c("wood", "moor"))
+bad <- list(
+  list("north: 3\nsouth: x\n1 2", 2L, "bad number"), list("north: 1\n", 2L, "missing key"),
+  list(sub("03", "70000", head), 7L, "bad region"), list(sub("1.50", "-1", head), 7L, "bad region"),
+  list(sub("1.50", "1e5", head), 1L, "bad number"), list(paste0(head, "type: float\n1 2 3"), 7L, "type not supported"),
+  list(paste0(head, "1 x 3"), 7L, "bad cell"), list(paste0(head, "1\n\n2147483648"), 9L, "cell out of range"),
+  list(paste0(head, "1 2\n"), 8L, "too few cells"), list(paste0(head, "1 2 3\n4 \xe4"), 8L, "too many cells")
+)
+for (each in bad) {
+  found <- refusal(counts(grid(each[[1]])))
+  expect_identical(found[c("source", "line", "text", "status")], list(source = "x", line = each[[2]], text = each[[3]], status = 1L))
+}
+expect_inherits(refusal(counts(grid(""))), "rcell_read_failed")
+cells <- matrix(seq_len(65535 * 3) %% 300, ncol = 3)
+many <- c("north: 65535", "south: 0", "east: 3", "west: 0", "rows: 65535", "cols: 3")
+writeLines(c(many, apply(cells, 1, paste, collapse = " ")), file("grid.txt"))
+expect_equal(terra::as.matrix(rcell_grid("", "x", x = file("grid.txt")), wide = TRUE), cells, check.attributes = FALSE)
+
+# A file that is shortened while it is read is an error, and so is a grid with another header.
+own <- asNamespace("rcell")
+path <- grid(ways[[1]])
+shorten <- function(bytes) cat("north", file = path)
+shortened <- refusal(own$write_text(shorten, "x", path))
+expect_inherits(shortened, "rcell_read_failed")
+expect_true(grepl("was shortened from 68 to 5 bytes while it was read$", shortened$text))
 
 unlink(room, recursive = TRUE)
 expect_identical(leftovers(), character())

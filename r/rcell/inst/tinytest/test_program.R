@@ -80,6 +80,14 @@ found <- refusal_by(memory, rcell_run("r.stats input=lc", lc = lc))
 expect_identical(found[c("source", "line", "text", "status")], list(source = "script", line = 1L, text = "no memory", status = 3L))
 expect_inherits(found, "rcell_out_of_memory")
 
+# A grid for which memory runs out is named.
+header <- c("north: 3", "south: 0", "east: 2", "west: 0", "rows: 3000", "cols: 3000")
+writeLines(c(header, rep(strrep("7 ", 3000), 3000)), file.path(room, "large.txt"))
+limited <- script("limited", c(sprintf("ulimit -v 30000; exec '%s' < /dev/stdin", mine)))
+found <- refusal_by(limited, rcell_run("r.stats input=g", g = file.path(room, "large.txt")))
+expect_identical(found[c("source", "line", "text", "status")], list(source = "g", line = 0L, text = "no memory", status = 3L))
+expect_inherits(found, "rcell_out_of_memory")
+
 # If Python is available, the message ends with a suggested correction.
 advisor <- script("advisor", "printf '0\\nr.stats input=%s' \"$9\"")
 before <- options(rcell.python = advisor)
