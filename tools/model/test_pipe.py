@@ -532,7 +532,10 @@ def few_maps() -> tuple[list[Raster], bytes]:
     )
     script = b"r.mapcalc b = land + 1\nr.clump input=b output=k\nr.stats -cl input=land,k\nr.stats -1 input=land\n"
     script += b"r.stats -1nl input=land,k\nr.out.ascii input=b\n"
-    return [land, replace(land, name=b"zone", type=4)], script
+    town = Raster(
+        b"town", land.edges, TEXT_GRID, [[1, NULL, 2], [2, 700, 1]], NULL, labels=land.labels
+    )
+    return [land, replace(land, name=b"zone", type=4), town], script
 
 
 def wrong_growths(programs: Programs, shim: str) -> str:
