@@ -1,16 +1,10 @@
-pub mod TileLemmas
-pub mod SideLemmas
 pub mod RunNumberLemmas
-pub mod NumberingLemmas
 pub mod SumLemmas
 pub mod CountLemmas
 pub mod TableSumLemmas
 pub mod GroupLemmas
 pub mod PatchSumLemmas
-pub mod BorderLemmas
-pub mod BorderFrameLemmas
 pub mod TableLemmas
 pub mod EndLemmas
-pub mod PatchLemmas
 pub mod RunSumLemmas
 pub mod FrameSumLemmas

@@ -18,7 +18,7 @@ use Rattle.rcell_pipe_join.specs.declared.join_request.JoinKind.{JoinKind}
 use Rattle.rcell_pipe_join.specs.declared.join_request.JoinKind.TheVariants.{Borders, Patches, PatchTables, Tables}
 use Rattle.rcell_pipe_join.specs.declared.join_request.JoinRequest.{JoinRequest}
 use Rattle.rcell_pipe_join.specs.declared.join_request.JoinRequest.TheVariants as join_requests
-use Rattle.rcell_pipe_join.specs.BorderGrids.{tile_grid_reading, borders_as_values}
+use Rattle.rcell_pipe_borders.specs.BorderGrids.{tile_grid_reading, borders_as_values}
 use Rattle.rcell_pipe_join.specs.PatchLists.{patches_to_join_reading}
 use Rattle.rcell_pipe_join.specs.PatchTables.{TileTable, patch_tables_as_values, patch_tables_reading}
 use Rattle.rcell_pipe_join.specs.TableEntries.{map_count_and_tables_reading, tables_as_values}

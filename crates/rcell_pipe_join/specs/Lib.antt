@@ -1,8 +1,4 @@
 -- Join requests and their responses.
-pub mod BorderChecks
-pub mod BorderGrids
-pub mod BorderLaw
-pub mod BorderFrameLaw
 pub mod TableEntries
 pub mod PatchLists
 pub mod PatchTables

@@ -12,7 +12,7 @@ use Rattle.rcell_pipe_request.specs.declared.error.ErrorKind.TheVariants as kind
 use Rattle.rcell_pipe_request.specs.RequestFields.{RequestFieldReading, PositionedReading, result_with_error_position}
 use Rattle.rcell_pipe_request.specs.RequestFields.{unsigned_number_reading, end_of_request_reading}
 use Rattle.rcell_pipe_request.specs.RequestFields.{reading_repeated_n_times}
-use Rattle.rcell_pipe_join.specs.BorderGrids.{four_byte_cells_reading}
+use Rattle.rcell_pipe_borders.specs.BorderGrids.{four_byte_cells_reading}
 
 -- the number of cells that a table counts
 abbrev pub cell_count_of_table : CombinationCounts → ℕ

@@ -7,13 +7,12 @@ ghost use Rattle.rcell_pipe_request.specs.RequestFields.{reading_repeated_n_time
 ghost use Rattle.rcell_pipe_request.specs.Feeds.{ReadsRequestFieldAndStaysOpen, ReadsToEndWithErrorPosition};
 ghost use Rattle.rcell_pipe_join.specs.PatchLists.{error_kind_of_part_fault, first_and_last_line_reading, next_tile_patch_reading, parts_with_next_part_reading, patch_counts_reading, patch_measures_reading, patch_numbers_reading, patch_parts_reading, patches_to_join_reading};
 
-use crate::border_fields::cell_of_four_byte_number;
 use crate::patch_runs::read_patch_numbering;
-use crate::table_reading::read_u64;
 use cell_join_patches::part::PatchOfTile;
 use cell_join_patches::patch_joiner::{PartFault, PartStop, PatchJoiner};
 use cell_join_patches::patch_numbering::PatchNumbering;
 use cell_patches::patch::Patch;
+use rcell_pipe_borders::border_fields::{cell_of_four_byte_number, read_u64};
 use rcell_pipe_request::error::{ErrorKind, FieldReadingStop, RequestStop};
 use rcell_pipe_request::feed::{Feed, check_request_ends, read_i32};
 use std::alloc::Global;

@@ -5,9 +5,9 @@ ghost use Rattle.rcell_pipe_request.specs.RequestFields.{reading_repeated_n_time
 ghost use Rattle.rcell_pipe_request.specs.Feeds.{ReadsRequestFieldAndStaysOpen};
 ghost use Rattle.rcell_pipe_join.specs.PatchLists.{patch_number_run_reading, patch_numbering_reading, runs_with_next_run_reading};
 
-use crate::table_reading::read_u64;
 use cell_join_numbers::stretch::ConsecutiveClumps;
 use cell_join_patches::patch_numbering::{NumberingFault, PatchNumbering};
+use rcell_pipe_borders::border_fields::read_u64;
 use rcell_pipe_request::error::{ErrorKind, FieldReadingStop};
 use rcell_pipe_request::feed::Feed;
 use std::alloc::Global;

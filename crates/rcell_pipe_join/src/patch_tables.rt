@@ -9,10 +9,11 @@ ghost use Rattle.rcell_pipe_join.specs.PatchTables.{cell_count_of_tile_table, fi
 ghost use Rattle.rcell_pipe_join.specs.parts.TableCounts.{NoCountOfTileTableIsZero};
 
 use crate::patch_runs::read_patch_numbering;
-use crate::table_reading::{EntriesOfTable, read_maps_per_table, read_table, read_u64};
+use crate::table_reading::{EntriesOfTable, read_maps_per_table, read_table};
 use cell_core::cell::Cell;
 use cell_join_patches::patch_numbering::PatchNumbering;
 use cell_stats_combinations::combination::Combo;
+use rcell_pipe_borders::border_fields::read_u64;
 use rcell_pipe_request::error::{ErrorKind, FieldReadingStop, RequestStop};
 use rcell_pipe_request::feed::{Feed, check_request_ends, read_u32};
 use std::alloc::Global;

@@ -1,17 +1,16 @@
 //! Reads tables.
 
 ghost use Rattle.std.specs.Prelude.{◌≡◌, ◌+◌, ◌<◌, ◌≤◌, ◌^◌, [], All, IfNone, IfOk, IfSome, OnOk, length, sum, sum_by};
-ghost use Rattle.std.specs.Int.{w64};
 ghost use Rattle.cell_stats_combinations.specs.Listed.{NoEntryCountIsZero};
-ghost use Rattle.rcell_pipe_request.specs.RequestFields.{unsigned_number_reading, reading_repeated_n_times};
+ghost use Rattle.rcell_pipe_request.specs.RequestFields.{reading_repeated_n_times};
 ghost use Rattle.rcell_pipe_request.specs.Feeds.{ReadsRequestFieldAndStaysOpen, ReadsWithErrorPosition, ReadsToEndWithErrorPosition};
 ghost use Rattle.rcell_pipe_join.specs.TableEntries.{cell_count_of_table, counts_below_cell_limit_reading, counts_with_next_count_reading, entries_with_next_entry_reading, tables_with_next_table_reading, one_table_reading, table_count_reading, tables_as_values, map_count_and_tables_reading, maps_per_table_reading};
 ghost use Rattle.rcell_pipe_join.specs.parts.TableCounts.{EntryCountsAreFirstCounts, entry_counts};
 
-use crate::border_fields::read_four_byte_cells;
 use cell_stats_combinations::combination::Combo;
+use rcell_pipe_borders::border_fields::{read_four_byte_cells, read_u64};
 use rcell_pipe_request::error::{ErrorKind, FieldReadingStop, RequestStop};
-use rcell_pipe_request::feed::{Feed, check_request_ends, read_bytes_into, read_u8, read_u32};
+use rcell_pipe_request::feed::{Feed, check_request_ends, read_u8, read_u32};
 use std::alloc::Global;
 use std::io::Read;
 
@@ -28,17 +27,6 @@ pub struct Tables {
     pub width: u8,
     /// The entries of each table.
     pub tables: Vec<EntriesOfTable>,
-}
-
-/// Reads an unsigned 64-bit number.
-#[tactic(auto, unfolding(rcell_pipe_request::specs::RequestFields::unsigned_number_reading))]
-pub(crate) fn read_u64<R: Read>(feed: &mut Feed<R>) -> Result<u64, FieldReadingStop>
-    ensures { ReadsRequestFieldAndStaysOpen (λ n. n) feed.old result feed.new
-        (unsigned_number_reading w64) }
-{
-    let mut bytes = [0u8; 8];
-    read_bytes_into(feed, &mut bytes)?;
-    Ok(u64::from_le_bytes(bytes))
 }
 
 // Reads one more count.

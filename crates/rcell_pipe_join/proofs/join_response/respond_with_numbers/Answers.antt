@@ -2,7 +2,7 @@ use Rattle.std.proofs.Common.{◌≡◌, [], Ok, None, Some, refl}
 use Rattle.rcell_pipe_response.specs.declared.end.PipeError.TheVariants as errors
 use Rattle.rcell_pipe_response.specs.RunEnds.{memory_end, end_frame_as_value}
 use Rattle.rcell_pipe_response.proofs.EndLemmas.{ends_as, finished_frames}
-use Rattle.rcell_pipe_join.specs.BorderGrids.{borders_as_values}
+use Rattle.rcell_pipe_borders.specs.BorderGrids.{borders_as_values}
 use Rattle.rcell_pipe_join.specs.JoinEnds.{IsJoinResponse}
 use Rattle.rcell_pipe_join.specs.JoinRequests.{BorderGrid}
 use Rattle.rcell_pipe_join.proofs.join_response.respond_with_numbers.Goals as goal

@@ -2,7 +2,7 @@ use Rattle.std.proofs.Common.{sym, subst}
 use Rattle.rcell_pipe_join.specs.PatchTables.{patch_tables_as_values}
 use Rattle.rcell_pipe_join.specs.parts.TableCounts.{AreListedSumsOfGroups, AreListedSumsOfPatchTables, CanBeSummed}
 use Rattle.rcell_pipe_join.proofs.GroupLemmas.{listed-sums, number-can-be-summed}
-use Rattle.rcell_pipe_join.proofs.NumberingLemmas.{if-ok}
+use Rattle.rcell_pipe_borders.proofs.NumberingLemmas.{if-ok}
 use Rattle.rcell_pipe_join.proofs.patch_sums.sum_patch_tables.Goals as goal
 
 pub sums_of_groups-requires : goal.sums_of_groups-requires

@@ -1,5 +1,0 @@
-use Rattle.rcell_pipe_join.proofs.BorderFrameLemmas.{tiles-read}
-use Rattle.rcell_pipe_join.proofs.border_law.border_frames_are_tiles_of_join_requests.Goals as goal
-
-pub returns : goal.returns
-returns c = tiles-read

@@ -1,5 +1,0 @@
-use Rattle.rcell_pipe_join.proofs.BorderLemmas.{borders-pass}
-use Rattle.rcell_pipe_join.proofs.border_law.borders_of_tiles_are_valid.Goals as goal
-
-pub returns : goal.returns
-returns c = borders-pass
