@@ -1,5 +1,5 @@
--- The responses to the requests of tiles join into the response to the request of the full maps.
-use Rattle.std.proofs.Common.{◌≡◌, ◌∙◌, ◌+◌, ℕ, zero, suc, List, [], ◌∷◌, map, length, Option, Some, None}
+-- The responses to the requests of tiles join into the frames of the full maps.
+use Rattle.std.proofs.Common.{◌≡◌, ◌∙◌, ◌+◌, ℕ, zero, suc, List, [], ◌∷◌, ◌++◌, map, length, Option, Some, None}
 use Rattle.std.proofs.Common.{Result, Ok, Err, refl, sym, ap, subst}
 use Rattle.std.specs.Prelude.{All, slice_get}
 use Rattle.std.specs.List.{AllZip}
@@ -32,9 +32,9 @@ use Rattle.rcell_pipe_frames.specs.FrameBytes.{response_bytes}
 use Rattle.rcell_pipe_frames.specs.TileFrameLaw.{FramesJoinIntoFrame, TablesMergeIntoFrame, TileWithFrames}
 use Rattle.rcell_pipe_frames.specs.TileFrameLaw.{entries_of_frame, frames_at_index}
 use Rattle.rcell_pipe_frames.proofs.TileFrameLemmas.{AreFramesWithEnoughHalo, frames-with-enough-halo-join}
-use Rattle.rcell_pipe_response.specs.RunEnds.{AreFramesOfStatementsAndQuestions, IsResponseOfAcceptedRequest}
-use Rattle.rcell_pipe_response.specs.RunEnds.{IsResponseToRunRequest, end_frame_of_successful_run}
-use Rattle.rcell_pipe_response.specs.RunEnds.{halo_fault_of_statements}
+use Rattle.rcell_pipe_response.specs.QuestionFrames.{AreFramesForAllQuestions}
+use Rattle.rcell_pipe_response.specs.RunEnds.{IsResponseOfAcceptedRequest, IsResponseToRunRequest}
+use Rattle.rcell_pipe_response.specs.RunEnds.{end_frame_of_successful_run, halo_fault_of_statements}
 use Rattle.rcell_pipe_response.specs.declared.frame_run.ResponseForm.{ResponseForm}
 use Rattle.rcell_pipe_response.specs.declared.frame_run.ResponseForm.TheVariants.{Frames}
 use Rattle.rcell_pipe_join.specs.FrameSumLaw.{AreEntriesOfTableFrame}
@@ -44,8 +44,9 @@ use Rattle.rcell_pipe_join.specs.JoinRequests.{JoinRequestValue, TableList, join
 use Rattle.rcell_pipe_join.proofs.FrameSumLemmas.{merged-frames-add-up}
 use Rattle.rcell_plan_response.specs.Responses.{IsResponseToRequestOfForm, response_form_of_run, run_request_or_error}
 use Rattle.rcell_plan_response.specs.TileResponseLaw.{IsResponseWithFrames, IsRunWithResponse, IsSumWithResponse}
-use Rattle.rcell_plan_response.specs.TileResponseLaw.{IsTileWithResponse, TileResponsesJoinIntoFullResponse}
-use Rattle.rcell_plan_response.specs.TileResponseLaw.{TileWithResponse, tile_frames_at_index}
+use Rattle.rcell_plan_response.specs.TileResponseLaw.{IsTileWithResponse, TileResponsesJoinIntoFullFrames}
+use Rattle.rcell_plan_response.specs.TileResponseLaw.{TileResponsesJoinIntoFullResponse, TileWithResponse}
+use Rattle.rcell_plan_response.specs.TileResponseLaw.{tile_frames_at_index}
 use Rattle.rcell_plan_response.specs.declared.responding.RequestForm.{RequestForm}
 use Rattle.rcell_plan_response.specs.declared.responding.RunForm.{RunForm}
 use Rattle.rcell_plan_response.specs.declared.responding.RunForm.TheVariants.{FullMaps, Tile}
@@ -142,12 +143,15 @@ tile-named c run e =
 -- what a response without an error has
 record HasFrames (shelves : RunShelvesValue) (script response : List ℕ) : Type 0 where
   statements : List Statement
-  questions : List PatchQuestionValue
   denoted : IsScript shelves.outer.names script statements
   enough : halo_fault_of_statements shelves statements ≡ None
-  all : List OutputFrame
-  given : AreFramesOfStatementsAndQuestions shelves statements questions all
-  bytes : response ≡ response_bytes all end_frame_of_successful_run
+  frames : List OutputFrame
+  after : RunShelvesValue
+  given : StatementsGiveFrames shelves statements frames after
+  questions : List PatchQuestionValue
+  answers : List OutputFrame
+  answered : AreFramesForAllQuestions after 0 questions answers
+  bytes : response ≡ response_bytes (frames ++ answers) end_frame_of_successful_run
 
 frames-of-run : (run : RunForm) → response_form_of_run run ≡ Frames → (shelves : RunShelvesValue)
     (script : List ℕ) (request : ComingBytes) (response : List ℕ)
@@ -164,27 +168,35 @@ frames-of-run run frames shelves script request response h =
       script = found.accepted.script;
       questions = found.questions;
     } in
+    let given = found.gives.1.0 in
     subst (λ (r : RunRequestValue). HasFrames r.shelves r.script response)
     (same-read (run_request_or_error run h.rest) accepted sent found.accepted.request h.read)
     (record {
       statements = found.statements;
-      questions = found.questions;
       denoted = found.accepted.denoted;
       enough = found.accepted.enough;
-      all = found.gives.0;
-      given = found.gives.1.0;
-      bytes = found.gives.1.1;
+      frames = given.frames;
+      after = given.after;
+      given = given.given;
+      questions = found.questions;
+      answers = given.answers;
+      answered = given.answered;
+      bytes = found.gives.1.1
+          ∙ ap (λ (all : List OutputFrame). response_bytes all end_frame_of_successful_run) given.both;
     })
 
 with-frames : (shelves : RunShelvesValue) (script response : List ℕ) (h : HasFrames shelves script response)
-    → IsResponseWithFrames shelves script response h.given.frames
+    → IsResponseWithFrames shelves script response h.frames
 with-frames shelves script response h = record {
-  statements = h.statements;
-  denoted = h.denoted;
+  of_script = record {
+    statements = h.statements;
+    denoted = h.denoted;
+    after = h.after;
+    given = h.given;
+  };
   questions = h.questions;
-  all = h.all;
-  given = h.given;
-  frames_are = refl;
+  answers = h.answers;
+  of_questions = h.answered;
   bytes = h.bytes;
 }
 
@@ -220,8 +232,8 @@ module _ (one : TextDenotesAtMostOneScript) (full : ShelfValue) (script : List �
   part-of t is = record {
     place = t.place;
     given = t.given;
-    frames = (tile-frames t is).given.frames;
-    after = (tile-frames t is).given.after;
+    frames = (tile-frames t is).frames;
+    after = (tile-frames t is).after;
   }
 
   -- the tile has the statements of the full maps
@@ -242,7 +254,7 @@ module _ (one : TextDenotesAtMostOneScript) (full : ShelfValue) (script : List �
             (tile-named is.run.rest _ is.run.read)
             (subst (λ (l : List Statement). first_halo_fault t.place (length t.given.names) l ≡ None) same h.enough);
         frames = subst (λ (l : List Statement). StatementsGiveFrames (shelves_at_place t.place t.given) l
-            h.given.frames h.given.after) same h.given.given;
+            h.frames h.after) same h.given;
       }
 
   abbrev parts : (some : List TileWithResponse) → All IsTile some → List TileWithFrames
@@ -294,28 +306,24 @@ tables-of-tiles index (t ∷ tiles) [] each = absurd each
 tables-of-tiles index (t ∷ tiles) (table ∷ tables) each =
     (each.0, tables-of-tiles index tiles tables each.1)
 
-pub tile-responses-join : TextDenotesAtMostOneScript → TileResponsesJoinIntoFullResponse
-tile-responses-join one full script request response tiles h =
-    let whole = frames-of-run (FullMaps Frames) refl (shelves_of_full_maps full) script request response h.whole in
+pub tile-responses-join-into-frames : TextDenotesAtMostOneScript → TileResponsesJoinIntoFullFrames
+tile-responses-join-into-frames one full script tiles h frames whole =
     let ts = parts one full script whole.statements whole.denoted tiles h.each in
-    let given = whole.given in
-    let gives : StatementsGiveFrames (shelves_of_full_maps full) whole.statements given.frames
-    (shelves_of_full_maps given.after.outer) =
-    subst (StatementsGiveFrames (shelves_of_full_maps full) whole.statements given.frames)
-    (ap (λ (place : Option TilePlaceValue). record { outer = given.after.outer; place = place })
-    (place-stays whole.statements (shelves_of_full_maps full) given.after given.frames given.given)) given.given in
-    let joined : (index : ℕ) → FramesJoinIntoFrame (slice_get given.frames index) (frames_at_index index ts) =
-    frames-with-enough-halo-join full whole.statements given.frames given.after.outer ts gives
+    let given : StatementsGiveFrames (shelves_of_full_maps full) whole.statements frames
+    (shelves_of_full_maps whole.after.outer) =
+    subst (StatementsGiveFrames (shelves_of_full_maps full) whole.statements frames)
+    (ap (λ (place : Option TilePlaceValue). record { outer = whole.after.outer; place = place })
+    (place-stays whole.statements (shelves_of_full_maps full) whole.after frames whole.given)) whole.given in
+    let joined : (index : ℕ) → FramesJoinIntoFrame (slice_get frames index) (frames_at_index index ts) =
+    frames-with-enough-halo-join full whole.statements frames whole.after.outer ts given
     (h.can whole.statements whole.denoted)
     (parts-have-halo one full script whole.statements whole.denoted tiles h.each)
     (subst (RectanglesCoverMap full.region.rows full.region.cols)
     (same-places one full script whole.statements whole.denoted tiles h.each) h.covering) in
     record {
-      frames = given.frames;
-      whole = with-frames (shelves_of_full_maps full) script response whole;
       parts = frame-lists one full script whole.statements whole.denoted tiles h.each;
       each = each-with-frames one full script whole.statements whole.denoted tiles h.each;
-      joined = λ index. subst (FramesJoinIntoFrame (slice_get given.frames index))
+      joined = λ index. subst (FramesJoinIntoFrame (slice_get frames index))
           (same-frames one full script whole.statements whole.denoted index tiles h.each) (joined index);
       added = λ index table is width tables asked sent listed sum.
           let frame = sums-of width tables asked sent sum in
@@ -326,3 +334,9 @@ tile-responses-join one full script request response tiles h =
           (merged-frames-add-up index table.pairs ts merge tables (tables-of-tiles index ts tables listed) frame.sums
           frame.are);
     }
+
+pub tile-responses-join-into-response : TextDenotesAtMostOneScript → TileResponsesJoinIntoFullResponse
+tile-responses-join-into-response one full script tiles h request response run =
+    let whole = frames-of-run (FullMaps Frames) refl (shelves_of_full_maps full) script request response run in
+    let with = with-frames (shelves_of_full_maps full) script response whole in
+    (whole.frames, (with, tile-responses-join-into-frames one full script tiles h whole.frames with.of_script))

@@ -1,5 +1,5 @@
--- The responses to the requests of tiles, joined, are the response to the request of the full maps.
-use Rattle.std.specs.Prelude.{ℕ, ◌≡◌, List, All, map, slice_get, Option, Some, None, Ok}
+-- The responses to the requests of tiles, joined, have the frames of the full maps.
+use Rattle.std.specs.Prelude.{ℕ, ◌≡◌, ◌++◌, List, All, map, slice_get, Option, Some, None, Ok}
 use Rattle.std.specs.List.{AllZip, zip}
 use Rattle.cell_core_devices.specs.Device.{ComingBytes}
 use Rattle.cell_core.specs.Shelf.{ShelfValue}
@@ -11,10 +11,11 @@ use Rattle.rcell_tile.specs.TilePlaces.{TilePlaceValue}
 use Rattle.rcell_tile.specs.TileRunLaw.{IsShelfOfTile, shelves_at_place}
 use Rattle.rcell_tile.specs.TileRuns.{RunShelvesValue, shelves_of_full_maps}
 use Rattle.rcell_pipe_request.specs.Questions.{PatchQuestionValue}
-use Rattle.rcell_pipe_frames.specs.Frames.{OutputFrame, Table, TableFrame}
+use Rattle.rcell_pipe_frames.specs.Frames.{OutputFrame, Table, TableFrame, StatementsGiveFrames}
 use Rattle.rcell_pipe_frames.specs.FrameBytes.{response_bytes}
 use Rattle.rcell_pipe_frames.specs.TileFrameLaw.{CanBeRunInTiles, FramesJoinIntoFrame, entries_of_frame}
-use Rattle.rcell_pipe_response.specs.RunEnds.{AreFramesOfStatementsAndQuestions, end_frame_of_successful_run}
+use Rattle.rcell_pipe_response.specs.QuestionFrames.{AreFramesForAllQuestions}
+use Rattle.rcell_pipe_response.specs.RunEnds.{end_frame_of_successful_run}
 use Rattle.rcell_pipe_response.specs.declared.frame_run.ResponseForm.TheVariants.{Frames}
 use Rattle.rcell_pipe_join.specs.JoinFrames.{one_frame_response, table_sums_bytes}
 use Rattle.rcell_pipe_join.specs.JoinRequests.{TableList, join_request_or_error}
@@ -45,25 +46,28 @@ pub record IsTileWithResponse (full : ShelfValue) (script : List ℕ) (t : TileW
   pub names : t.given.names ≡ full.names
   pub run : IsRunWithResponse Tile (shelves_at_place t.place t.given) script t.request t.response
 
--- one script is run over full maps and over tiles that cover them, and all its commands can be run in tiles
-pub record AreResponsesOverTiles (full : ShelfValue) (script : List ℕ) (request : ComingBytes) (response : List ℕ)
-    (tiles : List TileWithResponse) : Type 0 where
-  pub whole : IsRunWithResponse (FullMaps Frames) (shelves_of_full_maps full) script request response
+-- the tiles cover the full maps, and all commands of the script can be run in tiles
+pub record AreTilesWithResponses (full : ShelfValue) (script : List ℕ) (tiles : List TileWithResponse) : Type 0 where
   pub can : (statements : List Statement) → IsScript full.names script statements
       → All (λ s. CanBeRunInTiles s.command) statements
   pub each : All (IsTileWithResponse full script) tiles
   pub covering : RectanglesCoverMap full.region.rows full.region.cols (map (λ t. t.place.tile) tiles)
 
--- the response consists of these frames of the script's statements, of frames of questions, and of the end
-pub record IsResponseWithFrames (shelves : RunShelvesValue) (script response : List ℕ) (frames : List OutputFrame)
-    : Type 0 where
+-- over these maps, the statements of the script produce these frames
+pub record AreFramesOfScript (shelves : RunShelvesValue) (script : List ℕ) (frames : List OutputFrame) : Type 0 where
   pub statements : List Statement
   pub denoted : IsScript shelves.outer.names script statements
+  pub after : RunShelvesValue
+  pub given : StatementsGiveFrames shelves statements frames after
+
+-- the response consists of these frames of the script, the frames of questions, and the end
+pub record IsResponseWithFrames (shelves : RunShelvesValue) (script response : List ℕ) (frames : List OutputFrame)
+    : Type 0 where
+  pub of_script : AreFramesOfScript shelves script frames
   pub questions : List PatchQuestionValue
-  pub all : List OutputFrame
-  pub given : AreFramesOfStatementsAndQuestions shelves statements questions all
-  pub frames_are : given.frames ≡ frames
-  pub bytes : response ≡ response_bytes all end_frame_of_successful_run
+  pub answers : List OutputFrame
+  pub of_questions : AreFramesForAllQuestions of_script.after 0 questions answers
+  pub bytes : response ≡ response_bytes (frames ++ answers) end_frame_of_successful_run
 
 -- the frame at this index of each tile, with the place of the tile
 abbrev pub tile_frames_at_index : ℕ → List TileWithResponse → List (List OutputFrame)
@@ -86,12 +90,10 @@ TablesAddUpToTable frames table =
     → IsSumWithResponse width tables request response
     → response ≡ one_frame_response (table_sums_bytes width table.pairs) end_frame_of_successful_run
 
--- the responses have frames: at each index, the frames of the tiles join into the full maps' frame, and their tables
--- add up to its table
-pub record ResponsesJoinIntoResponse (full : ShelfValue) (script response : List ℕ) (tiles : List TileWithResponse)
+-- the responses of the tiles have frames: at each index, they join into the full maps' frame, and their tables add up
+-- to its table
+pub record ResponsesJoinIntoFrames (script : List ℕ) (tiles : List TileWithResponse) (frames : List OutputFrame)
     : Type 0 where
-  pub frames : List OutputFrame
-  pub whole : IsResponseWithFrames (shelves_of_full_maps full) script response frames
   pub parts : List (List OutputFrame)
   pub each : AllZip (λ t part. IsResponseWithFrames (shelves_at_place t.place t.given) script t.response part) tiles
       parts
@@ -99,9 +101,18 @@ pub record ResponsesJoinIntoResponse (full : ShelfValue) (script response : List
   pub added : (index : ℕ) (table : TableFrame) → slice_get frames index ≡ Some (Table table)
       → TablesAddUpToTable (map (λ part. slice_get part index) parts) table
 
--- the responses over tiles join into the response over the full maps
+-- the responses over tiles join into the frames of full maps, also if these are too large for one request
+abbrev pub TileResponsesJoinIntoFullFrames : Type 0
+TileResponsesJoinIntoFullFrames =
+    (full : ShelfValue) (script : List ℕ) (tiles : List TileWithResponse) → AreTilesWithResponses full script tiles
+    → (frames : List OutputFrame) → AreFramesOfScript (shelves_of_full_maps full) script frames
+    → ResponsesJoinIntoFrames script tiles frames
+
+-- the responses over tiles join into the frames in the response over the full maps
 abbrev pub TileResponsesJoinIntoFullResponse : Type 0
 TileResponsesJoinIntoFullResponse =
-    (full : ShelfValue) (script : List ℕ) (request : ComingBytes) (response : List ℕ) (tiles : List TileWithResponse)
-    → AreResponsesOverTiles full script request response tiles
-    → ResponsesJoinIntoResponse full script response tiles
+    (full : ShelfValue) (script : List ℕ) (tiles : List TileWithResponse) → AreTilesWithResponses full script tiles
+    → (request : ComingBytes) (response : List ℕ)
+    → IsRunWithResponse (FullMaps Frames) (shelves_of_full_maps full) script request response
+    → (frames : List OutputFrame) × (IsResponseWithFrames (shelves_of_full_maps full) script response frames
+    × ResponsesJoinIntoFrames script tiles frames)
