@@ -125,14 +125,14 @@ guard_words <- function() {
   known_programs[[" guard"]]
 }
 
-# Run a program in a folder. It reads the file `input` there, if one is given, and writes the file
-# `out`. An interrupt ends the program and is passed on.
-execute <- function(path, folder, words = character(), input = NULL) {
-  command <- c(guard_words(), path, words)
+# Run a program in a folder, where it reads the file `request` and writes the file `out`. An
+# interrupt ends the program and is passed on.
+execute <- function(path, folder) {
+  command <- c(guard_words(), path)
   failed <- function(text) {
     missing_program("the program %s cannot be executed: %s", path, trimws(text))
   }
-  from <- if (!is.null(input)) file.path(folder, input)
+  from <- file.path(folder, "request")
   to <- file.path(folder, "out")
   start <- function() {
     process$new(
@@ -161,7 +161,7 @@ ask_pipe <- function(path, request) {
   folder <- new_folder()
   on.exit(unlink(folder, recursive = TRUE))
   write_file(file.path(folder, "request"), request)
-  ran <- execute(path, folder, input = "request")
+  ran <- execute(path, folder)
   unlink(file.path(folder, "request"))
   out <- file.path(folder, "out")
   wrong <- function() {
