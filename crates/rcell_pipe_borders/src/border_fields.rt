@@ -1,30 +1,18 @@
-//! Reads numbers and cells, and the border of a tile.
+//! Reads cells, and the border of a tile.
 
 ghost use Rattle.std.specs.Prelude.{◌≡◌, ◌+◌, ◌<◌, ◌≤◌, ◌^◌, ◌*◌, [], length, sum, OnOk, IfOk};
-ghost use Rattle.std.specs.Int.{w64};
 ghost use Rattle.cell_core_values.specs.Cell.{cell_of_stored_number};
 ghost use Rattle.cell_join_tiles.specs.Values.{value_of_tile_border, value_of_tile_side};
-ghost use Rattle.rcell_pipe_request.specs.RequestFields.{reading_repeated_n_times, unsigned_number_reading};
+ghost use Rattle.rcell_pipe_request.specs.RequestFields.{reading_repeated_n_times};
 ghost use Rattle.rcell_pipe_request.specs.Feeds.{ReadsRequestFieldAndStaysOpen};
 ghost use Rattle.rcell_pipe_borders.specs.BorderGrids.{row_patch_counts_reading, border_fields_reading, row_patch_counts_with_next_reading, cells_with_next_cell_reading, tile_side_reading, four_byte_cells_reading};
 
 use cell_core::cell::Cell;
 use cell_join_tiles::border::{TileBorder, TileSide};
 use rcell_pipe_request::error::FieldReadingStop;
-use rcell_pipe_request::feed::{Feed, read_bytes_into, read_i32, read_u32};
+use rcell_pipe_request::feed::{Feed, read_i32, read_u32};
 use std::alloc::Global;
 use std::io::Read;
-
-/// Reads an unsigned 64-bit number.
-#[tactic(auto, unfolding(rcell_pipe_request::specs::RequestFields::unsigned_number_reading))]
-pub fn read_u64<R: Read>(feed: &mut Feed<R>) -> Result<u64, FieldReadingStop>
-    ensures { ReadsRequestFieldAndStaysOpen (λ n. n) feed.old result feed.new
-        (unsigned_number_reading w64) }
-{
-    let mut bytes = [0u8; 8];
-    read_bytes_into(feed, &mut bytes)?;
-    Ok(u64::from_le_bytes(bytes))
-}
 
 /// Returns the cell that a number denotes: null for the smallest.
 pub fn cell_of_four_byte_number(number: i32) -> Cell

@@ -5,7 +5,7 @@
 //! - `numbering`: `number_patches_of_tiles` returns the numbers of the tiles' patches in the full map
 //! - specs/BorderGrids.antt: what the bytes mean; specs/BorderChecks.antt: the borders that a tile can have
 //! - `border_law`: the border of a tile is not rejected, and the border in a frame is read as a tile
-//! - `border_fields` reads one border, and numbers and cells, which other lists of join requests also have;
+//! - `border_fields` reads one border, and cells, which other lists of join requests also have;
 //!   `border_checks` finds borders of no tile
 #![tactic(auto)]
 

@@ -10,13 +10,13 @@ ghost use Rattle.rcell_pipe_borders.specs.BorderGrids.{borders_as_values, tile_a
 ghost use Rattle.rcell_pipe_borders.specs.parts.RowCounts.{TilesHaveSameRowCount};
 
 use crate::border_checks::is_valid_border;
-use crate::border_fields::{read_border_fields, read_u64};
+use crate::border_fields::read_border_fields;
 use cell_clumps::clump::Joining;
 use cell_join_tiles::border::TileBorder;
 use cell_join_tiles::tile_rows::clump_count_plus_tile_row;
 use rcell_pipe_frames::patches_frame::joining_code;
 use rcell_pipe_request::error::{ErrorKind, FieldReadingStop, RequestStop};
-use rcell_pipe_request::feed::{Feed, check_request_ends, read_u8, read_u32};
+use rcell_pipe_request::feed::{Feed, check_request_ends, read_u8, read_u32, read_u64};
 use std::alloc::Global;
 use std::io::Read;
 

@@ -12,9 +12,9 @@ use cell_join_patches::part::PatchOfTile;
 use cell_join_patches::patch_joiner::{PartFault, PartStop, PatchJoiner};
 use cell_join_patches::patch_numbering::PatchNumbering;
 use cell_patches::patch::Patch;
-use rcell_pipe_borders::border_fields::{cell_of_four_byte_number, read_u64};
+use rcell_pipe_borders::border_fields::cell_of_four_byte_number;
 use rcell_pipe_request::error::{ErrorKind, FieldReadingStop, RequestStop};
-use rcell_pipe_request::feed::{Feed, check_request_ends, read_i32};
+use rcell_pipe_request::feed::{Feed, check_request_ends, read_i32, read_u64};
 use std::alloc::Global;
 use std::io::Read;
 

@@ -7,9 +7,8 @@ ghost use Rattle.rcell_pipe_join.specs.PatchLists.{patch_number_run_reading, pat
 
 use cell_join_numbers::stretch::ConsecutiveClumps;
 use cell_join_patches::patch_numbering::{NumberingFault, PatchNumbering};
-use rcell_pipe_borders::border_fields::read_u64;
 use rcell_pipe_request::error::{ErrorKind, FieldReadingStop};
-use rcell_pipe_request::feed::Feed;
+use rcell_pipe_request::feed::{Feed, read_u64};
 use std::alloc::Global;
 use std::io::Read;
 

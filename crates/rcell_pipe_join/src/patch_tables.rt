@@ -13,9 +13,8 @@ use crate::table_reading::{EntriesOfTable, read_maps_per_table, read_table};
 use cell_core::cell::Cell;
 use cell_join_patches::patch_numbering::PatchNumbering;
 use cell_stats_combinations::combination::Combo;
-use rcell_pipe_borders::border_fields::read_u64;
 use rcell_pipe_request::error::{ErrorKind, FieldReadingStop, RequestStop};
-use rcell_pipe_request::feed::{Feed, check_request_ends, read_u32};
+use rcell_pipe_request::feed::{Feed, check_request_ends, read_u32, read_u64};
 use std::alloc::Global;
 use std::io::Read;
 

@@ -8,9 +8,9 @@ ghost use Rattle.rcell_pipe_join.specs.TableEntries.{cell_count_of_table, counts
 ghost use Rattle.rcell_pipe_join.specs.parts.TableCounts.{EntryCountsAreFirstCounts, entry_counts};
 
 use cell_stats_combinations::combination::Combo;
-use rcell_pipe_borders::border_fields::{read_four_byte_cells, read_u64};
+use rcell_pipe_borders::border_fields::read_four_byte_cells;
 use rcell_pipe_request::error::{ErrorKind, FieldReadingStop, RequestStop};
-use rcell_pipe_request::feed::{Feed, check_request_ends, read_u8, read_u32};
+use rcell_pipe_request::feed::{Feed, check_request_ends, read_u8, read_u32, read_u64};
 use std::alloc::Global;
 use std::io::Read;
 
