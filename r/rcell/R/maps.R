@@ -130,24 +130,18 @@ start_of <- function(path) {
 
 # Read an rcell grid with the program, because GDAL would read the null text `*` as 0.
 grid_source <- function(name, path) {
+  region <- region_in(start_of(path))
   text <- function(write) write_text(write, name, path)
-  grid <- list(name = "grid", region = region_in(start_of(path)), text = text)
+  grid <- list(name = "grid", region = region, text = text)
   program <- program_path()
   answer <- ask_pipe(program, run_request(list(grid), "r.out.ascii input=grid"))
   frame <- frames_of(answer, program, name, lines = character())[[1]]
-  edges <- vapply(frame$edges, decimals_of, "", USE.NAMES = FALSE)
-  rows <- nrow(frame$raster)
-  cols <- ncol(frame$raster)
-  side <- structure(as.numeric(edges), names = EDGES)
-  template <- rast(
-    nrows = rows, ncols = cols, xmin = side[["west"]], xmax = side[["east"]],
-    ymin = side[["south"]], ymax = side[["north"]], crs = ""
-  )
+  region$edges <- vapply(frame$edges, decimals_of, "", USE.NAMES = FALSE)
+  sides <- ext(rev(as.numeric(region$edges))) # west, east, south, north
   list(
-    name = name, files = normalizePath(path),
+    name = name, files = normalizePath(path), region = region, crs = "",
     cells = as.integer(values(frame$raster, mat = FALSE)),
-    region = list(edges = edges, rows = as.integer(rows), cols = as.integer(cols)), crs = "",
-    raster = template
+    raster = rast(nrows = region$rows, ncols = region$cols, extent = sides, crs = "")
   )
 }
 
@@ -164,7 +158,7 @@ region_in <- function(start) {
   is_valid <- side[[1]] > side[[2]] && side[[3]] > side[[4]] &&
     all(counts >= 1 & counts <= SIDE_LIMIT) && prod(counts) <= CELL_LIMIT
   if (!is_valid %in% TRUE) return(small_map("grid", NA)$region)
-  list(edges = edges, rows = counts[[1]], cols = counts[[2]])
+  list(edges = edges, rows = as.integer(counts[[1]]), cols = as.integer(counts[[2]]))
 }
 
 # Write the text of an rcell grid, which must keep its size while it is read.
