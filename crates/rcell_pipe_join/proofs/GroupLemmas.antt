@@ -23,7 +23,7 @@ use Rattle.cell_join_numbers.specs.declared.stretch.ConsecutiveClumps.{Consecuti
 use Rattle.rcell_pipe_join.specs.PatchTables.{TileTable}
 use Rattle.rcell_pipe_join.specs.PatchTables.{cell_count_of_tile_table, entries_of_number, entries_with_number}
 use Rattle.rcell_pipe_join.specs.PatchTables.{full_map_number_of_cell, number_cmp, others_of_number}
-use Rattle.rcell_pipe_join.specs.TableEntries.{AreSumsOfTables, cell_count_of_table}
+use Rattle.rcell_pipe_join.specs.TableEntries.{cell_count_of_table}
 use Rattle.rcell_pipe_join.specs.parts.TableCounts.{AreListedSumsOfGroups, AreSumsOfGroup, CanBeSummed, Group}
 use Rattle.rcell_pipe_join.specs.parts.TableCounts.{AreListedSumsOfPatchTables, NoCountOfTileTableIsZero}
 use Rattle.rcell_pipe_join.specs.parts.TableCounts.{entries_in_groups}

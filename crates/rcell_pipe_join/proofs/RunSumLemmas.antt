@@ -1,5 +1,5 @@
 -- The sums of the tables of runs over tiles.
-use Rattle.std.proofs.Common.{ℕ, Bool, List, [], ◌∷◌, All, map, length, ap, sym, subst}
+use Rattle.std.proofs.Common.{ℕ, Bool, List, [], ◌∷◌, All, map, length, sym, subst}
 use Rattle.std.specs.List.{AllZip}
 use Rattle.std.proofs.lemmas.List.Elements.{All-head, All-tail}
 use Rattle.cell_core.specs.Shelf.{ShelfValue}

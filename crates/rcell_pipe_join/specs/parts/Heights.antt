@@ -1,5 +1,5 @@
 -- Grids of tiles and tables that can be joined.
-use Rattle.std.specs.Prelude.{⊤, ◌<◌, ◌^◌, List, All, sum_by}
+use Rattle.std.specs.Prelude.{⊤, ◌<◌, ◌^◌, All, sum_by}
 use Rattle.cell_join_tiles.specs.Beginnings.{clump_count_of_tile_grid}
 use Rattle.cell_join_tiles.specs.JoinedBorders.{begun_clump_counts_of_grid}
 use Rattle.rcell_pipe_borders.specs.parts.RowCounts.{TilesHaveSameRowCount}

@@ -1,4 +1,4 @@
-use Rattle.std.proofs.Common.{flat_map, take_all}
+use Rattle.std.proofs.Common.{take_all}
 use Rattle.cell_core_devices.proofs.BlockLemmas.{appends_then}
 use Rattle.cell_core_devices.proofs.PieceLemmas.{flat_map-take}
 use Rattle.rcell_pipe_frames.specs.FrameBytes.{eight_bytes_of_number}

@@ -1,4 +1,4 @@
-use Rattle.std.proofs.Common.{◌≡◌, [], Ok, None, Some, refl}
+use Rattle.std.proofs.Common.{[], Ok, None, Some, refl}
 use Rattle.rcell_pipe_response.specs.declared.end.PipeError.TheVariants as errors
 use Rattle.rcell_pipe_response.specs.RunEnds.{memory_end, end_frame_as_value}
 use Rattle.rcell_pipe_response.proofs.EndLemmas.{ends_as, finished_frames}

@@ -1,4 +1,4 @@
-use Rattle.std.proofs.Common.{◌≡◌, [], Ok, None, Some, refl, ap}
+use Rattle.std.proofs.Common.{[], Ok, None, Some, refl}
 use Rattle.rcell_pipe_response.specs.declared.end.PipeError.TheVariants as errors
 use Rattle.rcell_pipe_response.specs.RunEnds.{end_frame_of_successful_run, memory_end, end_frame_as_value}
 use Rattle.rcell_pipe_response.proofs.EndLemmas.{ends_as, finished_frames}
@@ -25,8 +25,8 @@ returns-in-Ok g c =
       };
     }) (λ write. cc) c.write_patch_sums_response.ensures
 
-pub returns-in-Err : goal.returns-in-Err
-returns-in-Err g c =
+pub returns : goal.returns
+returns g c =
     let given = c.args.tables in
     ends_as (IsJoinResponse (Ok (PatchTableList given.numbering given.width
     (patch_tables_as_values given.tables.items))))

@@ -9,8 +9,8 @@ pub returns : goal.returns
 returns g c =
     let sums = c.args.sums.now in
     let frame = patch_sums_bytes c.args.width sums.numbers.items sums.entries.items in
-    let appended = (rw c.as_slice.ensures.value, c.as_slice-2.ensures.value at c.push_patch_sums.ensures).adds _ _
-    response_magic c.begin_response-block.ensures in
+    let appended = (rw c.as_slice-2.ensures.value at (rw c.as_slice.ensures.value at
+    c.push_patch_sums.ensures)).adds _ _ response_magic c.begin_response-block.ensures in
     finished_frame frame (end_frame_as_value c.end_frame_of_successful_run.result) end_frame_of_successful_run
     c.end_frame_of_successful_run.ensures
     (c.end_response_and_flush.ensures _ _ (response_magic ++ frame) appended)

@@ -1,4 +1,4 @@
-use Rattle.std.proofs.Common.{◌≡◌, ◌∙◌, ◌++◌, ◌∷◌, ℕ, [], ap, unwrap_or}
+use Rattle.std.proofs.Common.{◌∙◌, ◌++◌, ◌∷◌, [], ap, unwrap_or}
 use Rattle.std.specs.Option.{option_map}
 use Rattle.cell_stats_combinations.specs.Listed.{CombinationCounts}
 use Rattle.rcell_pipe_join.proofs.GroupLemmas.{entry-added, items-or-new}

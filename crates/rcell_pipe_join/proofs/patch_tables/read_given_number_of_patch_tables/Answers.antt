@@ -1,9 +1,8 @@
-use Rattle.std.proofs.Common.{[], length, arith}
+use Rattle.std.proofs.Common.{[], arith}
 use Rattle.rcell_pipe_request.specs.RequestFields.{reading_repeated_n_times}
 use Rattle.rcell_pipe_request.specs.Feeds.{left}
-use Rattle.rcell_pipe_join.specs.PatchTables.{cell_count_of_tile_table, patch_tables_as_values}
+use Rattle.rcell_pipe_join.specs.PatchTables.{patch_tables_as_values}
 use Rattle.rcell_pipe_join.specs.PatchTables.{patch_tables_with_next_table_reading}
-use Rattle.rcell_pipe_join.specs.parts.TableCounts.{NoCountOfTileTableIsZero}
 use Rattle.rcell_pipe_request.proofs.StepLemmas.{steps-on, steps-end, steps-done, FailsWithErrorPosition-of}
 use Rattle.rcell_pipe_join.proofs.patch_tables.read_given_number_of_patch_tables.Goals as goal
 

@@ -2,7 +2,6 @@ use Rattle.std.proofs.Common.{[], length, arith}
 use Rattle.rcell_pipe_request.specs.RequestFields.{reading_repeated_n_times}
 use Rattle.rcell_pipe_request.specs.Feeds.{left}
 use Rattle.rcell_pipe_join.specs.TableEntries.{entries_with_next_entry_reading}
-use Rattle.rcell_pipe_join.specs.parts.TableCounts.{EntryCountsAreFirstCounts}
 use Rattle.rcell_pipe_request.proofs.StepLemmas.{steps-on, steps-end, steps-done, RequestFieldReadingFails-of}
 use Rattle.rcell_pipe_join.proofs.table_reading.read_combinations_of_counts.Goals as goal
 

@@ -1,4 +1,4 @@
-use Rattle.std.proofs.Common.{◌≡◌, ◌-◌, ◌<◌, All, length, sum_by, [], true}
+use Rattle.std.proofs.Common.{◌≡◌, ◌-◌, length, [], true}
 use Rattle.cell_core_devices.specs.Device.{ComingBytes}
 use Rattle.cell_core_devices.specs.declared.source.Asked.TheVariants.{Going}
 use Rattle.rcell_pipe_request.specs.RequestFields.{reading_repeated_n_times}

@@ -1,4 +1,4 @@
-use Rattle.std.proofs.Common.{[], length, arith}
+use Rattle.std.proofs.Common.{[], arith}
 use Rattle.rcell_pipe_request.specs.RequestFields.{reading_repeated_n_times}
 use Rattle.rcell_pipe_request.specs.Feeds.{left}
 use Rattle.rcell_pipe_join.specs.TableEntries.{counts_with_next_count_reading}

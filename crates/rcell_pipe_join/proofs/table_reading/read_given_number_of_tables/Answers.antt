@@ -1,8 +1,7 @@
-use Rattle.std.proofs.Common.{[], length, arith}
+use Rattle.std.proofs.Common.{[], arith}
 use Rattle.rcell_pipe_request.specs.RequestFields.{reading_repeated_n_times}
 use Rattle.rcell_pipe_request.specs.Feeds.{left}
-use Rattle.cell_stats_combinations.specs.Listed.{NoEntryCountIsZero}
-use Rattle.rcell_pipe_join.specs.TableEntries.{cell_count_of_table, tables_with_next_table_reading, tables_as_values}
+use Rattle.rcell_pipe_join.specs.TableEntries.{tables_with_next_table_reading, tables_as_values}
 use Rattle.rcell_pipe_request.proofs.StepLemmas.{steps-on, steps-end, steps-done, FailsWithErrorPosition-of}
 use Rattle.rcell_pipe_join.proofs.table_reading.read_given_number_of_tables.Goals as goal
 
