@@ -199,7 +199,7 @@ LATE = [
     ],
 ]
 PARTS = [*EARLY, PROOFS, *LATE]
-LONGEST = ["documents", "python", "hostile", "fronts", "cases", "models", "lint"]
+LONGEST = ["fronts", "python", "r", "documents", "pipe", "cases", "hostile", "joined"]
 
 
 def counts_of(lines, status, has_counts):
