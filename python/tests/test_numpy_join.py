@@ -103,7 +103,7 @@ class Tiles(unittest.TestCase):
     def test_a_table_of_a_patch_that_is_in_no_tile(self) -> None:
         joined = join([clumped(LAND, 4)[1]], 1, 4)
         tables = [(0, np.array([[1, 5, 2]])), (0, np.array([[1, 5, 2], [3, 5, 1]]))]
-        with self.assertRaisesRegex(rcell.WrongProgram, "list 3: unknown patch"):
+        with self.assertRaisesRegex(rcell.WrongProgram, "part 3: unknown patch"):
             sum_patch_tables(joined, tables)
         self.assertEqual(sum_patch_tables(joined, tables[:1]).tolist(), [[1, 5, 2]])
         self.assertEqual(sum_patch_tables(joined, [(0, np.empty((0, 3)))]).tolist(), [])

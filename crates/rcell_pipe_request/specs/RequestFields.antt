@@ -59,8 +59,8 @@ unfoldable pub end_of_request_reading : ComingBytes → RequestFieldReading Unit
 end_of_request_reading c = if length c.bytes == 0 then (if c.fails then Err ReadFailed else Ok
     (tt, c)) else Err Trailing
 
--- a reading whose error has a position: the number of maps before it, and the number of the row, the question or the
--- line of a text grid, or 0 if it is in none of them
+-- a reading whose error has a position: the number of maps, tiles, tables or lists before it, and the number of the
+-- row, the question or the line of a text grid, or 0 if it is in none of them
 abbrev pub PositionedReading : Type 0 → Type 0
 PositionedReading X = Result (X × ComingBytes) RequestError
 

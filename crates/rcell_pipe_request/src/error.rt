@@ -31,7 +31,7 @@ pub enum ErrorKind {
     BadRegion,
     /// The type of cells is unknown.
     BadType,
-    /// The flags are unknown.
+    /// The flags are unknown, or not 0 for a text grid.
     BadFlags,
     /// The type cannot represent the nodata value, or flag 1 is not set and the value is not 0.
     BadNodata,
@@ -41,7 +41,7 @@ pub enum ErrorKind {
     BadMask,
     /// A number is neither null nor a category.
     CellRange,
-    /// The text of a grid contains an error.
+    /// A text grid contains an error.
     Grid(GridKind),
     /// The region of a text grid is not the region of the request.
     OtherRegion,
@@ -73,7 +73,7 @@ pub enum ErrorKind {
     TooManyPatches,
     /// A table has no map, or more than 16.
     BadWidth,
-    /// There is no table.
+    /// There is no table, or there are 4294967295 patch tables.
     BadTableCount,
     /// The count of an entry of a table is 0.
     ZeroCount,
@@ -93,8 +93,8 @@ pub enum ErrorKind {
     Trailing,
 }
 
-/// An error and its position: the number of maps before it, and the number of the row, the question or the line of a
-/// text grid, or 0 if it is in none of them.
+/// An error and its position: the number of maps, tiles, tables or lists before it, and the number of the row, the
+/// question or the line of a text grid, or 0 if it is in none of them.
 #[derive(Clone, Copy, Debug, PartialEq, Eq)]
 pub struct RequestError {
     pub kind: ErrorKind,

@@ -141,35 +141,35 @@ tile-named c run e =
 -- ---- the frames of a response
 
 -- what a response without an error has
-record HasFrames (shelves : RunShelvesValue) (script response : List ℕ) : Type 0 where
+record HasFrames (shelves : RunShelvesValue) (script : List ℕ) (questions : List PatchQuestionValue)
+    (response : List ℕ) : Type 0 where
   statements : List Statement
   denoted : IsScript shelves.outer.names script statements
   enough : halo_fault_of_statements shelves statements ≡ None
   frames : List OutputFrame
   after : RunShelvesValue
   given : StatementsGiveFrames shelves statements frames after
-  questions : List PatchQuestionValue
   answers : List OutputFrame
   answered : AreFramesForAllQuestions after 0 questions answers
   bytes : response ≡ response_bytes (frames ++ answers) end_frame_of_successful_run
 
 frames-of-run : (run : RunForm) → response_form_of_run run ≡ Frames → (shelves : RunShelvesValue)
-    (script : List ℕ) (request : ComingBytes) (response : List ℕ)
-    → IsRunWithResponse run shelves script request response → HasFrames shelves script response
-frames-of-run run frames shelves script request response h =
+    (script : List ℕ) (questions : List PatchQuestionValue) (request : ComingBytes) (response : List ℕ)
+    → IsRunWithResponse run shelves script questions request response → HasFrames shelves script questions response
+frames-of-run run frames shelves script questions request response h =
     let found : IsResponseOfAcceptedRequest Frames (run_request_or_error run h.rest) response =
     subst (λ (form : ResponseForm). IsResponseToRunRequest form (run_request_or_error run h.rest) response None)
     frames
     (subst (λ (form : RequestFieldReading RequestForm). IsResponseToRequestOfForm form response None) h.form h.gives)
     in
-    let sent : RunRequestValue = record { shelves = shelves; script = script; questions = h.questions } in
+    let sent : RunRequestValue = record { shelves = shelves; script = script; questions = questions } in
     let accepted : RunRequestValue = record {
       shelves = found.shelves;
       script = found.accepted.script;
       questions = found.questions;
     } in
     let given = found.gives.1.0 in
-    subst (λ (r : RunRequestValue). HasFrames r.shelves r.script response)
+    subst (λ (r : RunRequestValue). HasFrames r.shelves r.script r.questions response)
     (same-read (run_request_or_error run h.rest) accepted sent found.accepted.request h.read)
     (record {
       statements = found.statements;
@@ -178,23 +178,22 @@ frames-of-run run frames shelves script request response h =
       frames = given.frames;
       after = given.after;
       given = given.given;
-      questions = found.questions;
       answers = given.answers;
       answered = given.answered;
       bytes = found.gives.1.1
           ∙ ap (λ (all : List OutputFrame). response_bytes all end_frame_of_successful_run) given.both;
     })
 
-with-frames : (shelves : RunShelvesValue) (script response : List ℕ) (h : HasFrames shelves script response)
-    → IsResponseWithFrames shelves script response h.frames
-with-frames shelves script response h = record {
+with-frames : (shelves : RunShelvesValue) (script : List ℕ) (questions : List PatchQuestionValue)
+    (response : List ℕ) (h : HasFrames shelves script questions response)
+    → IsResponseWithFrames shelves script questions response h.frames
+with-frames shelves script questions response h = record {
   of_script = record {
     statements = h.statements;
     denoted = h.denoted;
     after = h.after;
     given = h.given;
   };
-  questions = h.questions;
   answers = h.answers;
   of_questions = h.answered;
   bytes = h.bytes;
@@ -224,9 +223,10 @@ module _ (one : TextDenotesAtMostOneScript) (full : ShelfValue) (script : List �
   abbrev IsTile : TileWithResponse → Type 0
   IsTile t = IsTileWithResponse full script t
 
-  tile-frames : (t : TileWithResponse) → IsTile t → HasFrames (shelves_at_place t.place t.given) script t.response
+  tile-frames : (t : TileWithResponse) → IsTile t
+      → HasFrames (shelves_at_place t.place t.given) script t.questions t.response
   tile-frames t is =
-      frames-of-run Tile refl (shelves_at_place t.place t.given) script t.request t.response is.run
+      frames-of-run Tile refl (shelves_at_place t.place t.given) script t.questions t.request t.response is.run
 
   abbrev part-of : (t : TileWithResponse) → IsTile t → TileWithFrames
   part-of t is = record {
@@ -286,11 +286,11 @@ module _ (one : TextDenotesAtMostOneScript) (full : ShelfValue) (script : List �
       (same-frames index some (All-tail IsTile t some each))
 
   each-with-frames : (some : List TileWithResponse) (each : All IsTile some)
-      → AllZip (λ t part. IsResponseWithFrames (shelves_at_place t.place t.given) script t.response part) some
-      (frame-lists some each)
+      → AllZip (λ t part. IsResponseWithFrames (shelves_at_place t.place t.given) script t.questions t.response part)
+      some (frame-lists some each)
   each-with-frames [] each = tt
   each-with-frames (t ∷ some) each = (
-    with-frames (shelves_at_place t.place t.given) script t.response
+    with-frames (shelves_at_place t.place t.given) script t.questions t.response
         (tile-frames t (All-head IsTile t some each)),
     each-with-frames some (All-tail IsTile t some each),
   )
@@ -336,7 +336,8 @@ tile-responses-join-into-frames one full script tiles h frames whole =
     }
 
 pub tile-responses-join-into-response : TextDenotesAtMostOneScript → TileResponsesJoinIntoFullResponse
-tile-responses-join-into-response one full script tiles h request response run =
-    let whole = frames-of-run (FullMaps Frames) refl (shelves_of_full_maps full) script request response run in
-    let with = with-frames (shelves_of_full_maps full) script response whole in
+tile-responses-join-into-response one full script tiles h questions request response run =
+    let whole =
+    frames-of-run (FullMaps Frames) refl (shelves_of_full_maps full) script questions request response run in
+    let with = with-frames (shelves_of_full_maps full) script questions response whole in
     (whole.frames, (with, tile-responses-join-into-frames one full script tiles h whole.frames with.of_script))

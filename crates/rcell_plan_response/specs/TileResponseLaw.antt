@@ -24,19 +24,20 @@ use Rattle.rcell_plan_response.specs.declared.responding.RequestForm.TheVariants
 use Rattle.rcell_plan_response.specs.declared.responding.RunForm.{RunForm}
 use Rattle.rcell_plan_response.specs.declared.responding.RunForm.TheVariants.{FullMaps, Tile}
 
--- the request's bytes ask for a run of the script over these maps, and the response to them reports no error
+-- the request's bytes ask for a run of the script over these maps and for answers to these questions, and the response
+-- to them reports no error
 pub record IsRunWithResponse (run : RunForm) (shelves : RunShelvesValue) (script : List ℕ)
-    (request : ComingBytes) (response : List ℕ) : Type 0 where
+    (questions : List PatchQuestionValue) (request : ComingBytes) (response : List ℕ) : Type 0 where
   pub rest : ComingBytes
   pub form : request_form_reading request ≡ Ok (Run run, rest)
-  pub questions : List PatchQuestionValue
   pub read : run_request_or_error run rest ≡ Ok (record { shelves = shelves; script = script; questions = questions })
   pub gives : IsResponseToRequestOfForm (request_form_reading request) response None
 
--- a tile: its place, its maps with their halo, and the bytes of its request and of the response
+-- a tile: its place, its maps with their halo, its questions, and the bytes of its request and of the response
 pub record TileWithResponse : Type 0 where
   pub place : TilePlaceValue
   pub given : ShelfValue
+  pub questions : List PatchQuestionValue
   pub request : ComingBytes
   pub response : List ℕ
 
@@ -44,7 +45,7 @@ pub record TileWithResponse : Type 0 where
 pub record IsTileWithResponse (full : ShelfValue) (script : List ℕ) (t : TileWithResponse) : Type 0 where
   pub tile : IsShelfOfTile t.place full t.given
   pub names : t.given.names ≡ full.names
-  pub run : IsRunWithResponse Tile (shelves_at_place t.place t.given) script t.request t.response
+  pub run : IsRunWithResponse Tile (shelves_at_place t.place t.given) script t.questions t.request t.response
 
 -- the tiles cover the full maps, and all commands of the script can be run in tiles
 pub record AreTilesWithResponses (full : ShelfValue) (script : List ℕ) (tiles : List TileWithResponse) : Type 0 where
@@ -60,11 +61,10 @@ pub record AreFramesOfScript (shelves : RunShelvesValue) (script : List ℕ) (fr
   pub after : RunShelvesValue
   pub given : StatementsGiveFrames shelves statements frames after
 
--- the response consists of these frames of the script, the frames of questions, and the end
-pub record IsResponseWithFrames (shelves : RunShelvesValue) (script response : List ℕ) (frames : List OutputFrame)
-    : Type 0 where
+-- the response consists of these frames of the script, the frames of the questions, and the end
+pub record IsResponseWithFrames (shelves : RunShelvesValue) (script : List ℕ) (questions : List PatchQuestionValue)
+    (response : List ℕ) (frames : List OutputFrame) : Type 0 where
   pub of_script : AreFramesOfScript shelves script frames
-  pub questions : List PatchQuestionValue
   pub answers : List OutputFrame
   pub of_questions : AreFramesForAllQuestions of_script.after 0 questions answers
   pub bytes : response ≡ response_bytes (frames ++ answers) end_frame_of_successful_run
@@ -95,8 +95,8 @@ TablesAddUpToTable frames table =
 pub record ResponsesJoinIntoFrames (script : List ℕ) (tiles : List TileWithResponse) (frames : List OutputFrame)
     : Type 0 where
   pub parts : List (List OutputFrame)
-  pub each : AllZip (λ t part. IsResponseWithFrames (shelves_at_place t.place t.given) script t.response part) tiles
-      parts
+  pub each : AllZip (λ t part. IsResponseWithFrames (shelves_at_place t.place t.given) script t.questions t.response
+      part) tiles parts
   pub joined : (index : ℕ) → FramesJoinIntoFrame (slice_get frames index) (tile_frames_at_index index tiles parts)
   pub added : (index : ℕ) (table : TableFrame) → slice_get frames index ≡ Some (Table table)
       → TablesAddUpToTable (map (λ part. slice_get part index) parts) table
@@ -112,7 +112,7 @@ TileResponsesJoinIntoFullFrames =
 abbrev pub TileResponsesJoinIntoFullResponse : Type 0
 TileResponsesJoinIntoFullResponse =
     (full : ShelfValue) (script : List ℕ) (tiles : List TileWithResponse) → AreTilesWithResponses full script tiles
-    → (request : ComingBytes) (response : List ℕ)
-    → IsRunWithResponse (FullMaps Frames) (shelves_of_full_maps full) script request response
-    → (frames : List OutputFrame) × (IsResponseWithFrames (shelves_of_full_maps full) script response frames
+    → (questions : List PatchQuestionValue) (request : ComingBytes) (response : List ℕ)
+    → IsRunWithResponse (FullMaps Frames) (shelves_of_full_maps full) script questions request response
+    → (frames : List OutputFrame) × (IsResponseWithFrames (shelves_of_full_maps full) script questions response frames
     × ResponsesJoinIntoFrames script tiles frames)

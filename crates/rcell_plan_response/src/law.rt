@@ -4,12 +4,11 @@ ghost use Rattle.rcell_plan_response.specs.TileResponseLaw.{TileResponsesJoinInt
 
 use rcell_script::law::text_denotes_at_most_one_script;
 
-/// Consider a script without r.clump, without labels, and with complete tables. Send it with tiles that are cut out of
-/// full maps, with cells around each tile, and cover them. If no response reports an error, each grid of a tile is cut
-/// out of the full maps' grid, and the sums of the tiles' tables, as a join request returns them, are the full maps'
-/// table.
+/// Consider a script without r.clump, `-l`, `-1` and `after=`. Send it with each of the tiles that cover full maps; a
+/// tile is sent with the cells around it. If no response reports an error, each grid of a tile is cut out of the full
+/// maps' grid, and the sums of the tiles' tables, as a join request returns them, are the full maps' table.
 pub fn tile_responses_join_into_full_response()
-    // The full maps may be of any size.
+    // The full maps may be too large for one request.
     ensures frames { TileResponsesJoinIntoFullFrames }
     // If the script is also sent with the full maps, these frames are in the response.
     ensures response { TileResponsesJoinIntoFullResponse }

@@ -1,5 +1,5 @@
-//! Responses of `rcell-pipe` to requests of each form: a run, with frames or as text, or a plan. docs/pipe.md defines
-//! the bytes (profile).
+//! Responses of `rcell-pipe` to requests of each form: a run, with frames or as text, a plan, or a join.
+//! docs/pipe.md defines the bytes (profile).
 //!
 //! - `responding`: `respond` reads a request and writes its response: all that `rcell-pipe` does
 //! - `plan_request`: `read_plan_request` reads names of maps and a script, or reports the first error

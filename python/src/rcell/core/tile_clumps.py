@@ -169,7 +169,7 @@ def join_patches(joined: Joined, patches: Sequence[tuple[Integers, Integers]]) -
     rows["patch"] = np.concatenate([own for own, _ in patches])
     rows["measures"] = np.concatenate([measures for _, measures in patches])
     sent = rows.view(np.uint8).data
-    with _joining("list") as path:
+    with _joining("part") as path:
         found = protocol.join_patches(
             path, joined.runs.reshape(-1).data, rows.size, sent, watch=host().watch
         )
@@ -179,8 +179,8 @@ def join_patches(joined: Joined, patches: Sequence[tuple[Integers, Integers]]) -
 def sum_patch_tables(joined: Joined, tables: Sequence[tuple[int, Integers]]) -> Integers:
     """Add up tables of tiles by the numbers of their clumps in the full map.
 
-    By the law `patch_tables_add_up`, the sum of the tables of all tiles is the table of the full
-    map.
+    Each sum is the sum of the given rows. By the law `patch_tables_add_up`, the sum of the complete
+    tables of all tiles is the table of the full map.
 
     Parameters
     ----------
@@ -209,7 +209,7 @@ def sum_patch_tables(joined: Joined, tables: Sequence[tuple[int, Integers]]) -> 
         )
         for tile, table in tables
     ]
-    with _joining("list") as path:
+    with _joining("part") as path:
         found = protocol.sum_patch_tables(
             path, joined.runs.reshape(-1).data, maps, sent, watch=host().watch
         )
