@@ -27,6 +27,6 @@ check 'R CMD check' checked
 add 'tests within R CMD check' counted
 mkdir "$room/library"
 check 'the package is installed' R CMD INSTALL --library="$room/library" "$package"
-for program in rcell rcell-pipe; do check "$program is in the package" test -x "$room/library/rcell/bin/$program"; done
+check 'rcell-pipe is in the package' test -x "$room/library/rcell/bin/rcell-pipe"
 add 'blocks of docs/r.md' env R_LIBS="$room/library" Rscript r/check_docs.R docs/r.md
 closing
