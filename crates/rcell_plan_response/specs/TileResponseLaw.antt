@@ -24,8 +24,8 @@ use Rattle.rcell_plan_response.specs.declared.responding.RequestForm.TheVariants
 use Rattle.rcell_plan_response.specs.declared.responding.RunForm.{RunForm}
 use Rattle.rcell_plan_response.specs.declared.responding.RunForm.TheVariants.{FullMaps, Tile}
 
--- the request's bytes ask for a run of the script over these maps and for answers to these questions, and the response
--- to them reports no error
+-- the request's bytes ask for a run of the script over these maps and have these questions, and the response to them
+-- reports no error
 pub record IsRunWithResponse (run : RunForm) (shelves : RunShelvesValue) (script : List ℕ)
     (questions : List PatchQuestionValue) (request : ComingBytes) (response : List ℕ) : Type 0 where
   pub rest : ComingBytes
